@@ -1,0 +1,70 @@
+-- The names of directives, and what asks for which (Content Security Policy Level 3, sections 6.1 to 6.4,
+-- 6.8.1 and 6.8.2).
+use Rattle.std.specs.Prelude.{ℕ, List, codes}
+use Rattle.csp_model.specs.declared.name.Name.{Name}
+use Rattle.csp_model.specs.declared.name.Name.TheVariants.{ConnectSrc, FontSrc, FrameSrc, ImgSrc, ManifestSrc, MediaSrc, ObjectSrc, StyleSrcElem, ScriptSrcElem, WorkerSrc, ScriptSrcAttr, StyleSrcAttr, ScriptSrc, StyleSrc, ChildSrc, DefaultSrc, BaseUri, FormAction, FrameAncestors, Sandbox}
+use Rattle.csp_model.specs.declared.check.Group.{Group}
+use Rattle.csp_model.specs.declared.check.Group.TheVariants as group
+use Rattle.csp_model.specs.declared.check.InlineKind.{InlineKind}
+use Rattle.csp_model.specs.declared.check.InlineKind.TheVariants as kind
+use Rattle.csp_model.specs.declared.check.Capability.{Capability}
+use Rattle.csp_model.specs.declared.check.Capability.TheVariants as capability
+
+-- a name as it is written
+abbrev pub name_text : Name → List ℕ
+name_text ConnectSrc = codes "connect-src"
+name_text FontSrc = codes "font-src"
+name_text FrameSrc = codes "frame-src"
+name_text ImgSrc = codes "img-src"
+name_text ManifestSrc = codes "manifest-src"
+name_text MediaSrc = codes "media-src"
+name_text ObjectSrc = codes "object-src"
+name_text StyleSrcElem = codes "style-src-elem"
+name_text ScriptSrcElem = codes "script-src-elem"
+name_text WorkerSrc = codes "worker-src"
+name_text ScriptSrcAttr = codes "script-src-attr"
+name_text StyleSrcAttr = codes "style-src-attr"
+name_text ScriptSrc = codes "script-src"
+name_text StyleSrc = codes "style-src"
+name_text ChildSrc = codes "child-src"
+name_text DefaultSrc = codes "default-src"
+name_text BaseUri = codes "base-uri"
+name_text FormAction = codes "form-action"
+name_text FrameAncestors = codes "frame-ancestors"
+name_text Sandbox = codes "sandbox"
+
+-- the effective directive of a fetch
+abbrev pub group_directive : Group → Name
+group_directive group.Connect = ConnectSrc
+group_directive group.Font = FontSrc
+group_directive group.Frame = FrameSrc
+group_directive group.Img = ImgSrc
+group_directive group.Manifest = ManifestSrc
+group_directive group.Media = MediaSrc
+group_directive group.Object = ObjectSrc
+group_directive group.StyleElem = StyleSrcElem
+group_directive group.ScriptElem = ScriptSrcElem
+group_directive group.Worker = WorkerSrc
+
+-- the effective directive of inline code or style
+abbrev pub inline_directive : InlineKind → Name
+inline_directive kind.Script = ScriptSrcElem
+inline_directive kind.ScriptAttribute = ScriptSrcAttr
+inline_directive kind.Style = StyleSrcElem
+inline_directive kind.StyleAttribute = StyleSrcAttr
+inline_directive kind.Navigation = ScriptSrcElem
+
+-- a capability of a sandbox as it is written
+abbrev pub capability_text : Capability → List ℕ
+capability_text capability.Forms = codes "forms"
+capability_text capability.Scripts = codes "scripts"
+capability_text capability.SameOrigin = codes "same-origin"
+capability_text capability.Popups = codes "popups"
+capability_text capability.PopupsToEscapeSandbox = codes "popups-to-escape-sandbox"
+capability_text capability.TopNavigation = codes "top-navigation"
+capability_text capability.TopNavigationByUserActivation = codes "top-navigation-by-user-activation"
+capability_text capability.Modals = codes "modals"
+capability_text capability.PointerLock = codes "pointer-lock"
+capability_text capability.OrientationLock = codes "orientation-lock"
+capability_text capability.Presentation = codes "presentation"
+capability_text capability.Downloads = codes "downloads"

@@ -1,0 +1,173 @@
+//! What a policy is asked: one check of one request.
+ghost use Rattle.std.specs.Prelude.{◌≡◌};
+ghost use Rattle.csp_model.specs.Names as names;
+
+use crate::list::List;
+use crate::name::Name;
+use crate::source::Hash;
+use crate::text::Text;
+use crate::url::Url;
+
+/// The fetches that one directive governs.
+#[derive(Clone, Copy, Debug, PartialEq, Eq)]
+pub enum Group {
+    Connect,
+    Font,
+    Frame,
+    Img,
+    Manifest,
+    Media,
+    Object,
+    StyleElem,
+    ScriptElem,
+    Worker,
+}
+
+impl Group {
+    /// The effective directive of the group's fetches (Content Security Policy Level 3, section 6.8.1).
+    pub fn directive(self) -> Name
+        ensures { result ≡ names.group_directive self }
+    {
+        match self {
+            Group::Connect => Name::ConnectSrc,
+            Group::Font => Name::FontSrc,
+            Group::Frame => Name::FrameSrc,
+            Group::Img => Name::ImgSrc,
+            Group::Manifest => Name::ManifestSrc,
+            Group::Media => Name::MediaSrc,
+            Group::Object => Name::ObjectSrc,
+            Group::StyleElem => Name::StyleSrcElem,
+            Group::ScriptElem => Name::ScriptSrcElem,
+            Group::Worker => Name::WorkerSrc,
+        }
+    }
+}
+
+/// What inline code or style it is.
+#[derive(Clone, Copy, Debug, PartialEq, Eq)]
+pub enum InlineKind {
+    /// The text of a script element.
+    Script,
+    /// An event handler in an attribute.
+    ScriptAttribute,
+    /// The text of a style element.
+    Style,
+    /// The text of a style attribute.
+    StyleAttribute,
+    /// A navigation to a `javascript:` URL.
+    Navigation,
+}
+
+impl InlineKind {
+    /// The effective directive of the kind (Content Security Policy Level 3, section 6.8.2).
+    pub fn directive(self) -> Name
+        ensures { result ≡ names.inline_directive self }
+    {
+        match self {
+            InlineKind::Script | InlineKind::Navigation => Name::ScriptSrcElem,
+            InlineKind::ScriptAttribute => Name::ScriptSrcAttr,
+            InlineKind::Style => Name::StyleSrcElem,
+            InlineKind::StyleAttribute => Name::StyleSrcAttr,
+        }
+    }
+}
+
+/// What a sandbox can leave to a document (HTML Standard, section 7.1.5).
+#[derive(Clone, Copy, Debug, PartialEq, Eq)]
+pub enum Capability {
+    Forms,
+    Scripts,
+    SameOrigin,
+    Popups,
+    PopupsToEscapeSandbox,
+    TopNavigation,
+    TopNavigationByUserActivation,
+    Modals,
+    PointerLock,
+    OrientationLock,
+    Presentation,
+    Downloads,
+}
+
+impl Capability {
+    /// The capability as it is written, as `same-origin`. Its sandbox token has `allow-` before it.
+    pub fn as_str(self) -> &'static str
+        ensures { result.now ≡ names.capability_text self }
+    {
+        match self {
+            Capability::Forms => "forms",
+            Capability::Scripts => "scripts",
+            Capability::SameOrigin => "same-origin",
+            Capability::Popups => "popups",
+            Capability::PopupsToEscapeSandbox => "popups-to-escape-sandbox",
+            Capability::TopNavigation => "top-navigation",
+            Capability::TopNavigationByUserActivation => "top-navigation-by-user-activation",
+            Capability::Modals => "modals",
+            Capability::PointerLock => "pointer-lock",
+            Capability::OrientationLock => "orientation-lock",
+            Capability::Presentation => "presentation",
+            Capability::Downloads => "downloads",
+        }
+    }
+}
+
+/// The digests of a source text, or of nothing known.
+#[derive(Clone, Copy, Debug, PartialEq, Eq)]
+pub struct Digests {
+    pub sha256: [u8; 32],
+    pub sha384: [u8; 48],
+    pub sha512: [u8; 64],
+}
+
+/// A digest of one algorithm.
+#[derive(Clone, Copy, Debug, PartialEq, Eq)]
+pub enum Digest {
+    Sha256([u8; 32]),
+    Sha384([u8; 48]),
+    Sha512([u8; 64]),
+}
+
+/// One check. A request is a list of them, as a redirect chain has one for each hop.
+#[derive(Debug, PartialEq, Eq, Drop)]
+pub enum Check {
+    /// A fetch. Path matching is left out where `redirects` isn't 0.
+    Fetch {
+        group: Group,
+        url: Url,
+        redirects: u32,
+        nonce: Text,
+        integrity: List<Hash>,
+        parser_inserted: bool,
+    },
+    /// Inline code or style, known by its element's nonce and its text's digests.
+    Inline {
+        kind: InlineKind,
+        nonce: Text,
+        digests: Digests,
+    },
+    /// Compilation of a string as script.
+    Eval,
+    /// Compilation of WebAssembly.
+    Wasm,
+    /// A base URL.
+    Base {
+        url: Url,
+    },
+    /// A form submission, or a hop of one.
+    Form {
+        url: Url,
+        redirects: u32,
+    },
+    /// An ancestor's origin, as a URL with path `/`.
+    Ancestor {
+        url: Url,
+    },
+    /// An ancestor with an opaque origin.
+    OpaqueAncestor,
+    /// Something that a sandbox could take from a document.
+    Capability {
+        capability: Capability,
+    },
+    /// The start of a worker, which a sandbox could refuse.
+    WorkerStart,
+}

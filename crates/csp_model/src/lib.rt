@@ -1,0 +1,24 @@
+//! The types of Content Security Policy, and in `specs/` its definitions.
+#![tactic(auto)]
+
+mod check;
+mod copies;
+mod list;
+mod memory;
+mod name;
+mod policy;
+mod source;
+mod text;
+mod url;
+mod verdict;
+
+pub use check::{Capability, Check, Digest, Digests, Group, InlineKind};
+pub use copies::Duplicate;
+pub use list::List;
+pub use memory::Memory;
+pub use name::{Name, name_text};
+pub use policy::{Directive, Disposition, Policy, PolicyList};
+pub use source::{Algorithm, Hash, HostPart, Keyword, PathPart, PortPart, Source};
+pub use text::{Bytes, Text};
+pub use url::{Host, Origin, Scheme, Url};
+pub use verdict::{Described, Item, Verdict, Violation};
