@@ -1,3 +1,15 @@
+pub mod Ascii
+pub mod Fetch
+pub mod Governing
 pub mod Grammar
+pub mod Inclusion
+pub mod Inline
+pub mod Matching
 pub mod Names
+pub mod Navigation
+pub mod Policies
+pub mod Reading
 pub mod Schemes
+pub mod Tokens
+pub mod Validity
+pub mod Verdict

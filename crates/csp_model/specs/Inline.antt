@@ -1,0 +1,85 @@
+-- When a policy allows inline code and style, string compilation and WebAssembly (Content Security Policy Level 3,
+-- sections 4.2.3, 4.3, 6.7.3).
+use Rattle.std.specs.Prelude.{◌≡◌, ◌≢◌, ℕ, Bool, false, List, [], ◌++◌, Option, None, Some, find, Any, codes, ◌⊎◌, ⊤}
+use Rattle.std.specs.Option.{option_map}
+use Rattle.std.specs.Str.{bytes_eq}
+use Rattle.csp_model.specs.Ascii.{lower}
+use Rattle.csp_model.specs.Names.{inline_directive}
+use Rattle.csp_model.specs.Governing.{WhereGoverned}
+use Rattle.csp_model.specs.Tokens.{HasKeyword, NonceMatches, DigestsMatch}
+use Rattle.csp_model.specs.declared.name.Name.TheVariants.{ScriptSrc}
+use Rattle.csp_model.specs.declared.check.InlineKind.{InlineKind}
+use Rattle.csp_model.specs.declared.check.InlineKind.TheVariants as kind
+use Rattle.csp_model.specs.declared.check.Digests.{Digests}
+use Rattle.csp_model.specs.declared.source.Keyword.TheVariants as keyword
+use Rattle.csp_model.specs.declared.source.Source.{Source}
+use Rattle.csp_model.specs.declared.source.Source.TheVariants as source
+use Rattle.csp_model.specs.declared.policy.Policy.{Policy}
+
+-- the text of a script or a style element
+abbrev pub IsElementKind : InlineKind → Type 0
+IsElementKind kind.Script = ⊤
+IsElementKind kind.Style = ⊤
+IsElementKind other = ⊥
+
+-- code, and no style
+abbrev pub IsScriptKind : InlineKind → Type 0
+IsScriptKind kind.Style = ⊥
+IsScriptKind kind.StyleAttribute = ⊥
+IsScriptKind other = ⊤
+
+abbrev pub IsNonceOrHash : Source → Type 0
+IsNonceOrHash (source.Nonce value) = ⊤
+IsNonceOrHash (source.Digest hash) = ⊤
+IsNonceOrHash other = ⊥
+
+-- all inline of the kind is allowed (6.7.3.2): 'unsafe-inline' acts where no nonce, hash or 'strict-dynamic' takes its place
+abbrev pub AllowsAllInline : InlineKind → List Source → Type 0
+AllowsAllInline which sources = HasKeyword keyword.UnsafeInline sources × (¬ Any IsNonceOrHash sources)
+    × (IsScriptKind which → ¬ HasKeyword keyword.StrictDynamic sources)
+
+-- a hash counts for elements, and with 'unsafe-hashes' for attributes and navigations too
+abbrev pub HashCounts : InlineKind → List Source → Type 0
+HashCounts which sources = IsElementKind which ⊎ HasKeyword keyword.UnsafeHashes sources
+
+-- a governing list allows the inline source (6.7.3.3)
+abbrev pub SourcesAllowInline : InlineKind → List ℕ → Digests → List Source → Type 0
+SourcesAllowInline which nonce digests sources =
+    AllowsAllInline which sources ⊎ ((IsElementKind which × NonceMatches nonce sources) ⊎ (DigestsMatch digests sources × HashCounts which sources))
+
+-- the policy allows the inline source
+abbrev pub InlineAllows : Policy → InlineKind → List ℕ → Digests → Type 0
+InlineAllows policy which nonce digests = WhereGoverned policy (inline_directive which) (λ d. SourcesAllowInline which nonce digests d.sources)
+
+-- the policy allows string compilation (4.3)
+abbrev pub EvalAllows : Policy → Type 0
+EvalAllows policy = WhereGoverned policy ScriptSrc (λ d. HasKeyword keyword.UnsafeEval d.sources)
+
+-- the policy allows compilation of WebAssembly (4.3)
+abbrev pub WasmAllows : Policy → Type 0
+WasmAllows policy = WhereGoverned policy ScriptSrc (λ d. HasKeyword keyword.UnsafeEval d.sources ⊎ HasKeyword keyword.WasmUnsafeEval d.sources)
+
+-- Elements and their nonces (6.7.3.1)
+
+-- the text has the word in it, in letters of either case
+abbrev pub Mentions : List ℕ → List ℕ → Type 0
+Mentions word text = (front back : List ℕ) × (lower text ≡ front ++ (word ++ back))
+
+-- an attribute's name or value begins another script or style
+abbrev pub IsSuspect : (List ℕ × List ℕ) → Type 0
+IsSuspect attribute = (Mentions (codes "<script") attribute.0 ⊎ Mentions (codes "<style") attribute.0)
+    ⊎ (Mentions (codes "<script") attribute.1 ⊎ Mentions (codes "<style") attribute.1)
+
+-- the value of an element's first attribute "nonce"
+abbrev pub nonce_attribute : List (List ℕ × List ℕ) → Option (List ℕ)
+nonce_attribute attributes = option_map (λ (a : List ℕ × List ℕ). a.1) (find (λ (a : List ℕ × List ℕ). bytes_eq a.0 (codes "nonce")) attributes)
+
+-- an element of this tag, with these attributes, and with or without a duplicate one, is nonceable
+abbrev pub IsNonceable : List ℕ → List (List ℕ × List ℕ) → Bool → Type 0
+IsNonceable tag attributes duplicate = (nonce_attribute attributes ≢ None) × (duplicate ≡ false)
+    × (tag ≡ codes "script" → ¬ Any IsSuspect attributes)
+
+-- an element's nonce, which is empty where it isn't nonceable
+abbrev pub IsElementNonce : List ℕ → List (List ℕ × List ℕ) → Bool → List ℕ → Type 0
+IsElementNonce tag attributes duplicate nonce =
+    (IsNonceable tag attributes duplicate × (nonce_attribute attributes ≡ Some nonce)) ⊎ ((¬ IsNonceable tag attributes duplicate) × (nonce ≡ []))

@@ -1,0 +1,96 @@
+-- When a source expression matches a URL (Content Security Policy Level 3, section 6.7.2).
+use Rattle.std.specs.Prelude.{◌≡◌, ◌≢◌, ℕ, List, [], ◌∷◌, ◌++◌, Option, Some, None, ◌⊎◌, IsTrue, codes, Bool, Any, ⊤, unwrap_or}
+use Rattle.csp_model.specs.Schemes.{scheme_text, default_port}
+use Rattle.csp_model.specs.declared.url.Scheme.{Scheme}
+use Rattle.csp_model.specs.declared.url.Scheme.TheVariants.{Http, Https, Ws, Wss, Ftp}
+use Rattle.csp_model.specs.declared.url.Host.{Host}
+use Rattle.csp_model.specs.declared.url.Host.TheVariants as host
+use Rattle.csp_model.specs.declared.url.Origin.{Origin}
+use Rattle.csp_model.specs.declared.url.Origin.TheVariants as origin
+use Rattle.csp_model.specs.declared.url.Url.{Url}
+use Rattle.csp_model.specs.declared.url.Url.TheVariants as url
+use Rattle.csp_model.specs.declared.source.HostPart.{HostPart}
+use Rattle.csp_model.specs.declared.source.HostPart.TheVariants as host_part
+use Rattle.csp_model.specs.declared.source.PortPart.{PortPart}
+use Rattle.csp_model.specs.declared.source.PortPart.TheVariants as port_part
+use Rattle.csp_model.specs.declared.source.PathPart.{PathPart}
+use Rattle.csp_model.specs.declared.source.PathPart.TheVariants as path_part
+use Rattle.csp_model.specs.declared.source.Source.{Source}
+use Rattle.csp_model.specs.declared.source.Source.TheVariants as source
+use Rattle.csp_model.specs.declared.source.Keyword.TheVariants as keyword
+
+-- scheme-part matches (6.7.2.8): besides equal schemes, these pairs of an expression's scheme and a URL's
+abbrev pub upgrades : List (List ℕ × List ℕ)
+upgrades = (codes "http", codes "https") ∷ (codes "ws", codes "wss") ∷ (codes "ws", codes "http")
+    ∷ (codes "ws", codes "https") ∷ (codes "wss", codes "https") ∷ []
+
+abbrev pub SchemeMatches : List ℕ → List ℕ → Type 0
+SchemeMatches part scheme = (part ≡ scheme) ⊎ Any (λ (pair : List ℕ × List ℕ). (pair.0 ≡ part) × (pair.1 ≡ scheme)) upgrades
+
+abbrev pub url_scheme : Url → List ℕ
+url_scheme (url.Plain scheme) = scheme
+url_scheme (url.Hosted scheme name port path) = scheme_text scheme
+
+-- host-part matches (6.7.2.9): a suffix needs a "." and more before it, and an address matches nothing
+abbrev pub DomainMatches : HostPart → List ℕ → Type 0
+DomainMatches host_part.Any domain = ⊤
+DomainMatches (host_part.Under suffix) domain = (front : List ℕ) × (domain ≡ front ++ 46 ∷ suffix)
+DomainMatches (host_part.Exact text) domain = text ≡ domain
+
+abbrev pub HostMatches : HostPart → Host → Type 0
+HostMatches part (host.Domain domain) = DomainMatches part domain
+HostMatches part (host.Address address) = ⊥
+
+-- port-part matches (6.7.2.10)
+abbrev pub PortMatches : PortPart → Option ℕ → Scheme → Type 0
+PortMatches port_part.Absent port scheme = port ≡ None
+PortMatches port_part.Any port scheme = ⊤
+PortMatches (port_part.Number n) port scheme = unwrap_or port (default_port scheme) ≡ n
+PortMatches port_part.TooLarge port scheme = ⊥
+
+-- path-part matches (6.7.2.11): piece by piece; a path that ends in "/" is a proper prefix
+abbrev pub PathMatches : PathPart → List (List ℕ) → Type 0
+PathMatches path_part.Absent path = ⊤
+PathMatches (path_part.Exact pieces) path = pieces ≡ path
+PathMatches (path_part.Prefix pieces) path = (rest : List (List ℕ)) × (rest ≢ []) × (path ≡ pieces ++ rest)
+
+-- P of the scheme that a host-source asks for: its own, or else the origin's
+abbrev pub SchemeOrOwn : Option (List ℕ) → Origin → (List ℕ → Type 0) → Type 0
+SchemeOrOwn (Some scheme) self P = P scheme
+SchemeOrOwn None (origin.Tuple scheme name port) P = P (scheme_text scheme)
+SchemeOrOwn None origin.Opaque P = ⊥
+
+-- 'self' matches the origin's scheme, the secure ones, and ws from http
+abbrev pub SelfScheme : Scheme → Scheme → Type 0
+SelfScheme own scheme = (own ≡ scheme) ⊎ ((scheme ≡ Https) ⊎ ((scheme ≡ Wss) ⊎ ((own ≡ Http) × (scheme ≡ Ws))))
+
+-- 'self' matches (6.7.2.6, step 6)
+abbrev pub SelfMatches : Origin → Url → Type 0
+SelfMatches (origin.Tuple own name port) (url.Hosted scheme url_name url_port path) = (name ≡ url_name) × (port ≡ url_port) × SelfScheme own scheme
+SelfMatches self there = ⊥
+
+-- a host-source matches (6.7.2.6, step 5); after a redirect its path is not looked at
+abbrev pub HostSourceMatches : Option (List ℕ) → HostPart → PortPart → PathPart → Origin → Url → Bool → Type 0
+HostSourceMatches scheme name port path self (url.Plain there) redirected = ⊥
+HostSourceMatches scheme name port path self (url.Hosted there url_name url_port url_path) redirected =
+    SchemeOrOwn scheme self (λ part. SchemeMatches part (scheme_text there)) × HostMatches name url_name
+    × PortMatches port url_port there × (IsTrue redirected ⊎ PathMatches path url_path)
+
+-- "*" matches the URLs of http, https, ws and wss
+abbrev pub IsNetworkUrl : Url → Type 0
+IsNetworkUrl (url.Plain scheme) = ⊥
+IsNetworkUrl (url.Hosted scheme name port path) = scheme ≢ Ftp
+
+-- a source expression matches a URL (6.7.2.6)
+abbrev pub Matches : Source → Origin → Url → Bool → Type 0
+Matches source.Star self there redirected = IsNetworkUrl there
+Matches (source.SchemeOnly scheme) self there redirected = SchemeMatches scheme (url_scheme there)
+Matches (source.Hosted scheme name port path) self there redirected = HostSourceMatches scheme name port path self there redirected
+Matches (source.Word word) self there redirected = (word ≡ keyword.SelfOrigin) × SelfMatches self there
+Matches (source.Nonce value) self there redirected = ⊥
+Matches (source.Digest hash) self there redirected = ⊥
+Matches (source.Other token) self there redirected = ⊥
+
+-- a source list matches a URL (6.7.2.5)
+abbrev pub ListMatches : List Source → Origin → Url → Bool → Type 0
+ListMatches sources self there redirected = Any (λ s. Matches s self there redirected) sources

@@ -1,0 +1,49 @@
+-- Nonces, digests and integrity metadata (Content Security Policy Level 3, sections 6.7.2.3, 6.7.2.4 and 6.7.3.3;
+-- Subresource Integrity, section 3.3).
+use Rattle.std.specs.Prelude.{◌≡◌, ◌≢◌, ℕ, ◌==◌, if◌then◌else◌, List, [], map, All, Any, Contains}
+use Rattle.base64.specs.GeneralPurpose.{encode_of}
+use Rattle.base64.specs.Engines.{standard}
+use Rattle.csp_model.specs.declared.source.Algorithm.{Algorithm}
+use Rattle.csp_model.specs.declared.source.Algorithm.TheVariants.{Sha256, Sha384, Sha512}
+use Rattle.csp_model.specs.declared.source.Hash.{Hash}
+use Rattle.csp_model.specs.declared.source.Keyword.{Keyword}
+use Rattle.csp_model.specs.declared.source.Source.{Source}
+use Rattle.csp_model.specs.declared.source.Source.TheVariants as source
+use Rattle.csp_model.specs.declared.check.Digests.{Digests}
+
+abbrev pub HasKeyword : Keyword → List Source → Type 0
+HasKeyword word sources = Contains sources (source.Word word)
+
+-- a nonce matches a source list: it isn't empty, and a nonce-source has it
+abbrev pub NonceMatches : List ℕ → List Source → Type 0
+NonceMatches nonce sources = (nonce ≢ []) × Contains sources (source.Nonce nonce)
+
+-- integrity metadata matches a source list: it isn't empty, and each of its pairs is a hash-source
+abbrev pub IntegrityMatches : List Hash → List Source → Type 0
+IntegrityMatches integrity sources = (integrity ≢ []) × All (λ h. Contains sources (source.Digest h)) integrity
+
+-- the digest of one algorithm
+abbrev pub digest_by : Algorithm → Digests → List ℕ
+digest_by Sha256 digests = digests.sha256
+digest_by Sha384 digests = digests.sha384
+digest_by Sha512 digests = digests.sha512
+
+-- a base64-value in the standard alphabet: "-" read as "+", and "_" as "/"
+abbrev pub plain_value : List ℕ → List ℕ
+plain_value value = map (λ c. if c == 45 then 43 else if c == 95 then 47 else c) value
+
+-- a hash's value is the standard base64 of this digest
+abbrev pub StandsFor : List ℕ → List ℕ → Type 0
+StandsFor value digest = plain_value value ≡ encode_of standard digest
+
+-- a hash is one of these digests
+abbrev pub HashMatches : Hash → Digests → Type 0
+HashMatches hash digests = StandsFor hash.value (digest_by hash.algorithm digests)
+
+abbrev pub IsHashOf : Digests → Source → Type 0
+IsHashOf digests (source.Digest hash) = HashMatches hash digests
+IsHashOf digests other = ⊥
+
+-- some hash-source of the list is one of these digests
+abbrev pub DigestsMatch : Digests → List Source → Type 0
+DigestsMatch digests sources = Any (IsHashOf digests) sources
