@@ -18,15 +18,18 @@ returns-in-Some-clause-left c = λ bytes told.
 pub returns-in-Some-clause-failed : goal.returns-in-Some-clause-failed
 returns-in-Some-clause-failed c =
     let P : List (List ℕ × List ℕ) → Type 0 = λ files. Some c.in-Some.place ≡ place_of files c.args.name.now in
-    let there = contents_of-some c.args.self.now.files c.args.name.now c.in-Some.place (sym (subst P c.as_slice.ensures c.in-Some.ensures)) in
-    ( λ failed. absurd (cc),
-      λ cause. elim cause [ inl fails ↦ absurd (search (rules, c.if-not-fails.ensures.fails.1 fails)) | inr none ↦ absurd (there (search (rules, none))) ] )
+    let there = contents_of-some c.args.self.now.files c.args.name.now c.in-Some.place (sym (subst P c.as_slice.ensures c.in-Some.ensures)) in (
+      λ failed. absurd (cc),
+      λ cause. elim cause [ inl fails ↦ absurd (search (rules, c.if-not-fails.ensures.fails.1 fails)) | inr none ↦ absurd (there (search (rules, none))) ],
+    )
 
 pub returns-in_default-clause-failed : goal.returns-in_default-clause-failed
 returns-in_default-clause-failed c =
     let P : List (List ℕ × List ℕ) → Type 0 = λ files. c.place_of.result ≡ place_of files c.args.name.now in
-    let place : c.place_of.result ≡ place_of c.args.self.now.files c.args.name.now = subst P c.as_slice.ensures c.place_of.ensures in
-    ( λ _. elim c.in_default.branch [
-        in_default-via-in-Some+else-not-fails w ↦ inl (search (rules, w.if-not-fails.ensures.fails))
-      | in_default-via-in_default w ↦ inr (rw (contents_of-none c.args.self.now.files c.args.name.now (sym place ∙ w.in_default.is)) refl) ],
-      λ _. refl )
+    let place : c.place_of.result ≡ place_of c.args.self.now.files c.args.name.now = subst P c.as_slice.ensures c.place_of.ensures in (
+      λ _. elim c.in_default.branch [
+        | in_default-via-in-Some+else-not-fails w ↦ inl (search (rules, w.if-not-fails.ensures.fails))
+        | in_default-via-in_default w ↦ inr (rw (contents_of-none c.args.self.now.files c.args.name.now (sym place ∙ w.in_default.is)) refl)
+      ],
+      λ _. refl,
+    )
