@@ -8,18 +8,19 @@ use crate::inputs::{Inputs, StartError};
 use crate::sink::Failed;
 use csp_model::{Bytes, List, Text};
 
-// The current file by its place, how many of its bytes are read, and whether a contract still knows it.
-#[derive(Clone, Copy)]
+// The current file by its place, how many of its bytes are read, and whether those left are still told.
+#[derive(Clone, Copy, Debug)]
 struct Opened {
     place: usize,
     at: usize,
     told: bool,
 }
 
-/// Files in memory, each a name and its bytes, that fail at the calls they are told.
+/// Files in memory, each a name and its bytes, which fail at the calls they are told and at a name that
+/// isn't there.
 ///
-/// Their bytes are told, and one count of faults serves all names.
-#[derive(Drop)]
+/// Their bytes are told. They take no memory, and one count of faults serves all names.
+#[derive(Debug, Drop)]
 pub struct MemoryInputs {
     files: List<(Text, Bytes)>,
     piece: usize,
@@ -40,8 +41,10 @@ impl MemoryInputs {
     /// counts.
     pub fn new(files: List<(Text, Bytes)>, piece: usize, failing: List<u64>) -> MemoryInputs
         requires { 0 < piece }
-        ensures contents { (n : Items ℕ) → ⟦<MemoryInputs as Inputs>⟧.contents result n ≡ contents_of files n }
+        ensures contents { (n : Items ℕ) →
+            ⟦<MemoryInputs as Inputs>⟧.contents result n ≡ contents_of files n }
         ensures current { ⟦<MemoryInputs as Inputs>⟧.current result ≡ None }
+        ensures left { ⟦<MemoryInputs as Inputs>⟧.left result ≡ None }
         ensures given { ⟦<MemoryInputs as Inputs>⟧.given result ≡ 0 }
         ensures faults { (n : Items ℕ) → ⟦<MemoryInputs as Inputs>⟧.faults result n ≡ 0 }
         ensures piece { memory_piece result ≡ piece }
@@ -76,14 +79,18 @@ impl Inputs for MemoryInputs {
         ensures contents { (n : Items ℕ) → memory_contents self.new n ≡ memory_contents self.old n }
         ensures current { OnOk result (memory_current self.new ≡ Some name.now) }
         ensures refused { OnErr result (memory_current self.new ≡ None) }
-        ensures left { OnOk result (WhereTold (memory_contents self.old name.now) (λ bytes. memory_left self.new ≡ Some bytes)) }
+        ensures left { OnOk result (WhereTold (memory_contents self.old name.now)
+            (λ bytes. memory_left self.new ≡ Some bytes)) }
         ensures none_left { OnErr result (memory_left self.new ≡ None) }
         ensures given { memory_given self.new ≡ 0 }
         ensures later { (n : Items ℕ) → memory_faults self.old ≤ memory_faults self.new }
-        ensures cause { IsErrOf result StartError.Failed → Rose (memory_faults self.old) (memory_faults self.new) }
+        ensures cause { IsErrOf result StartError.Failed →
+            Rose (memory_faults self.old) (memory_faults self.new) }
 
         // It fails exactly at the calls it was told, and at a name that isn't there.
-        ensures failed { IsErrOf result StartError.Failed ↔ (Contains (failing_calls self.old) (next_call self.old) ⊎ IsNone (memory_contents self.old name.now)) }
+        ensures failed { IsErrOf result StartError.Failed ↔
+            (Contains (failing_calls self.old) (next_call self.old) ⊎
+            IsNone (memory_contents self.old name.now)) }
         ensures no_memory { IsErrOf result StartError.Memory → ⊥ }
         ensures no_fault { OnOk result (memory_faults self.new ≡ memory_faults self.old) }
         ensures counted { IsCounted self.old self.new }
@@ -112,18 +119,22 @@ impl Inputs for MemoryInputs {
         ensures contents { (n : Items ℕ) → memory_contents self.new n ≡ memory_contents self.old n }
         ensures current { memory_current self.new ≡ memory_current self.old }
         ensures bound { IfOk result (λ n. n ≤ length into.new) }
-        ensures takes { IfOk result (λ n. WhereTold (memory_left self.old) (λ bytes. Takes bytes (memory_left self.new) n into.new)) }
-        ensures given { IfOk result (λ n. memory_given self.new ≡ min (memory_given self.old + n) (2 ^ 64 - 1)) }
+        ensures takes { IfOk result (λ n. WhereTold (memory_left self.old)
+            (λ bytes. Takes bytes (memory_left self.new) n into.new)) }
+        ensures given { IfOk result
+            (λ n. memory_given self.new ≡ min (memory_given self.old + n) (2 ^ 64 - 1)) }
         ensures given_err { OnErr result (memory_given self.new ≡ memory_given self.old) }
         ensures untold { OnErr result (memory_left self.new ≡ None) }
         ensures stays_untold { memory_left self.old ≡ None → memory_left self.new ≡ None }
         ensures later { (n : Items ℕ) → memory_faults self.old ≤ memory_faults self.new }
-        ensures cause { OnErr result ((n : Items ℕ) → memory_current self.old ≡ Some n → Rose (memory_faults self.old) (memory_faults self.new)) }
+        ensures cause { OnErr result ((n : Items ℕ) → memory_current self.old ≡ Some n →
+            Rose (memory_faults self.old) (memory_faults self.new)) }
 
-        // It fails exactly at the calls it was told, and else gives as much as it may.
+        // It fails exactly at the calls it was told, and else gives all it may.
         ensures failed { IsErr result ↔ Contains (failing_calls self.old) (next_call self.old) }
         ensures piece { IfOk result (λ n. n ≤ memory_piece self.old) }
-        ensures most { IfOk result (λ n. WhereTold (memory_left self.old) (λ bytes. n ≡ min (min (length bytes) (memory_piece self.old)) (length into.old))) }
+        ensures most { IfOk result (λ n. WhereTold (memory_left self.old)
+            (λ bytes. n ≡ min (min (length bytes) (memory_piece self.old)) (length into.old))) }
         ensures no_fault { OnOk result (memory_faults self.new ≡ memory_faults self.old) }
         ensures counted { IsCounted self.old self.new }
     {
