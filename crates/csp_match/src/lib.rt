@@ -1,0 +1,13 @@
+//! Whether a source expression matches a URL, and which directive governs a check (Content Security
+//! Policy Level 3, sections 6.7.2, 6.8.3 and 6.8.4).
+#![tactic(auto)]
+
+mod fallback;
+mod host;
+mod path;
+mod port;
+mod scheme;
+mod source;
+
+pub use fallback::{governing, governing_directive, governing_name};
+pub use source::{list_matches, source_matches};

@@ -1,0 +1,28 @@
+//! Paths (Content Security Policy Level 3, section 6.7.2.11).
+ghost use Rattle.std.specs.Prelude.{◌≡◌, ◌≢◌, ◌↔◌, IsTrue, List, ℕ, [], ◌++◌};
+ghost use Rattle.csp_model.specs.Matching.{PathMatches};
+
+use csp_model::{Bytes, List, PathPart};
+
+// Whether a host-source's path matches a URL's, piece by piece.
+pub fn path_matches(part: &PathPart, path: &List<Bytes>) -> bool
+    ensures { IsTrue result ↔ (PathMatches part.now path.now) }
+{
+    match part {
+        PathPart::Absent => true,
+        PathPart::Exact(pieces) => same_pieces(pieces.as_slice(), path.as_slice()),
+        PathPart::Prefix(pieces) => is_proper_prefix(pieces.as_slice(), path.as_slice()),
+    }
+}
+
+fn same_pieces(left: &[Bytes], right: &[Bytes]) -> bool
+    ensures { IsTrue result ↔ (left.now ≡ right.now) }
+{
+    left == right
+}
+
+fn is_proper_prefix(front: &[Bytes], all: &[Bytes]) -> bool
+    ensures { IsTrue result ↔ ((rest : List (List ℕ)) × (rest ≢ []) × (all.now ≡ front.now ++ rest)) }
+{
+    front.len() < all.len() && all.starts_with(front)
+}

@@ -1,0 +1,17 @@
+//! Ports (Content Security Policy Level 3, section 6.7.2.10).
+ghost use Rattle.std.specs.Prelude.{◌↔◌, IsTrue};
+ghost use Rattle.csp_model.specs.Matching.{PortMatches};
+
+use csp_model::{PortPart, Scheme};
+
+// Whether a host-source's port matches a URL's, which is None where it is its scheme's default.
+pub fn port_matches(part: PortPart, port: Option<u16>, scheme: Scheme) -> bool
+    ensures { IsTrue result ↔ (PortMatches part port scheme) }
+{
+    match part {
+        PortPart::Absent => port.is_none(),
+        PortPart::Any => true,
+        PortPart::Number(number) => port.unwrap_or(scheme.default_port()) == number,
+        PortPart::TooLarge => false,
+    }
+}
