@@ -4,7 +4,10 @@ ghost use Rattle.csp_model.specs.Governing as model;
 
 use csp_model::{Directive, Name, Policy, name_text};
 
-/// The place of the directive that governs, in the policy's directives.
+/// The place, counted from 0, of the directive that governs a check which asks for `effective` (section 6.8.3).
+///
+/// It is the first directive of the first name in the fallback list of `effective` that the policy has, and no
+/// other is looked at. None comes exactly where the policy has none of these names. Such a policy allows.
 pub fn governing(policy: &Policy, effective: Name) -> Option<usize>
     ensures place { result ≡ model.governs policy.now.directives effective }
     ensures within { IfSome result (λ place. place < length policy.now.directives) }
@@ -17,7 +20,7 @@ pub fn governing(policy: &Policy, effective: Name) -> Option<usize>
     None
 }
 
-/// The name of the directive that governs.
+/// The name of the directive that `governing` finds, which is a name in the fallback list of `effective`.
 pub fn governing_name(policy: &Policy, effective: Name) -> Option<Name>
     ensures { result ≡ model.governing_name policy.now.directives effective }
 {
@@ -28,7 +31,7 @@ pub fn governing_name(policy: &Policy, effective: Name) -> Option<Name>
         .find(|name| place_of(directives, *name).is_some())
 }
 
-/// The directive that governs.
+/// The directive that `governing` finds.
 pub fn governing_directive(policy: &Policy, effective: Name) -> Option<&Directive>
     ensures { option_copied result ≡ model.governing_directive policy.now effective }
 {
@@ -38,6 +41,7 @@ pub fn governing_directive(policy: &Policy, effective: Name) -> Option<&Directiv
     }
 }
 
+// The names that may govern, the first one that the policy has before the others (section 6.8.3).
 fn fallbacks(effective: Name) -> &'static [Name]
     ensures { result.now ≡ model.fallbacks effective }
 {

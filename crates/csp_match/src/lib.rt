@@ -1,5 +1,7 @@
 //! Whether a source expression matches a URL, and which directive governs a check (Content Security
 //! Policy Level 3, sections 6.7.2, 6.8.3 and 6.8.4).
+//!
+//! No call takes memory.
 #![tactic(auto)]
 
 mod fallback;
@@ -7,6 +9,7 @@ mod host;
 mod path;
 mod port;
 mod scheme;
+mod self_source;
 mod source;
 
 pub use fallback::{governing, governing_directive, governing_name};

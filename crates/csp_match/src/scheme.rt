@@ -5,7 +5,8 @@ ghost use Rattle.csp_model.specs.Schemes.{scheme_text};
 
 use csp_model::{Origin, Scheme, Text, Url};
 
-// Whether a scheme of a source expression matches a URL's: itself, or one that is as safe.
+// Whether a source expression's scheme matches a URL's: `http` stands for https too, `ws` also for wss, http
+// and https, and `wss` also for https.
 pub fn scheme_matches(part: &str, scheme: &str) -> bool
     ensures { IsTrue result ↔ (SchemeMatches part.now scheme.now) }
 {
@@ -21,16 +22,10 @@ pub fn scheme_matches(part: &str, scheme: &str) -> bool
 pub fn own_scheme_matches(part: &Option<Text>, origin: &Origin, scheme: Scheme) -> bool
     ensures { IsTrue result ↔ (SchemeOrOwn part.now origin.now (λ asked. SchemeMatches asked (scheme_text scheme))) }
 {
-    match part {
-        Some(part) => scheme_matches(part.as_str(), scheme.as_str()),
-        None => match origin {
-            Origin::Opaque => false,
-            Origin::Tuple {
-                scheme: own,
-                host: _,
-                port: _,
-            } => scheme_matches(own.as_str(), scheme.as_str()),
-        },
+    match (part, origin) {
+        (Some(part), _) => scheme_matches(part.as_str(), scheme.as_str()),
+        (None, Origin::Tuple { scheme: own, .. }) => scheme_matches(own.as_str(), scheme.as_str()),
+        (None, Origin::Opaque) => false,
     }
 }
 
@@ -39,11 +34,6 @@ pub fn url_scheme(url: &Url) -> &str
 {
     match url {
         Url::Plain { scheme } => scheme.as_str(),
-        Url::Hosted {
-            scheme,
-            host: _,
-            port: _,
-            path: _,
-        } => scheme.as_str(),
+        Url::Hosted { scheme, .. } => scheme.as_str(),
     }
 }

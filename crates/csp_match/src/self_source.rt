@@ -1,0 +1,37 @@
+//! The keyword `'self'` (Content Security Policy Level 3, section 6.7.2.6).
+ghost use Rattle.std.specs.Prelude.{◌↔◌, IsTrue};
+ghost use Rattle.csp_model.specs.Matching.{SelfMatches, SelfScheme};
+
+use csp_model::{Origin, Scheme, Url};
+
+// Whether `'self'` matches a URL: the same host and port, and the same scheme or one that is safe to take.
+pub fn self_matches(origin: &Origin, url: &Url) -> bool
+    ensures { IsTrue result ↔ (SelfMatches origin.now url.now) }
+{
+    match (origin, url) {
+        (
+            Origin::Tuple {
+                scheme: own,
+                host,
+                port,
+            },
+            Url::Hosted {
+                scheme,
+                host: url_host,
+                port: url_port,
+                ..
+            },
+        ) => host == url_host && port == url_port && self_scheme_matches(*own, *scheme),
+        _ => false,
+    }
+}
+
+fn self_scheme_matches(own: Scheme, scheme: Scheme) -> bool
+    ensures { IsTrue result ↔ (SelfScheme own scheme) }
+{
+    match scheme {
+        Scheme::Https | Scheme::Wss => true,
+        Scheme::Ws => matches!(own, Scheme::Ws | Scheme::Http),
+        Scheme::Http | Scheme::Ftp => own == scheme,
+    }
+}
