@@ -4,7 +4,8 @@ ghost use Rattle.csp_model.specs.Governing as model;
 
 use csp_model::{Directive, Name, Policy, name_text};
 
-/// The place, counted from 0, of the directive that governs a check which asks for `effective` (section 6.8.3).
+/// The place, counted from 0, of the directive that governs a check which asks for `effective` (Content Security
+/// Policy Level 3, sections 6.8.3 and 6.8.4).
 ///
 /// It is the first directive of the first name in the fallback list of `effective` that the policy has, and no
 /// other is looked at. None comes exactly where the policy has none of these names. Such a policy allows.

@@ -1,4 +1,4 @@
-//! Hosts (Content Security Policy Level 3, section 6.7.2.9).
+//! Hosts (Content Security Policy Level 3, section 6.7.2, "host-part matches").
 ghost use Rattle.std.specs.Prelude.{◌≡◌, ◌↔◌, IsTrue, List, ℕ, ◌++◌, ◌∷◌};
 ghost use Rattle.csp_model.specs.Matching.{DomainMatches, HostMatches};
 

@@ -1,4 +1,4 @@
-//! Paths (Content Security Policy Level 3, section 6.7.2.11).
+//! Paths (Content Security Policy Level 3, section 6.7.2, "path-part matches").
 ghost use Rattle.std.specs.Prelude.{◌≡◌, ◌≢◌, ◌↔◌, IsTrue, List, ℕ, [], ◌++◌};
 ghost use Rattle.csp_model.specs.Matching.{PathMatches};
 

@@ -1,4 +1,4 @@
-//! Ports (Content Security Policy Level 3, section 6.7.2.10).
+//! Ports (Content Security Policy Level 3, section 6.7.2, "port-part matches").
 ghost use Rattle.std.specs.Prelude.{◌↔◌, IsTrue};
 ghost use Rattle.csp_model.specs.Matching.{PortMatches};
 

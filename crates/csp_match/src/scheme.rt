@@ -1,4 +1,4 @@
-//! Schemes (Content Security Policy Level 3, section 6.7.2.8).
+//! Schemes (Content Security Policy Level 3, section 6.7.2, "scheme-part matches").
 ghost use Rattle.std.specs.Prelude.{◌≡◌, ◌↔◌, IsTrue};
 ghost use Rattle.csp_model.specs.Matching.{SchemeMatches, SchemeOrOwn, url_scheme};
 ghost use Rattle.csp_model.specs.Schemes.{scheme_text};

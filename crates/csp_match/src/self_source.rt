@@ -1,4 +1,5 @@
-//! The keyword `'self'` (Content Security Policy Level 3, section 6.7.2.6).
+//! The keyword `'self'` (Content Security Policy Level 3, section 6.7.2, "Does url match expression in origin with
+//! redirect count?").
 ghost use Rattle.std.specs.Prelude.{◌↔◌, IsTrue};
 ghost use Rattle.csp_model.specs.Matching.{SelfMatches, SelfScheme};
 

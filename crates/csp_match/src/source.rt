@@ -1,4 +1,4 @@
-//! Source expressions and source lists (Content Security Policy Level 3, sections 6.7.2.5 and 6.7.2.6).
+//! Source expressions and source lists (Content Security Policy Level 3, section 6.7.2).
 ghost use Rattle.std.specs.Prelude.{◌↔◌, IsTrue};
 ghost use Rattle.csp_model.specs.Matching.{IsNetworkUrl, ListMatches, Matches};
 
@@ -9,11 +9,12 @@ use crate::scheme::{own_scheme_matches, scheme_matches, url_scheme};
 use crate::self_source::self_matches;
 use csp_model::{Keyword, List, Origin, Scheme, Source, Url};
 
-/// Whether a source expression matches a URL, in a policy of that origin (section 6.7.2.6).
+/// Whether a source expression matches a URL, in a policy of that origin (Content Security Policy Level 3,
+/// section 6.7.2, "Does url match expression in origin with redirect count?").
 ///
-/// `'self'`, and a host-source without a scheme, speak of the origin. Where the URL was reached by a redirect
-/// paths aren't compared. Nonces, hashes and all keywords but `'self'` match no URL. No text is copied, and
-/// each that is compared is read once.
+/// `'self'`, and a host-source without a scheme, speak of the origin. `redirected` says that the URL was
+/// reached by a redirect, where paths aren't compared. Nonces, hashes and all keywords but `'self'` match no
+/// URL. No text is copied, and each that is compared is read once.
 pub fn source_matches(source: &Source, origin: &Origin, url: &Url, redirected: bool) -> bool
     ensures { IsTrue result ↔ (Matches source.now origin.now url.now redirected) }
 {
@@ -44,8 +45,9 @@ pub fn source_matches(source: &Source, origin: &Origin, url: &Url, redirected: b
     }
 }
 
-/// Whether some source expression of the list matches a URL, as `source_matches` says (section 6.7.2.5). An
-/// empty list matches nothing.
+/// Whether some source expression of the list matches a URL, as `source_matches` says (Content Security
+/// Policy Level 3, section 6.7.2, "Does url match source list in origin with redirect count?"). An empty list
+/// matches nothing.
 pub fn list_matches(sources: &List<Source>, origin: &Origin, url: &Url, redirected: bool) -> bool
     ensures { IsTrue result ↔ (ListMatches sources.now origin.now url.now redirected) }
 {
