@@ -1,5 +1,5 @@
 -- When a policy allows inline code and style, string compilation and WebAssembly (Content Security Policy Level 3,
--- sections 4.2.3, 4.3, 6.7.3).
+-- sections 4.2.3, 4.3, 4.4 and 6.7.3).
 use Rattle.std.specs.Prelude.{◌≡◌, ◌≢◌, ℕ, Bool, false, List, [], ◌++◌, Option, None, Some, find, Any, codes, ◌⊎◌, ⊤}
 use Rattle.std.specs.Option.{option_map}
 use Rattle.std.specs.Str.{bytes_eq}
@@ -55,7 +55,7 @@ InlineAllows policy which nonce digests = WhereGoverned policy (inline_directive
 abbrev pub EvalAllows : Policy → Type 0
 EvalAllows policy = WhereGoverned policy ScriptSrc (λ d. HasKeyword keyword.UnsafeEval d.sources)
 
--- the policy allows compilation of WebAssembly (4.3)
+-- the policy allows compilation of WebAssembly (4.4)
 abbrev pub WasmAllows : Policy → Type 0
 WasmAllows policy = WhereGoverned policy ScriptSrc (λ d. HasKeyword keyword.UnsafeEval d.sources ⊎ HasKeyword keyword.WasmUnsafeEval d.sources)
 

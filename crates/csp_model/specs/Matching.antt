@@ -1,4 +1,5 @@
--- When a source expression matches a URL (Content Security Policy Level 3, section 6.7.2).
+-- When a source expression matches a URL (Content Security Policy Level 3, section 6.7.2, "URL Matching"; each
+-- definition bears the name of its algorithm there).
 use Rattle.std.specs.Prelude.{◌≡◌, ◌≢◌, ℕ, List, [], ◌∷◌, ◌++◌, Option, Some, None, ◌⊎◌, IsTrue, codes, Bool, Any, ⊤, unwrap_or}
 use Rattle.csp_model.specs.Schemes.{scheme_text, default_port}
 use Rattle.csp_model.specs.declared.url.Scheme.{Scheme}
@@ -19,7 +20,7 @@ use Rattle.csp_model.specs.declared.source.Source.{Source}
 use Rattle.csp_model.specs.declared.source.Source.TheVariants as source
 use Rattle.csp_model.specs.declared.source.Keyword.TheVariants as keyword
 
--- scheme-part matches (6.7.2.8): besides equal schemes, these pairs of an expression's scheme and a URL's
+-- scheme-part matches: besides equal schemes, these pairs of an expression's scheme and a URL's
 abbrev pub upgrades : List (List ℕ × List ℕ)
 upgrades = (codes "http", codes "https") ∷ (codes "ws", codes "wss") ∷ (codes "ws", codes "http")
     ∷ (codes "ws", codes "https") ∷ (codes "wss", codes "https") ∷ []
@@ -31,7 +32,7 @@ abbrev pub url_scheme : Url → List ℕ
 url_scheme (url.Plain scheme) = scheme
 url_scheme (url.Hosted scheme name port path) = scheme_text scheme
 
--- host-part matches (6.7.2.9): a suffix needs a "." and more before it, and an address matches nothing
+-- host-part matches: a suffix needs a "." before it, and an address matches nothing
 abbrev pub DomainMatches : HostPart → List ℕ → Type 0
 DomainMatches host_part.Any domain = ⊤
 DomainMatches (host_part.Under suffix) domain = (front : List ℕ) × (domain ≡ front ++ 46 ∷ suffix)
@@ -41,14 +42,14 @@ abbrev pub HostMatches : HostPart → Host → Type 0
 HostMatches part (host.Domain domain) = DomainMatches part domain
 HostMatches part (host.Address address) = ⊥
 
--- port-part matches (6.7.2.10)
+-- port-part matches
 abbrev pub PortMatches : PortPart → Option ℕ → Scheme → Type 0
 PortMatches port_part.Absent port scheme = port ≡ None
 PortMatches port_part.Any port scheme = ⊤
 PortMatches (port_part.Number n) port scheme = unwrap_or port (default_port scheme) ≡ n
 PortMatches port_part.TooLarge port scheme = ⊥
 
--- path-part matches (6.7.2.11): piece by piece; a path that ends in "/" is a proper prefix
+-- path-part matches: piece by piece; a path that ends in "/" is a proper prefix
 abbrev pub PathMatches : PathPart → List (List ℕ) → Type 0
 PathMatches path_part.Absent path = ⊤
 PathMatches (path_part.Exact pieces) path = pieces ≡ path
@@ -64,12 +65,12 @@ SchemeOrOwn None origin.Opaque P = ⊥
 abbrev pub SelfScheme : Scheme → Scheme → Type 0
 SelfScheme own scheme = (own ≡ scheme) ⊎ ((scheme ≡ Https) ⊎ ((scheme ≡ Wss) ⊎ ((own ≡ Http) × (scheme ≡ Ws))))
 
--- 'self' matches (6.7.2.6, step 6)
+-- 'self' matches
 abbrev pub SelfMatches : Origin → Url → Type 0
 SelfMatches (origin.Tuple own name port) (url.Hosted scheme url_name url_port path) = (name ≡ url_name) × (port ≡ url_port) × SelfScheme own scheme
 SelfMatches self there = ⊥
 
--- a host-source matches (6.7.2.6, step 5); after a redirect its path is not looked at
+-- a host-source matches; after a redirect its path is not looked at
 abbrev pub HostSourceMatches : Option (List ℕ) → HostPart → PortPart → PathPart → Origin → Url → Bool → Type 0
 HostSourceMatches scheme name port path self (url.Plain there) redirected = ⊥
 HostSourceMatches scheme name port path self (url.Hosted there url_name url_port url_path) redirected =
@@ -81,7 +82,7 @@ abbrev pub IsNetworkUrl : Url → Type 0
 IsNetworkUrl (url.Plain scheme) = ⊥
 IsNetworkUrl (url.Hosted scheme name port path) = scheme ≢ Ftp
 
--- a source expression matches a URL (6.7.2.6)
+-- a source expression matches a URL
 abbrev pub Matches : Source → Origin → Url → Bool → Type 0
 Matches source.Star self there redirected = IsNetworkUrl there
 Matches (source.SchemeOnly scheme) self there redirected = SchemeMatches scheme (url_scheme there)
@@ -91,6 +92,6 @@ Matches (source.Nonce value) self there redirected = ⊥
 Matches (source.Digest hash) self there redirected = ⊥
 Matches (source.Other token) self there redirected = ⊥
 
--- a source list matches a URL (6.7.2.5)
+-- a source list matches a URL
 abbrev pub ListMatches : List Source → Origin → Url → Bool → Type 0
 ListMatches sources self there redirected = Any (λ s. Matches s self there redirected) sources
