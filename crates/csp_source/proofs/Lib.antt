@@ -1,0 +1,3 @@
+mod AsciiLaws
+mod EndLaws
+mod PathLaws

@@ -1,0 +1,85 @@
+//! The host of a host-source.
+ghost use Rattle.std.specs.Prelude.{◌≡◌, ◌==◌, ◌≤◌, length, take, drop, IfOk, IsTrue};
+ghost use Rattle.std.specs.List.{list_all};
+ghost use Rattle.csp_model.specs.Ascii.{is_ascii_text, split_at};
+ghost use Rattle.csp_model.specs.Grammar.{is_label_char, is_label, is_name, host_of};
+ghost use Rattle.csp_model.specs.Reading.{front, back, is_host_char};
+
+use crate::texts::{lower_text, without_final};
+use csp_model::{HostPart, Memory};
+use std::alloc::Global;
+
+#[tactic(auto, unfolding(csp_model::specs::Grammar::is_label_char))]
+fn is_label_char(b: u8) -> bool
+    ensures { result ≡ is_label_char b }
+{
+    b.is_ascii_alphanumeric() || b == b'-'
+}
+
+fn all_label_chars(text: &[u8]) -> bool
+    ensures { result ≡ list_all is_label_char text.now }
+{
+    text.iter().all(|b| is_label_char(*b))
+}
+
+fn is_label(text: &[u8]) -> bool
+    ensures { result ≡ is_label text.now }
+{
+    !text.is_empty() && all_label_chars(text)
+}
+
+fn are_labels(text: &[u8]) -> bool
+    ensures { result ≡ list_all is_label (split_at 46 text.now) }
+{
+    text.split(|b| *b == b'.').all(|label| is_label(label))
+}
+
+#[tactic(auto, unfolding(csp_model::specs::Grammar::is_name))]
+fn is_name(text: &[u8]) -> bool
+    ensures { result ≡ is_name text.now }
+{
+    are_labels(without_final(text, b'.'))
+}
+
+#[tactic(auto, unfolding(csp_model::specs::Reading::is_host_char))]
+fn is_host_char(b: u8) -> bool
+    ensures { result ≡ is_host_char b }
+{
+    is_label_char(b) || b == b'.' || b == b'*'
+}
+
+/// How many bytes of a host the text begins with.
+pub(crate) fn host_len(text: &[u8]) -> usize
+    ensures bound { result ≤ length text.now }
+    ensures front { take result text.now ≡ front is_host_char text.now }
+    ensures back { drop result text.now ≡ back is_host_char text.now }
+{
+    for (i, b) in text.iter().enumerate() {
+        if !is_host_char(*b) {
+            return i;
+        }
+    }
+    text.len()
+}
+
+/// The host that the text is.
+#[tactic(auto, unfolding(csp_model::specs::Grammar::host_of))]
+pub(crate) fn host_of(alloc: Global, text: &[u8]) -> Result<Option<HostPart>, Memory>
+    requires { IsTrue (is_ascii_text text.now) }
+    ensures { IfOk result (λ found. found ≡ host_of text.now) }
+{
+    if text == b"*".as_slice() {
+        return Ok(Some(HostPart::Any));
+    }
+    if text.starts_with(b"*.") {
+        let (_, suffix) = text.split_at(2);
+        if is_name(suffix) {
+            return Ok(Some(HostPart::Under(lower_text(alloc, suffix)?)));
+        }
+    }
+    if is_name(text) {
+        Ok(Some(HostPart::Exact(lower_text(alloc, text)?)))
+    } else {
+        Ok(None)
+    }
+}

@@ -1,0 +1,107 @@
+//! The path of a host-source.
+ghost use Rattle.std.specs.Prelude.{◌≡◌, ◌==◌, ◌∷◌, Some, map, IfOk, IsTrue, is_some};
+ghost use Rattle.std.specs.List.{list_all};
+ghost use Rattle.percent_encoding.specs.Percent.{percent_decode};
+ghost use Rattle.csp_model.specs.Ascii.{split_at};
+ghost use Rattle.csp_model.specs.Grammar.{is_path_char, begins_hex_pair, is_segment, are_segments, pieces_of, path_of};
+
+use csp_model::{Bytes, List, Memory, PathPart};
+use percent_encoding::percent_decode;
+use std::alloc::Global;
+
+#[tactic(auto, unfolding(csp_model::specs::Grammar::is_path_char))]
+fn is_path_char(b: u8) -> bool
+    ensures { result ≡ is_path_char b }
+{
+    b.is_ascii_alphanumeric() || b"-._~!$&'()*+=:@".contains(&b)
+}
+
+fn begins_hex_pair(text: &[u8]) -> bool
+    ensures { result ≡ begins_hex_pair text.now }
+{
+    match text.split_first() {
+        None => false,
+        Some((first, rest)) => match rest.split_first() {
+            None => false,
+            Some((second, _)) => first.is_ascii_hexdigit() && second.is_ascii_hexdigit(),
+        },
+    }
+}
+
+fn is_segment(text: &[u8]) -> bool
+    ensures { result ≡ is_segment text.now }
+{
+    for (i, b) in text.iter().enumerate() {
+        if *b == b'%' {
+            if !begins_hex_pair(text.split_at(i + 1).1) {
+                return false;
+            }
+        } else if !is_path_char(*b) {
+            return false;
+        }
+    }
+    true
+}
+
+fn all_segments(text: &[u8]) -> bool
+    ensures { result ≡ list_all is_segment (split_at 47 text.now) }
+{
+    text.split(|b| *b == b'/')
+        .all(|segment| is_segment(segment))
+}
+
+/// The text behind a path's first slash is segments, of which the first is empty only where it stands alone.
+fn are_segments(text: &[u8]) -> bool
+    ensures { result ≡ are_segments (split_at 47 text.now) }
+{
+    match text.split_first() {
+        None => true,
+        Some((first, _)) => *first != b'/' && all_segments(text),
+    }
+}
+
+/// The text is no path at all, or a good one.
+#[tactic(auto, unfolding(csp_model::specs::Grammar::path_of))]
+pub(crate) fn is_path(text: &[u8]) -> bool
+    ensures { result ≡ is_some (path_of text.now) }
+{
+    match text.split_first() {
+        None => true,
+        Some((b'/', rest)) => are_segments(rest),
+        Some(_) => false,
+    }
+}
+
+fn decoded(alloc: Global, piece: &[u8]) -> Result<Bytes, Memory>
+    ensures { IfOk result (λ made. made ≡ percent_decode piece.now) }
+{
+    let mut bytes = Vec::new(alloc);
+    percent_decode(piece).append_to(&mut bytes)?;
+    Ok(Bytes::from_vec(bytes))
+}
+
+fn pieces_of(alloc: Global, text: &[u8]) -> Result<List<Bytes>, Memory>
+    ensures { IfOk result (λ made. made ≡ pieces_of text.now) }
+{
+    let mut pieces = List::new(alloc);
+    for piece in text.split(|b| *b == b'/') {
+        pieces.push(decoded(alloc, piece)?)?;
+    }
+    Ok(pieces)
+}
+
+/// The path that the text is. The empty piece behind a last slash is left out.
+#[tactic(auto, unfolding(csp_model::specs::Grammar::path_of))]
+pub(crate) fn path_of(alloc: Global, text: &[u8]) -> Result<PathPart, Memory>
+    requires { IsTrue (is_some (path_of text.now)) }
+    ensures { IfOk result (λ made. path_of text.now ≡ Some made) }
+{
+    match text.split_first() {
+        None => Ok(PathPart::Absent),
+        Some((_, rest)) => match rest.split_last() {
+            None => Ok(PathPart::Prefix(List::new(alloc))),
+            Some((b'/', front)) => Ok(PathPart::Prefix(pieces_of(alloc, front)?)),
+            Some(_) => Ok(PathPart::Exact(pieces_of(alloc, rest)?)),
+        },
+    }
+}
