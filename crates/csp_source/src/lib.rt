@@ -3,6 +3,7 @@
 
 mod host;
 mod hosted;
+mod law;
 mod path;
 mod port;
 mod quoted;
@@ -12,4 +13,5 @@ mod scheme;
 mod tests;
 mod texts;
 
+pub use law::each_token_has_one_source;
 pub use read::read_source;
