@@ -1,6 +1,6 @@
 -- The last item of a list.
-use Rattle.std.proofs.Common.{arith, ◌≡◌, ◌∙◌, sym, ap, ℕ, ◌-◌, true, false, List, [], ◌∷◌, ◌++◌, length, take, get_or, length-append}
-use Rattle.std.specs.Prelude.{◌==◌}
+use Rattle.std.proofs.Common.{arith, ◌≡◌, ◌∙◌, sym, ap, refl, ℕ, ◌-◌, true, false, List, [], ◌∷◌, ◌++◌, length, take, get_or, length-append, inl, inr}
+use Rattle.std.specs.Prelude.{◌==◌, ◌⊎◌}
 use Rattle.std.proofs.Math.Seq.{get_or-append_seam, take-append_seam}
 use Rattle.std.proofs.lemmas.Grind.{common_steps}
 use Rattle.std.proofs.lemmas.Bool.{eqb-true, false≢true}
@@ -25,3 +25,11 @@ ends_in_front c [] apart h = absurd (false≢true (sym apart ∙ h))
 ends_in_front c (d ∷ xs) apart h =
     let less : length (d ∷ xs) - 1 ≡ length xs = omega arith in
     last_from c d xs (eqb-true _ c (rw less at h)) ∙ ap (λ n. take n (d ∷ xs) ++ c ∷ []) (sym less)
+
+-- a list is empty, or a front and a last item
+pub last_view : {A : Type 0} (xs : List A) → (xs ≡ []) ⊎ ((front : List A) × (y : A) × (xs ≡ front ++ y ∷ []))
+last_view [] = inl refl
+last_view (x ∷ xs) = elim (last_view xs) [
+  | inl none ↦ inr ([], x, ap (λ s. x ∷ s) none)
+  | inr some ↦ let (front, y, e) = some in inr (x ∷ front, y, ap (λ s. x ∷ s) e)
+]

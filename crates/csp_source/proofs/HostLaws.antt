@@ -65,7 +65,7 @@ without_final_by : (p : ℕ → Bool) (b : Bool) (s : List ℕ) → ends_in 46 s
 without_final_by p true s e dot h = ap (list_all p) (ends_in_front 46 s refl e) ∙ last_passes p (without_last s) 46 h dot
 without_final_by p false s e dot h = h
 
-without_final_pass : (p : ℕ → Bool) → p 46 ≡ true → (s : List ℕ) → list_all p (without_final 46 s) ≡ true → list_all p s ≡ true
+pub without_final_pass : (p : ℕ → Bool) → p 46 ≡ true → (s : List ℕ) → list_all p (without_final 46 s) ≡ true → list_all p s ≡ true
 without_final_pass p dot s h = without_final_by p (ends_in 46 s) s refl dot h
 
 label_chars : (c : ℕ) → is_label_char c ≡ true → is_host_char c ≡ true
@@ -79,7 +79,7 @@ pub name_chars : (s : List ℕ) → is_name s ≡ true → list_all is_host_char
 unfolding is_name is_label_char is_host_char
 name_chars s h = without_final_pass is_host_char refl s (parts_pass is_host_char refl (without_final 46 s) (weaker is_label (λ part. list_all is_host_char part) label_host (slice_split (λ c. c == 46) (without_final 46 s)) h))
 
-star_dot : (s : List ℕ) → starts_with nat_eq s (codes "*.") ≡ true → s ≡ codes "*." ++ drop 2 s
+pub star_dot : (s : List ℕ) → starts_with nat_eq s (codes "*.") ≡ true → s ≡ codes "*." ++ drop 2 s
 star_dot [] h = grind (arith, common_steps)
 star_dot (c ∷ []) h = grind (arith, common_steps)
 star_dot (c ∷ d ∷ s) h = grind (arith, common_steps)
@@ -116,7 +116,7 @@ path_slash_by : (b : Bool) (more : Bool) (x : PathPart) (q : PathPart) → cond 
 path_slash_by true more x q e = refl
 path_slash_by false more x q e = cc
 
-path_slash : (x : ℕ) (d : List ℕ) (q : PathPart) → path_of (x ∷ d) ≡ Some q → x ≡ 47
+pub path_slash : (x : ℕ) (d : List ℕ) (q : PathPart) → path_of (x ∷ d) ≡ Some q → x ≡ 47
 unfolding path_of
 path_slash x d q e = eqb-true x 47 (path_slash_by _ _ _ q e)
 

@@ -177,19 +177,19 @@ unfolding kind_of
 kind_takes token s apart e = elim (first_takes _ _ s e) [
   | inl one ↦ scheme_is token s one
   | inr e1 ↦ elim (first_takes _ _ s e1) [
-      | inl two ↦ host_is token s apart two
-      | inr e2 ↦ elim (first_takes _ _ s e2) [
-          | inl three ↦ word_is token s three
-          | inr e3 ↦ elim (first_takes _ _ s e3) [
-              | inl four ↦ nonce_takes token s four
-              | inr e4 ↦ elim (first_takes _ _ s e4) [
-                  | inl five ↦ hash_takes Sha256 token s five
-                  | inr e5 ↦ elim (first_takes _ _ s e5) [
-                      | inl six ↦ hash_takes Sha384 token s six
-                      | inr e6 ↦ elim (first_takes _ _ s e6) [ inl seven ↦ hash_takes Sha512 token s seven | inr e7 ↦ absurd (none_found s e7) ]
-                  ]
-              ]
+    | inl two ↦ host_is token s apart two
+    | inr e2 ↦ elim (first_takes _ _ s e2) [
+      | inl three ↦ word_is token s three
+      | inr e3 ↦ elim (first_takes _ _ s e3) [
+        | inl four ↦ nonce_takes token s four
+        | inr e4 ↦ elim (first_takes _ _ s e4) [
+          | inl five ↦ hash_takes Sha256 token s five
+          | inr e5 ↦ elim (first_takes _ _ s e5) [
+            | inl six ↦ hash_takes Sha384 token s six
+            | inr e6 ↦ elim (first_takes _ _ s e6) [ inl seven ↦ hash_takes Sha512 token s seven | inr e7 ↦ absurd (none_found s e7) ]
           ]
+        ]
       ]
+    ]
   ]
 ]

@@ -2,7 +2,11 @@ mod AsciiLaws
 mod EndLaws
 mod HostLaws
 mod KindLaws
+mod LowerLaws
 mod PathLaws
+mod PortLaws
 mod QuotedLaws
 mod SchemeLaws
+mod SegmentLaws
 mod SourceLaws
+mod SpellingLaws

@@ -96,5 +96,5 @@ pub quoted_none : (word token text : List ℕ) → lower token ≡ text → byte
 unfolding quoted_value
 quoted_none word token text e apart =
     let other : bytes_eq (lower (take (length word) token)) word ≡ false =
-      ap (λ x. bytes_eq x word) (sym (take-map to_ascii_lowercase (length word) token) ∙ ap (take (length word)) e) ∙ apart in
+    ap (λ x. bytes_eq x word) (sym (take-map to_ascii_lowercase (length word) token) ∙ ap (take (length word)) e) ∙ apart in
     rw other refl

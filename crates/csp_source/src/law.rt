@@ -9,5 +9,4 @@ ghost use Rattle.csp_model.specs.declared.source.Source.{Source};
 pub fn each_token_has_one_source()
     ensures built { (token : List ℕ) (s : Source) → IsSource token s → source_of token ≡ s }
     ensures read { (token : List ℕ) → IsSource token (source_of token) }
-{
-}
+{}

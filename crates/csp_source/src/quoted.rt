@@ -138,7 +138,7 @@ pub(crate) fn nonce_source(alloc: Global, token: &[u8]) -> Result<Option<Source>
 }
 
 /// What a hash-source of the algorithm begins with.
-fn hash_word(algorithm: Algorithm) -> &'static str
+pub(crate) fn hash_word(algorithm: Algorithm) -> &'static str
     ensures { result.now ≡ 39 ∷ algorithm_text algorithm ++ codes "-" }
 {
     match algorithm {

@@ -1,7 +1,7 @@
 ghost use Rattle.std.specs.Prelude.{◌≡◌};
 ghost use Rattle.csp_model.specs.Ascii.{is_ascii_text};
 
-use crate::read_source;
+use crate::{read_source, source_text};
 use csp_model::{
     Algorithm, Bytes, Hash, HostPart, Keyword, List, Memory, PathPart, PortPart, Source, Text,
 };
@@ -20,6 +20,14 @@ fn read(alloc: Global, rt: &impl Abort, token: &str) -> Result<Source, Memory> {
     let bytes = token.as_bytes();
     assert!(rt; is_ascii(bytes), "{token}");
     read_source(alloc, bytes)
+}
+
+// The text of a token's source.
+fn spelt(alloc: Global, rt: &impl Abort, token: &str) -> Result<Text, Memory> {
+    let bytes = token.as_bytes();
+    assert!(rt; is_ascii(bytes), "{token}");
+    let source = read_source(alloc, bytes)?;
+    source_text(alloc, &source)
 }
 
 fn other(alloc: Global, token: &str) -> Result<Source, Memory> {
@@ -213,6 +221,29 @@ fn words_between_apostrophes(rt: HostRuntime) -> Result<(), Fail> {
             Source::Digest { hash },
             "{token}"
         );
+    }
+    Ok(())
+}
+
+#[test]
+fn spellings(rt: HostRuntime) -> Result<(), Fail> {
+    let alloc = rt.alloc();
+    for (token, spelling) in [
+        ("*", "*"),
+        ("HTTPS:", "https:"),
+        (
+            "HTTPS://*.A.example:0080/x/%79/",
+            "https://*.a.example:80/x/y/",
+        ),
+        ("A.example.:*", "a.example.:*"),
+        ("*:99999/", "*:65536/"),
+        ("a/%2f%2F%aB~!x", "a/%2F%2F%AB~%21x"),
+        ("'Unsafe-Inline'", "'unsafe-inline'"),
+        ("'NONCE-aB='", "'nonce-aB='"),
+        ("'SHA384-aB'", "'sha384-aB'"),
+        ("'NONE'", "'NONE'"),
+    ] {
+        assert_eq!(rt; spelt(alloc, &rt, token)?.as_str(), spelling, "{token}");
     }
     Ok(())
 }

@@ -1,0 +1,162 @@
+-- What a source is written as reads back to it.
+use Rattle.std.proofs.Common.{arith, ◌≡◌, ◌∙◌, sym, ap, refl, subst, ℕ, Bool, true, ◌&&◌, List, [], ◌∷◌, ◌++◌, Some, None, Option, cond, false, drop, inl, inr, nat_eq}
+use Rattle.std.specs.Prelude.{codes, ◌≢◌, ◌⊎◌, ◌==◌, IsTrue, bytes_eq, nat_lt, if◌then◌else◌}
+use Rattle.std.specs.List.{list_all, starts_with}
+use Rattle.std.proofs.lemmas.Grind.{common_steps}
+use Rattle.std.proofs.lemmas.Slice.Eq.{bytes_eq-Decides}
+use Rattle.csp_model.specs.Ascii.{lower, is_ascii_text, ends_in, without_last, split_at}
+use Rattle.csp_model.specs.Grammar.{IsKind, IsSource, IsHostSource, IsSchemePart, keyword_text, algorithm_text, is_scheme_char, is_label_char, is_name, host_of, are_digits, number, port_numbered, port_of, are_segments, pieces_of, path_of}
+use Rattle.csp_model.specs.Reading.{source_of, host_source, authority, is_host_char, is_no_slash}
+use Rattle.csp_model.specs.declared.source.Algorithm.{Algorithm}
+use Rattle.csp_model.specs.declared.source.Algorithm.TheVariants.{Sha256, Sha384, Sha512}
+use Rattle.csp_model.specs.declared.source.HostPart.{HostPart}
+use Rattle.csp_model.specs.declared.source.HostPart.TheVariants as host
+use Rattle.csp_model.specs.declared.source.PortPart.{PortPart}
+use Rattle.csp_model.specs.declared.source.PortPart.TheVariants as port
+use Rattle.csp_model.specs.declared.source.PathPart.{PathPart}
+use Rattle.csp_model.specs.declared.source.PathPart.TheVariants as path
+use Rattle.csp_model.specs.declared.source.Keyword.{Keyword}
+use Rattle.csp_model.specs.declared.source.Keyword.TheVariants as keyword
+use Rattle.csp_model.specs.declared.source.Source.{Source}
+use Rattle.csp_model.specs.declared.source.Source.TheVariants as source
+use Rattle.csp_source.specs.Spelling.{scheme_spelling, host_spelling, port_spelling, path_spelling, spelling, IsRead}
+use Rattle.csp_source.proofs.HostLaws.{chosen, host_again}
+use Rattle.csp_source.proofs.LowerLaws.{host_spelt, is_scheme-lower, lower-lower}
+use Rattle.csp_source.proofs.PortLaws.{port_spelt}
+use Rattle.csp_source.proofs.SegmentLaws.{path_spelt}
+use Rattle.csp_source.proofs.SourceLaws.{source_built, source_read}
+
+scheme_spelt : (text : List ℕ) (scheme : Option (List ℕ)) → IsSchemePart text scheme → IsSchemePart (scheme_spelling scheme) scheme
+scheme_spelt text None h = refl
+scheme_spelt text (Some scheme) (letters, e, good, lowered) =
+    (scheme, refl, rw lowered (is_scheme-lower letters good), lowered ∙ sym (lower-lower letters) ∙ sym (ap lower lowered))
+
+-- the last of the parts of an ASCII text is ASCII
+ascii_end : (a b : List ℕ) → is_ascii_text (a ++ b) ≡ true → is_ascii_text b ≡ true
+ascii_end [] b h = h
+ascii_end (c ∷ a) b h = ascii_end a b (grind (arith, h))
+
+path_ascii : (token a b c d : List ℕ) → token ≡ a ++ (b ++ (c ++ d)) → is_ascii_text token ≡ true → is_ascii_text d ≡ true
+path_ascii token a b c d e h = ascii_end c d (ascii_end b (c ++ d) (ascii_end a (b ++ (c ++ d)) (sym (ap is_ascii_text e) ∙ h)))
+
+parts_spelt : (token : List ℕ) (scheme : Option (List ℕ)) (name : HostPart) (number : PortPart) (pieces : PathPart) → is_ascii_text token ≡ true
+    → IsHostSource token scheme name number pieces → IsHostSource (spelling (source.Hosted scheme name number pieces)) scheme name number pieces
+parts_spelt token scheme name number pieces ascii (a, b, c, d, e, sa, eb, ec, ed) = (
+  scheme_spelling scheme,
+  host_spelling name,
+  port_spelling number,
+  path_spelling pieces,
+  refl,
+  scheme_spelt a scheme sa,
+  host_spelt b name eb,
+  port_spelt c number ec,
+  path_spelt d pieces (path_ascii token a b c d e ascii) ed,
+)
+
+keyword_spelt : (word : Keyword) → lower (keyword_text word) ≡ keyword_text word
+keyword_spelt keyword.SelfOrigin = refl
+keyword_spelt keyword.UnsafeInline = refl
+keyword_spelt keyword.UnsafeEval = refl
+keyword_spelt keyword.WasmUnsafeEval = refl
+keyword_spelt keyword.StrictDynamic = refl
+keyword_spelt keyword.UnsafeHashes = refl
+keyword_spelt keyword.ReportSample = refl
+
+hash_word_spelt : (algorithm : Algorithm) → lower (39 ∷ algorithm_text algorithm ++ codes "-") ≡ 39 ∷ algorithm_text algorithm ++ codes "-"
+hash_word_spelt Sha256 = refl
+hash_word_spelt Sha384 = refl
+hash_word_spelt Sha512 = refl
+
+-- ---- "*" alone is no host-source
+
+any_is : (text : List ℕ) → host_of text ≡ Some host.Any → text ≡ codes "*"
+unfolding host_of
+any_is text e =
+    let exact = if is_name text then Some (host.Exact (lower text)) else None in
+    let under = if starts_with nat_eq text (codes "*.") && is_name (drop 2 text) then Some (host.Under (lower (drop 2 text))) else exact in
+    elim (chosen (bytes_eq text (codes "*")) (Some host.Any) under host.Any e) [
+      | inl one ↦ (bytes_eq-Decides text (codes "*")).0 one.0
+      | inr two ↦
+          elim (chosen (starts_with nat_eq text (codes "*.") && is_name (drop 2 text)) (Some (host.Under (lower (drop 2 text)))) exact host.Any two.1) [
+            | inl three ↦ cc
+            | inr four ↦ elim (chosen (is_name text) (Some (host.Exact (lower text))) None host.Any four.1) [ inl five ↦ cc | inr six ↦ cc ]
+          ]
+    ]
+
+numbered_not_absent : (n : ℕ) → port_numbered n ≡ port.Absent → ⊥
+numbered_not_absent n e = go (nat_lt n 65536) e where
+  go : (b : Bool) → cond b (port.Number n) port.TooLarge ≡ port.Absent → ⊥
+  go true e = cc
+  go false e = cc
+
+no_port_is : (text : List ℕ) → port_of text ≡ Some port.Absent → text ≡ []
+unfolding port_of
+no_port_is [] e = refl
+no_port_is (c ∷ text) e =
+    let numbered = if are_digits text then Some (port_numbered (number text)) else None in
+    elim (chosen (c == 58) (if bytes_eq text (codes "*") then Some port.Any else numbered) None port.Absent e) [
+      | inl one ↦ elim (chosen (bytes_eq text (codes "*")) (Some port.Any) numbered port.Absent one.1) [
+        | inl two ↦ cc
+        | inr three ↦ elim (chosen (are_digits text) (Some (port_numbered (number text))) None port.Absent three.1) [
+          | inl four ↦ absurd (numbered_not_absent (number text) (cc four.1))
+          | inr five ↦ cc
+        ]
+      ]
+      | inr two ↦ cc
+    ]
+
+path_not_absent : (b : Bool) (x y : List (List ℕ)) → cond b (path.Prefix x) (path.Exact y) ≡ path.Absent → ⊥
+path_not_absent true x y e = cc
+path_not_absent false x y e = cc
+
+no_path_is : (text : List ℕ) → path_of text ≡ Some path.Absent → text ≡ []
+unfolding path_of
+no_path_is [] e = refl
+no_path_is (c ∷ text) e =
+    let made = if ends_in 47 (c ∷ text) then path.Prefix (without_last (pieces_of text)) else path.Exact (pieces_of text) in
+    elim (chosen ((c == 47) && are_segments (split_at 47 text)) (Some made) None path.Absent e) [
+      | inl one ↦ let is : made ≡ path.Absent = cc in absurd (path_not_absent (ends_in 47 (c ∷ text)) _ _ is)
+      | inr two ↦ cc
+    ]
+
+star_is : (token : List ℕ) → IsHostSource token None host.Any port.Absent path.Absent → token ≡ codes "*"
+star_is token (a, b, c, d, e, sa, eb, ec, ed) =
+    let b' = any_is b eb in
+    let c' = no_port_is c ec in
+    let d' = no_path_is d ed in
+    e ∙ rw (sa, b', c', d') refl
+
+star_source : host_source (codes "*") ≡ Some (source.Hosted None host.Any port.Absent path.Absent)
+unfolding host_source authority is_host_char is_no_slash is_scheme_char is_label_char host_of port_of path_of
+star_source = refl
+
+-- a spelling is "*" only where the token was
+spelt_apart : (token : List ℕ) (scheme : Option (List ℕ)) (name : HostPart) (number : PortPart) (pieces : PathPart) → token ≢ codes "*"
+    → IsHostSource token scheme name number pieces → IsHostSource (spelling (source.Hosted scheme name number pieces)) scheme name number pieces
+    → spelling (source.Hosted scheme name number pieces) ≢ codes "*"
+spelt_apart token scheme name number pieces apart was now e =
+    let read = sym (host_again (spelling (source.Hosted scheme name number pieces)) scheme name number pieces now) ∙ ap host_source e ∙ star_source in
+    let no_scheme : scheme ≡ None = cc (read) in
+    let any : name ≡ host.Any = cc (read) in
+    let no_number : number ≡ port.Absent = cc (read) in
+    let no_pieces : pieces ≡ path.Absent = cc (read) in
+    apart (star_is token (rw (no_scheme, any, no_number, no_pieces) at was))
+
+spelt : (token : List ℕ) (s : Source) → is_ascii_text token ≡ true → IsSource token s → IsSource (spelling s) s
+spelt token source.Star ascii h = refl
+spelt token (source.SchemeOnly scheme) ascii (letters, e, good, lowered) =
+    (scheme, refl, rw lowered (is_scheme-lower letters good), lowered ∙ sym (lower-lower letters) ∙ sym (ap lower lowered))
+spelt token (source.Hosted scheme name number pieces) ascii h =
+    let again = parts_spelt token scheme name number pieces ascii h.1 in
+    (spelt_apart token scheme name number pieces h.0 h.1 again, again)
+spelt token (source.Word word) ascii h = keyword_spelt word
+spelt token (source.Nonce value) ascii (letters, e, lowered, good) = (codes "'nonce-", refl, refl, good)
+spelt token (source.Digest hash) ascii (letters, e, lowered, good) = (39 ∷ algorithm_text hash.algorithm ++ codes "-", refl, hash_word_spelt hash.algorithm, good)
+spelt token (source.Other text) ascii h = let IsOther : List ℕ → Type 0 = λ t. IsSource t (source.Other text) in subst IsOther (sym h.0) h
+
+pub source_of-spelling : (s : Source) → IsRead s → source_of (spelling s) ≡ s
+source_of-spelling s (token, ascii, is) = source_built (spelling s) s (spelt token s ascii (subst (IsSource token) is (source_read token)))
+
+-- the same of a text that a source was written to
+pub reads_back : (s : Source) (made whole before : List ℕ) → IsRead s → made ≡ whole → whole ≡ before ++ spelling s → before ≡ [] → source_of made ≡ s
+reads_back s made whole before h a b none = ap source_of (a ∙ b ∙ ap (λ x. x ++ spelling s) none) ∙ source_of-spelling s h

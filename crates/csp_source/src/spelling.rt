@@ -1,0 +1,127 @@
+//! Writes a source expression.
+ghost use Rattle.std.specs.Prelude.{◌≡◌, ◌++◌, IfOk, OnOk, string_bytes, decimal, codes};
+ghost use Rattle.csp_model.specs.Reading.{source_of};
+ghost use Rattle.csp_source.specs.Spelling.{scheme_spelling, host_spelling, port_spelling, pieces_spelling, path_spelling, spelling, IsRead};
+
+use crate::ESCAPED;
+use crate::quoted::{hash_word, keyword_text};
+use csp_model::{Bytes, HostPart, Memory, PathPart, PortPart, Source, Text};
+use itoa::Buffer;
+use percent_encoding::percent_encode;
+use std::alloc::Global;
+
+fn push_scheme(text: &mut String, scheme: &Option<Text>) -> Result<(), Memory>
+    ensures { OnOk result (string_bytes text.new ≡ string_bytes text.old ++ scheme_spelling scheme.now) }
+{
+    match scheme {
+        None => Ok(()),
+        Some(scheme) => {
+            text.push_str(scheme.as_str())?;
+            text.push_str("://")?;
+            Ok(())
+        }
+    }
+}
+
+fn push_host(text: &mut String, host: &HostPart) -> Result<(), Memory>
+    ensures { OnOk result (string_bytes text.new ≡ string_bytes text.old ++ host_spelling host.now) }
+{
+    match host {
+        HostPart::Any => text.push_str("*")?,
+        HostPart::Under(suffix) => {
+            text.push_str("*.")?;
+            text.push_str(suffix.as_str())?;
+        }
+        HostPart::Exact(host) => text.push_str(host.as_str())?,
+    }
+    Ok(())
+}
+
+fn push_port(text: &mut String, port: PortPart) -> Result<(), Memory>
+    ensures { OnOk result (string_bytes text.new ≡ string_bytes text.old ++ port_spelling port) }
+{
+    match port {
+        PortPart::Absent => {}
+        PortPart::Any => text.push_str(":*")?,
+        PortPart::Number(number) => {
+            text.push_str(":")?;
+            text.push_str(Buffer::new().format(number))?;
+        }
+        PortPart::TooLarge => text.push_str(":65536")?,
+    }
+    Ok(())
+}
+
+fn push_pieces(text: &mut String, pieces: &[Bytes]) -> Result<(), Memory>
+    ensures { OnOk result (string_bytes text.new ≡ string_bytes text.old ++ pieces_spelling pieces.now) }
+{
+    for piece in pieces {
+        text.push_str("/")?;
+        percent_encode(piece.as_slice(), ESCAPED).append_to(text)?;
+    }
+    Ok(())
+}
+
+fn push_path(text: &mut String, path: &PathPart) -> Result<(), Memory>
+    ensures { OnOk result (string_bytes text.new ≡ string_bytes text.old ++ path_spelling path.now) }
+{
+    match path {
+        PathPart::Absent => {}
+        PathPart::Exact(pieces) => push_pieces(text, pieces.as_slice())?,
+        PathPart::Prefix(pieces) => {
+            push_pieces(text, pieces.as_slice())?;
+            text.push_str("/")?;
+        }
+    }
+    Ok(())
+}
+
+fn push_quoted(text: &mut String, word: &str, value: &Text) -> Result<(), Memory>
+    ensures { OnOk result (string_bytes text.new ≡ string_bytes text.old ++ (word.now ++ (value.now ++ codes "'"))) }
+{
+    text.push_str(word)?;
+    text.push_str(value.as_str())?;
+    text.push_str("'")?;
+    Ok(())
+}
+
+fn push_source(text: &mut String, source: &Source) -> Result<(), Memory>
+    ensures { OnOk result (string_bytes text.new ≡ string_bytes text.old ++ spelling source.now) }
+{
+    match source {
+        Source::Star => text.push_str("*")?,
+        Source::SchemeOnly { scheme } => {
+            text.push_str(scheme.as_str())?;
+            text.push_str(":")?;
+        }
+        Source::Hosted {
+            scheme,
+            host,
+            port,
+            path,
+        } => {
+            push_scheme(text, scheme)?;
+            push_host(text, host)?;
+            push_port(text, *port)?;
+            push_path(text, path)?;
+        }
+        Source::Word { word } => text.push_str(keyword_text(*word))?,
+        Source::Nonce { value } => push_quoted(text, "'nonce-", value)?,
+        Source::Digest { hash } => push_quoted(text, hash_word(hash.algorithm), &hash.value)?,
+        Source::Other { token } => text.push_str(token.as_str())?,
+    }
+    Ok(())
+}
+
+/// The one text of a source that some token reads as; it reads back to that source. Words that ignore case are in
+/// lower case, a port has no leading zeros, and one that is too large is `65536`. In a path every byte of a piece
+/// but letters, digits, `-`, `.`, `_` and `~` is written as `%` and two upper-case hexadecimal digits.
+pub fn source_text(alloc: Global, source: &Source) -> Result<Text, Memory>
+    requires { IsRead source.now }
+    ensures text { IfOk result (λ text. text ≡ spelling source.now) }
+    ensures reads_back { IfOk result (λ text. source_of text ≡ source.now) }
+{
+    let mut text = String::new(alloc);
+    push_source(&mut text, source)?;
+    Ok(Text::from_string(text))
+}
