@@ -1,0 +1,3 @@
+pub mod AsciiLaws
+pub mod Kept
+pub mod Readable

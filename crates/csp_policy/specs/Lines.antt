@@ -1,0 +1,9 @@
+-- What a read line says.
+use Rattle.csp_model.specs.Policies as policies
+use Rattle.csp_policy.specs.declared.lines.Line.{Line}
+use Rattle.csp_policy.specs.declared.lines.Line.TheVariants.{Skipped, Bad, Header}
+
+abbrev pub line_said : Line → policies.Line
+line_said Skipped = policies.Skipped
+line_said Bad = policies.Bad
+line_said (Header name value) = policies.Header name.now value.now

@@ -1,0 +1,13 @@
+//! Reads policies (Content Security Policy Level 3, sections 2.2, 3.1 to 3.3 and 4).
+#![tactic(auto)]
+
+mod block;
+mod counts;
+mod directive;
+mod error;
+mod lines;
+mod pieces;
+mod policy;
+
+pub use block::read_block;
+pub use error::BlockError;

@@ -1,0 +1,116 @@
+//! The lines of a header block (RFC 9110, sections 5.1, 5.5 and 5.6.2).
+ghost use Rattle.std.specs.Prelude.{◌≡◌, ◌<◌, ◌≤◌, ◌+◌, ◌^◌, ◌-◌, length, map, IfSome, position, IsTrue, drop};
+ghost use Rattle.std.specs.List.{list_all, position_or_len};
+ghost use Rattle.std.specs.Str.Lines.{strip_carriage_return};
+ghost use Rattle.csp_model.specs.Policies.{is_token_char, is_field_name, is_field_value, header_of, line_of, is_bad, is_colon, is_newline, without_status};
+ghost use Rattle.csp_policy.specs.Lines.{line_said};
+
+/// What a line of a header block says.
+#[derive(Clone, Copy, Debug)]
+pub enum Line<'a> {
+    Skipped,
+    Bad,
+    Header { name: &'a [u8], value: &'a [u8] },
+}
+
+#[tactic(auto, unfolding(csp_model::specs::Policies::is_token_char))]
+fn is_token_char(b: u8) -> bool
+    ensures { result ≡ is_token_char b }
+{
+    b.is_ascii_alphanumeric() || b"!#$%&'*+-.^_`|~".contains(&b)
+}
+
+fn all_token_chars(name: &[u8]) -> bool
+    ensures { result ≡ list_all is_token_char name.now }
+{
+    name.iter().all(|b| is_token_char(*b))
+}
+
+#[tactic(auto, unfolding(csp_model::specs::Policies::is_field_name))]
+fn is_field_name(name: &[u8]) -> bool
+    ensures { result ≡ is_field_name name.now }
+{
+    !name.is_empty() && name.len() < 65536 && all_token_chars(name)
+}
+
+#[tactic(auto, unfolding(csp_model::specs::Policies::is_field_value))]
+fn is_field_value(value: &[u8]) -> bool
+    ensures { result ≡ is_field_value value.now }
+{
+    value
+        .iter()
+        .all(|b| *b == b'\t' || (b' ' <= *b && *b != 127))
+}
+
+fn colon_at(line: &[u8]) -> Option<usize>
+    ensures value { result ≡ position is_colon line.now }
+    ensures bound { IfSome result (λ at. at < length line.now) }
+{
+    line.iter().position(|b| *b == b':')
+}
+
+#[tactic(auto, unfolding(csp_model::specs::Policies::header_of))]
+fn header(line: &[u8]) -> Line<'_>
+    ensures { line_said result ≡ header_of line.now }
+{
+    match colon_at(line) {
+        None => Line::Bad,
+        Some(at) => {
+            let (name, _) = line.split_at(at);
+            let (_, value) = line.split_at(at + 1);
+            if is_field_name(name) && is_field_value(value) {
+                Line::Header { name, value }
+            } else {
+                Line::Bad
+            }
+        }
+    }
+}
+
+fn without_carriage_return(line: &[u8]) -> &[u8]
+    ensures { result.now ≡ strip_carriage_return line.now }
+{
+    match line.split_last() {
+        Some((b'\r', front)) => front,
+        _ => line,
+    }
+}
+
+#[tactic(auto, unfolding(csp_model::specs::Policies::line_of))]
+fn filled_line(line: &[u8]) -> Line<'_>
+    ensures { line_said result ≡ line_of line.now }
+{
+    if line.is_empty() {
+        Line::Skipped
+    } else {
+        header(line)
+    }
+}
+
+/// What a line says, where its line feed is taken off.
+pub fn read_line(line: &[u8]) -> Line<'_>
+    ensures { line_said result ≡ line_of (strip_carriage_return line.now) }
+{
+    filled_line(without_carriage_return(line))
+}
+
+fn newline_at(bytes: &[u8]) -> Option<usize>
+    ensures value { result ≡ position is_newline bytes.now }
+    ensures bound { IfSome result (λ at. at < length bytes.now) }
+{
+    bytes.iter().position(|b| *b == b'\n')
+}
+
+/// The block with a status line at its front emptied, so that its lines keep their numbers.
+pub fn without_status(bytes: &[u8]) -> &[u8]
+    ensures { result.now ≡ without_status bytes.now }
+{
+    if bytes.starts_with(b"HTTP/") {
+        match newline_at(bytes) {
+            Some(at) => bytes.split_at(at).1,
+            None => &[],
+        }
+    } else {
+        bytes
+    }
+}
