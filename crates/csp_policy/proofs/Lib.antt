@@ -1,3 +1,7 @@
 pub mod AsciiLaws
-pub mod Kept
+pub mod FirstWord
+pub mod Firsts
 pub mod Readable
+pub mod Shortened
+pub mod Seen
+pub mod LinesSoFar

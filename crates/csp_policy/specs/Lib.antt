@@ -1,2 +1,4 @@
-pub mod Refusal
 pub mod Lines
+pub mod Names
+pub mod Reading
+pub mod Refusal

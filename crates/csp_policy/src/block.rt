@@ -1,17 +1,14 @@
 //! Header blocks (Content Security Policy Level 3, sections 3.1 to 3.3).
-ghost use Rattle.std.specs.Prelude.{◌≡◌, ◌<◌, ◌-◌, ◌^◌, ◌⊎◌, length, map, IfOk, OnOk, IfErr, Some, None};
-ghost use Rattle.std.specs.List.{flat_map};
-ghost use Rattle.csp_model.specs.Policies.{policies, policies_of, first_bad_from, line_of, lines_of, without_status, IsReadable};
+ghost use Rattle.std.specs.Prelude.{◌≡◌, ◌<◌, ◌-◌, ◌^◌, ◌⊎◌, length, IfOk, OnOk, IfErr, Some, None};
+ghost use Rattle.csp_model.specs.Policies.{policies, first_bad, IsReadable};
 ghost use Rattle.csp_model.specs.Validity.{IsValidOrigin};
-ghost use Rattle.std.specs.Str.Lines.{strip_carriage_return};
+ghost use Rattle.csp_policy.specs.Reading.{AreRead};
 ghost use Rattle.csp_policy.specs.Refusal.{refusal_of};
 
-use crate::counts::excess;
 use crate::error::BlockError;
 use crate::lines::{Line, read_line, without_status};
-use crate::pieces::pieces;
-use crate::policy::add_line;
-use csp_model::{List, Memory, Origin, Policy, PolicyList};
+use crate::policy::Reader;
+use csp_model::{Memory, Origin, PolicyList};
 use std::alloc::Global;
 
 impl From<Memory> for BlockError {
@@ -24,29 +21,24 @@ impl From<Memory> for BlockError {
     }
 }
 
-/// The number of the first bad line, counted from 1.
-fn first_bad(lines: &[&[u8]]) -> Option<u32>
-    requires { length lines.now < 2 ^ 32 }
-    ensures { result ≡ first_bad_from 1 (map line_of (map strip_carriage_return (map (λ x. x.now) lines.now))) }
+/// Reads the headers of a block's lines.
+fn read_lines(alloc: Global, bytes: &[u8], origin: &Origin) -> Result<Reader, BlockError>
+    requires { length bytes.now < 2 ^ 32 - 1 }
+    ensures read { IfOk result (λ reader. AreRead (policies bytes.now origin.now) reader.policies reader.room) }
+    ensures good { OnOk result (first_bad bytes.now ≡ None) }
+    ensures bad { IfErr result (λ e. (e ≡ BlockError.Memory) ⊎ (refusal_of bytes.now origin.now ≡ Some e)) }
 {
+    let mut reader = Reader::new(alloc);
     let mut number = 0;
-    for line in lines {
+    for line in without_status(bytes).split(|b| *b == b'\n') {
         number += 1;
-        if let Line::Bad = read_line(line) {
-            return Some(number);
+        match read_line(line) {
+            Line::Skipped => {}
+            Line::Bad => return Err(BlockError::BadLine { line: number }),
+            Line::Header { name, value } => reader.add_header(alloc, origin, name, value)?,
         }
     }
-    None
-}
-
-fn read_policies(alloc: Global, lines: &[&[u8]], origin: &Origin) -> Result<List<Policy>, Memory>
-    ensures { IfOk result (λ made. made ≡ flat_map (policies_of origin.now) (map line_of (map strip_carriage_return (map (λ x. x.now) lines.now)))) }
-{
-    let mut made = List::new(alloc);
-    for line in lines {
-        add_line(alloc, &mut made, origin, read_line(line))?;
-    }
-    Ok(made)
+    Ok(reader)
 }
 
 /// Reads the policies of a header block.
@@ -57,13 +49,12 @@ pub fn read_block(alloc: Global, bytes: &[u8], origin: &Origin) -> Result<Policy
     ensures refused { IfErr result (λ e. (e ≡ BlockError.Memory) ⊎ (refusal_of bytes.now origin.now ≡ Some e)) }
     ensures readable { IsValidOrigin origin.now → IfOk result IsReadable }
 {
-    let lines = pieces(alloc, without_status(bytes), b'\n')?;
-    if let Some(line) = first_bad(lines.as_slice()) {
-        return Err(BlockError::BadLine { line });
-    }
-    let policies = read_policies(alloc, lines.as_slice(), origin)?;
-    match excess(policies.as_slice()) {
+    let reader = read_lines(alloc, bytes, origin)?;
+    match reader.excess() {
         Some(error) => Err(error),
-        None => Ok(PolicyList { policies }),
+        None => {
+            let Reader { policies, .. } = reader;
+            Ok(PolicyList { policies })
+        }
     }
 }

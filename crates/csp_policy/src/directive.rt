@@ -1,93 +1,123 @@
-//! Directives (Content Security Policy Level 3, section 2.3).
-ghost use Rattle.std.specs.Prelude.{◌≡◌, IfOk, IsTrue, map};
-ghost use Rattle.std.specs.List.{list_any, list_all, filter_map};
-ghost use Rattle.csp_model.specs.Ascii.{is_ascii_text};
-ghost use Rattle.csp_model.specs.Policies.{directive_of, directives_of, same_name, firsts, directive_of_words};
+//! Serialized policies (Content Security Policy Level 3, section 2.2.1).
+ghost use Rattle.std.specs.Prelude.{◌≡◌, ◌-◌, IfOk, OnOk, IsTrue, IfSome, MatchOption, None, Some, true, not, ◌||◌, [], length, map, take};
+ghost use Rattle.csp_model.specs.Ascii.{is_ascii_text, words};
+ghost use Rattle.csp_model.specs.Policies.{directive_of, directives_of, is_for_meta};
 ghost use Rattle.csp_model.specs.Reading.{source_of};
+ghost use Rattle.csp_policy.specs.Reading.{directive_with, shortened, kept_of, AreShortened};
 
-use crate::pieces::{is_ascii_text, lower_text, pieces, texts, words};
-use csp_model::{Directive, List, Memory, Source};
+use crate::names::CaselessName;
+use crate::texts::{ascii_text, is_ascii_text, lower_text};
+use crate::words::next_word;
+use csp_model::{Directive, List, Memory, Source, Text};
 use csp_source::read_source;
 use std::alloc::Global;
+use std::collections::BTreeSet;
 
-fn sources(alloc: Global, tokens: &[&[u8]]) -> Result<List<Source>, Memory>
-    requires { IsTrue (list_all is_ascii_text (map (λ x. x.now) tokens.now)) }
-    ensures { IfOk result (λ made. made ≡ map source_of (map (λ x. x.now) tokens.now)) }
+/// The first `room` words of a text, and the sources that they stand for.
+fn read_tokens(
+    alloc: Global,
+    text: &[u8],
+    room: usize,
+) -> Result<(List<Text>, List<Source>), Memory>
+    requires { is_ascii_text text.now ≡ true }
+    ensures tokens { IfOk result (λ made. made.0 ≡ take room (words text.now)) }
+    ensures sources { IfOk result (λ made. made.1 ≡ map source_of (take room (words text.now))) }
 {
-    let mut made = List::new(alloc);
-    for token in tokens {
-        made.push(read_source(alloc, token)?)?;
+    let mut tokens = List::new(alloc);
+    let mut sources = List::new(alloc);
+    let mut rest = text;
+    while tokens.len() < room {
+        let Some((token, after)) = next_word(rest) else {
+            break;
+        };
+        tokens.push(ascii_text(alloc, token)?)?;
+        sources.push(read_source(alloc, token)?)?;
+        rest = after;
     }
-    Ok(made)
+    Ok((tokens, sources))
 }
 
-fn directive_of_words(alloc: Global, words: &[&[u8]]) -> Result<Option<Directive>, Memory>
-    requires { IsTrue (list_all is_ascii_text (map (λ x. x.now) words.now)) }
-    ensures { IfOk result (λ made. made ≡ directive_of_words (map (λ x. x.now) words.now)) }
+/// The directive of this name, whose tokens are the first words of a text, as many as there is room for.
+fn read_directive(
+    alloc: Global,
+    name: &[u8],
+    text: &[u8],
+    room: &mut usize,
+) -> Result<Directive, Memory>
+    requires name { is_ascii_text name.now ≡ true }
+    requires text { is_ascii_text text.now ≡ true }
+    ensures made { IfOk result (λ made. made ≡ shortened room.old (directive_with name.now (words text.now))) }
+    ensures left { OnOk result (room.new ≡ room.old - length (words text.now)) }
 {
-    match words.split_first() {
-        None => Ok(None),
-        Some((name, tokens)) => Ok(Some(Directive {
-            name: lower_text(alloc, name)?,
-            tokens: texts(alloc, tokens)?,
-            sources: sources(alloc, tokens)?,
-        })),
+    let (tokens, sources) = read_tokens(alloc, text, *room)?;
+    *room -= tokens.len();
+    Ok(Directive {
+        name: lower_text(alloc, name)?,
+        tokens,
+        sources,
+    })
+}
+
+/// The name of a piece's directive, and the text behind it. None where the piece has no word, or a byte
+/// outside ASCII.
+#[tactic(auto, unfolding(csp_model::specs::Policies::directive_of))]
+fn split_name(piece: &[u8]) -> Option<(&[u8], &[u8])>
+    ensures directive { MatchOption result (directive_of piece.now ≡ None) (λ found. directive_of piece.now ≡ Some (directive_with found.0.now (words found.1.now))) }
+    ensures ascii_name { IfSome result (λ found. is_ascii_text found.0.now ≡ true) }
+    ensures ascii_text { IfSome result (λ found. is_ascii_text found.1.now ≡ true) }
+{
+    if is_ascii_text(piece) {
+        next_word(piece)
+    } else {
+        None
     }
 }
 
-#[tactic(auto, using(crate::proofs::AsciiLaws::words_ascii), unfolding(csp_model::specs::Policies::directive_of))]
-fn directive_of(alloc: Global, piece: &[u8]) -> Result<Option<Directive>, Memory>
-    ensures { IfOk result (λ made. made ≡ directive_of piece.now) }
+/// Whether a meta element may carry the directive of this name.
+fn is_for_meta(name: CaselessName<'_>) -> bool
+    ensures { result ≡ is_for_meta (directive_with name.entry.bytes.now []) }
 {
-    if !is_ascii_text(piece) {
-        return Ok(None);
-    }
-    let words = words(alloc, piece)?;
-    directive_of_words(alloc, words.as_slice())
-}
-
-fn found(alloc: Global, pieces: &[&[u8]]) -> Result<Vec<Directive>, Memory>
-    ensures { IfOk result (λ made. made.items ≡ filter_map directive_of (map (λ x. x.now) pieces.now)) }
-{
-    let mut made = Vec::new(alloc);
-    for piece in pieces {
-        if let Some(directive) = directive_of(alloc, piece)? {
-            match made.push(directive) {
-                Ok(()) => {}
-                Err(_) => return Err(Memory),
+    !(name
+        == CaselessName {
+            bytes: b"report-uri",
+        }
+        || name
+            == CaselessName {
+                bytes: b"frame-ancestors",
             }
-        }
-    }
-    Ok(made)
+        || name == CaselessName { bytes: b"sandbox" })
 }
 
-fn has_name(directives: &List<Directive>, directive: &Directive) -> bool
-    ensures { result ≡ list_any (λ d. same_name directive.now d) directives.now }
+/// Whether the directive of this name stays, where a meta element may deliver the policy.
+fn is_kept(meta: bool, name: CaselessName<'_>) -> bool
+    ensures { result ≡ (not meta || is_for_meta (directive_with name.entry.bytes.now [])) }
 {
-    directives
-        .as_slice()
-        .iter()
-        .any(|d| directive.name == d.name)
+    !meta || is_for_meta(name)
 }
 
-/// The first directive of each name.
-fn firsts(alloc: Global, directives: Vec<Directive>) -> Result<List<Directive>, Memory>
-    ensures { IfOk result (λ made. made ≡ firsts directives.items) }
+/// The directives of a serialized policy, the first of each name, without those that a meta element loses.
+/// There is room for so many tokens; a token past that is not kept.
+pub fn read_directives(
+    alloc: Global,
+    value: &[u8],
+    meta: bool,
+    room: &mut usize,
+) -> Result<List<Directive>, Memory>
+    ensures { IfOk result (λ made. AreShortened (kept_of meta (directives_of value.now)) made room.old room.new) }
 {
+    let mut seen = BTreeSet::new(alloc);
     let mut made = List::new(alloc);
-    for directive in directives {
-        if !has_name(&made, &directive) {
-            made.push(directive)?;
+    for piece in value.split(|b| *b == b';') {
+        let Some((name, text)) = split_name(piece) else {
+            continue;
+        };
+        let name = CaselessName { bytes: name };
+        if !seen.insert(name)? {
+            continue;
+        }
+        if is_kept(meta, name) {
+            made.push(read_directive(alloc, name.bytes, text, room)?)?;
         }
     }
     Ok(made)
-}
-
-/// The directives of a serialized policy.
-pub fn read_directives(alloc: Global, value: &[u8]) -> Result<List<Directive>, Memory>
-    ensures { IfOk result (λ made. made ≡ directives_of value.now) }
-{
-    let pieces = pieces(alloc, value, b';')?;
-    let found = found(alloc, pieces.as_slice())?;
-    firsts(alloc, found)
 }

@@ -2,12 +2,14 @@
 #![tactic(auto)]
 
 mod block;
-mod counts;
 mod directive;
 mod error;
 mod lines;
-mod pieces;
+mod longest;
+mod names;
 mod policy;
+mod texts;
+mod words;
 
 pub use block::read_block;
 pub use error::BlockError;

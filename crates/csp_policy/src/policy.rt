@@ -1,98 +1,120 @@
-//! Policies (Content Security Policy Level 3, sections 2.2 and 3).
-ghost use Rattle.std.specs.Prelude.{◌≡◌, ◌++◌, false, true, filter, map, OnOk, IfOk};
-ghost use Rattle.std.specs.List.{flat_map};
-ghost use Rattle.csp_model.specs.Policies.{policy_with, policies_in, policies_of, directives_of, is_for_meta};
-ghost use Rattle.csp_policy.specs.Lines.{line_said};
+//! The policies of headers (Content Security Policy Level 3, sections 2.2 and 3.1 to 3.3).
+ghost use Rattle.std.specs.Prelude.{◌≡◌, ◌++◌, [], List as Items, MatchOption, OnOk, None, Some};
+ghost use Rattle.csp_model.specs.Policies.{policy_with, policies_in, policies_of, directives_of, Header};
+ghost use Rattle.csp_model.specs.declared.policy.Policy.{Policy as AnyPolicy};
+ghost use Rattle.csp_policy.specs.Reading.{AreRead, kept_of};
+ghost use Rattle.csp_policy.specs.Refusal.{excess};
 
 use crate::directive::read_directives;
-use crate::lines::Line;
-use crate::pieces::pieces;
-use csp_model::{Directive, Disposition, Duplicate, List, Memory, Origin, Policy};
+use crate::error::BlockError;
+use crate::longest::longest_text;
+use csp_model::{Disposition, Duplicate, List, Memory, Origin, Policy};
 use std::alloc::Global;
 
-/// Adds a policy, where it has a directive.
-fn add_policy(
-    alloc: Global,
-    made: &mut List<Policy>,
-    origin: &Origin,
-    disposition: Disposition,
-    meta: bool,
-    directives: List<Directive>,
-) -> Result<(), Memory>
-    ensures { OnOk result (made.new ≡ made.old ++ policy_with origin.now disposition meta directives) }
-{
-    if directives.is_empty() {
-        return Ok(());
-    }
-    made.push(Policy {
-        disposition,
-        meta,
-        origin: origin.copy(alloc)?,
-        directives,
-    })
+const MOST_POLICIES: usize = 64;
+
+const MOST_TOKENS: usize = 1024;
+
+const LONGEST_TEXT: usize = 4096;
+
+/// The policies that are read so far, up to the first that is too many, and the room for further tokens,
+/// up to the first that is too many.
+#[derive(Drop)]
+pub struct Reader {
+    pub policies: List<Policy>,
+    pub room: usize,
 }
 
-/// Adds the policies between a header's commas.
-fn add_header(
-    alloc: Global,
-    made: &mut List<Policy>,
-    origin: &Origin,
-    disposition: Disposition,
-    value: &[u8],
-) -> Result<(), Memory>
-    ensures { OnOk result (made.new ≡ made.old ++ policies_in origin.now disposition value.now) }
-{
-    let pieces = pieces(alloc, value, b',')?;
-    for piece in pieces.as_slice() {
-        let directives = read_directives(alloc, piece)?;
-        add_policy(alloc, made, origin, disposition, false, directives)?;
-    }
-    Ok(())
-}
-
-fn is_for_meta(directive: &Directive) -> bool
-    ensures { result ≡ is_for_meta directive.now }
-{
-    match directive.name.as_str() {
-        "report-uri" | "frame-ancestors" | "sandbox" => false,
-        _ => true,
-    }
-}
-
-/// The directives that a meta element may carry.
-fn for_meta(alloc: Global, directives: List<Directive>) -> Result<List<Directive>, Memory>
-    ensures { IfOk result (λ made. made ≡ filter is_for_meta directives) }
-{
-    let mut made = List::new(alloc);
-    for directive in directives.into_vec() {
-        if is_for_meta(&directive) {
-            made.push(directive)?;
+impl Reader {
+    /// Nothing is read.
+    pub fn new(alloc: Global) -> Reader
+        ensures { AreRead [] result.policies result.room }
+    {
+        Reader {
+            policies: List::new(alloc),
+            room: MOST_TOKENS + 1,
         }
     }
-    Ok(made)
-}
 
-/// Adds what a line says.
-pub fn add_line(
-    alloc: Global,
-    made: &mut List<Policy>,
-    origin: &Origin,
-    line: Line<'_>,
-) -> Result<(), Memory>
-    ensures { OnOk result (made.new ≡ made.old ++ policies_of origin.now (line_said line.entry)) }
-{
-    let Line::Header { name, value } = line else {
-        return Ok(());
-    };
-    if name.eq_ignore_ascii_case(b"content-security-policy") {
-        return add_header(alloc, made, origin, Disposition::Enforce, value);
+    /// Reads a serialized policy, and adds it where it has a directive.
+    fn add_policy(
+        &mut self,
+        alloc: Global,
+        origin: &Origin,
+        disposition: Disposition,
+        meta: bool,
+        value: &[u8],
+    ) -> Result<(), Memory>
+        ensures { OnOk result ((ps : Items AnyPolicy) → AreRead ps self.old.policies self.old.room
+            → AreRead (ps ++ policy_with origin.now disposition meta (kept_of meta (directives_of value.now))) self.new.policies self.new.room) }
+    {
+        if self.policies.len() > MOST_POLICIES {
+            return Ok(());
+        }
+        let directives = read_directives(alloc, value, meta, &mut self.room)?;
+        if !directives.is_empty() {
+            self.policies.push(Policy {
+                disposition,
+                meta,
+                origin: origin.copy(alloc)?,
+                directives,
+            })?;
+        }
+        Ok(())
     }
-    if name.eq_ignore_ascii_case(b"content-security-policy-report-only") {
-        return add_header(alloc, made, origin, Disposition::Report, value);
+
+    /// Reads the policies between a header's commas.
+    fn add_policies(
+        &mut self,
+        alloc: Global,
+        origin: &Origin,
+        disposition: Disposition,
+        value: &[u8],
+    ) -> Result<(), Memory>
+        ensures { OnOk result ((ps : Items AnyPolicy) → AreRead ps self.old.policies self.old.room
+            → AreRead (ps ++ policies_in origin.now disposition value.now) self.new.policies self.new.room) }
+    {
+        for piece in value.split(|b| *b == b',') {
+            self.add_policy(alloc, origin, disposition, false, piece)?;
+        }
+        Ok(())
     }
-    if name.eq_ignore_ascii_case(b"meta-content-security-policy") {
-        let directives = for_meta(alloc, read_directives(alloc, value)?)?;
-        return add_policy(alloc, made, origin, Disposition::Enforce, true, directives);
+
+    /// Reads the policies of a header. A header of another name has none.
+    pub fn add_header(
+        &mut self,
+        alloc: Global,
+        origin: &Origin,
+        name: &[u8],
+        value: &[u8],
+    ) -> Result<(), Memory>
+        ensures { OnOk result ((ps : Items AnyPolicy) → AreRead ps self.old.policies self.old.room
+            → AreRead (ps ++ policies_of origin.now (Header name.now value.now)) self.new.policies self.new.room) }
+    {
+        if name.eq_ignore_ascii_case(b"content-security-policy") {
+            self.add_policies(alloc, origin, Disposition::Enforce, value)
+        } else if name.eq_ignore_ascii_case(b"content-security-policy-report-only") {
+            self.add_policies(alloc, origin, Disposition::Report, value)
+        } else if name.eq_ignore_ascii_case(b"meta-content-security-policy") {
+            self.add_policy(alloc, origin, Disposition::Enforce, true, value)
+        } else {
+            Ok(())
+        }
     }
-    Ok(())
+
+    /// What the policies have too much of.
+    pub fn excess(&self) -> Option<BlockError>
+        ensures { (ps : Items AnyPolicy) → AreRead ps self.now.policies self.now.room
+            → MatchOption result ((excess ps ≡ None) × (self.now.policies ≡ ps)) (λ error. excess ps ≡ Some error) }
+    {
+        if self.policies.len() > MOST_POLICIES {
+            Some(BlockError::TooManyPolicies)
+        } else if self.room == 0 {
+            Some(BlockError::TooManySources)
+        } else if longest_text(self.policies.as_slice()) > LONGEST_TEXT {
+            Some(BlockError::LongToken)
+        } else {
+            None
+        }
+    }
 }

@@ -1,0 +1,87 @@
+-- The first word of a text.
+use Rattle.std.proofs.Common.{arith, refl, sym, ap, ◌∙◌, ◌≡◌, ◌≢◌, ◌<◌, ◌+◌, ◌==◌, ℕ, Bool, true, false, cond, List, [], ◌∷◌, take, drop, length, position, Some, None, nat_lt, drop-cons, add-one, get_or, subst, zero, suc, ◌≤◌}
+use Rattle.std.specs.Char.{is_ascii_whitespace}
+use Rattle.std.specs.List.{slice_split, filter, position_or_len}
+use Rattle.std.proofs.lemmas.Grind.{common_steps}
+use Rattle.std.proofs.lemmas.List.Splits.{slice_split-cons_yes, slice_split_none, slice_split_first}
+use Rattle.std.proofs.lemmas.List.Sums.{passes_at_first, fails_before_first}
+use Rattle.csp_model.specs.Ascii.{is_ascii_text, is_nonempty, words}
+use Rattle.csp_model.specs.Reading.{back}
+
+space_first : (b : ℕ) (s : List ℕ) → is_ascii_whitespace b ≡ true → words (b ∷ s) ≡ words s
+space_first b s h = ap (filter is_nonempty) (slice_split-cons_yes is_ascii_whitespace b s h)
+
+pub words_back : (s : List ℕ) → words (back is_ascii_whitespace s) ≡ words s
+words_back [] = refl
+words_back (b ∷ s) = elim (is_ascii_whitespace b) as (λ t. is_ascii_whitespace b ≡ t → words (cond t (back is_ascii_whitespace s) (b ∷ s)) ≡ words (b ∷ s)) [
+  | true ↦ λ h. words_back s ∙ sym (space_first b s h)
+  | false ↦ λ h. refl
+] refl
+
+found_at : (b : Bool) (n at : ℕ) → cond b (Some n) None ≡ Some at → (b ≡ true) × (n ≡ at)
+found_at true n at h = (refl, cc)
+found_at false n at h = cc
+
+not_found : (b : Bool) (n : ℕ) → cond b (Some n) None ≡ None → b ≡ false
+not_found true n h = cc
+not_found false n h = refl
+
+begins_solid : (b : ℕ) (s : List ℕ) → is_ascii_whitespace b ≡ false → position is_ascii_whitespace (b ∷ s) ≢ Some 0
+begins_solid b s h k =
+    let at = found_at (nat_lt (position_or_len is_ascii_whitespace (b ∷ s)) (length (b ∷ s))) (position_or_len is_ascii_whitespace (b ∷ s)) 0 k in
+    grind (arith, common_steps, at.1)
+
+-- a trimmed text is empty, or begins with a byte that is no whitespace
+pub back_begins : (s : List ℕ) → position is_ascii_whitespace (back is_ascii_whitespace s) ≢ Some 0
+back_begins [] h = cc
+back_begins (b ∷ s) h = elim (is_ascii_whitespace b) as (λ t. is_ascii_whitespace b ≡ t → position is_ascii_whitespace (cond t (back is_ascii_whitespace s) (b ∷ s)) ≢ Some 0) [
+  | true ↦ λ k. back_begins s
+  | false ↦ λ k. begins_solid b s k
+] refl h
+
+kept_first : (x : List ℕ) (ps : List (List ℕ)) → length x ≢ 0 → filter is_nonempty (x ∷ ps) ≡ x ∷ filter is_nonempty ps
+kept_first [] ps some = absurd (some refl)
+kept_first (b ∷ x) ps some = grind (arith, common_steps)
+
+abbrev first_space : List ℕ → ℕ
+first_space s = position_or_len is_ascii_whitespace s
+
+before_space : (s : List ℕ) → first_space s < length s → first_space s ≢ 0 → words s ≡ take (first_space s) s ∷ words (drop (first_space s) s)
+before_space s within some =
+    let long : length (take (first_space s) s) ≢ 0 = grind (arith, common_steps) in
+    let rest : words (drop (first_space s) s) ≡ words (drop (suc (first_space s)) s) =
+    ap words (drop-cons s (first_space s) 0 within) ∙ space_first (get_or s (first_space s) 0) (drop (suc (first_space s)) s) (passes_at_first is_ascii_whitespace s 0 within) in
+    ap (filter is_nonempty) (slice_split_first is_ascii_whitespace s 0 within) ∙ kept_first (take (first_space s) s) (slice_split is_ascii_whitespace (drop (first_space s + 1) s)) long
+    ∙ ap (λ ws. take (first_space s) s ∷ ws) (ap (λ n. words (drop n s)) (add-one (first_space s)) ∙ sym rest)
+
+-- the word before the first whitespace
+pub word_at : (s : List ℕ) (at : ℕ) → position is_ascii_whitespace s ≡ Some at → at ≢ 0 → words s ≡ take at s ∷ words (drop at s)
+word_at s at h k =
+    let found = found_at (nat_lt (first_space s) (length s)) (first_space s) at h in
+    let within : first_space s < length s = grind (arith, found.0) in
+    subst (λ n. words s ≡ take n s ∷ words (drop n s)) found.1 (before_space s within (λ e. k (sym found.1 ∙ e)))
+
+-- a text without whitespace is one word
+pub word_alone : (s : List ℕ) → position is_ascii_whitespace s ≡ None → length s ≢ 0 → words s ≡ s ∷ []
+word_alone s h k =
+    let none = not_found (nat_lt (first_space s) (length s)) (first_space s) h in
+    let past : length s ≤ first_space s = grind (arith, none) in
+    ap (filter is_nonempty) (slice_split_none is_ascii_whitespace s (λ i d lt. fails_before_first is_ascii_whitespace s i d (omega arith))) ∙ kept_first s [] k
+
+pub no_words : (s : List ℕ) → (length s == 0) ≡ true → words s ≡ []
+no_words [] h = refl
+no_words (b ∷ s) h = absurd (let n : length (b ∷ s) ≡ 0 = grind (arith, h) in omega (arith, n))
+
+pub take_ascii : (n : ℕ) (s : List ℕ) → is_ascii_text s ≡ true → is_ascii_text (take n s) ≡ true
+take_ascii zero s h = refl
+take_ascii (suc n) [] h = refl
+take_ascii (suc n) (b ∷ s) h = grind (arith, common_steps, take_ascii n s)
+
+pub drop_ascii : (n : ℕ) (s : List ℕ) → is_ascii_text s ≡ true → is_ascii_text (drop n s) ≡ true
+drop_ascii zero s h = h
+drop_ascii (suc n) [] h = refl
+drop_ascii (suc n) (b ∷ s) h = grind (arith, common_steps, drop_ascii n s)
+
+pub back_ascii : (s : List ℕ) → is_ascii_text s ≡ true → is_ascii_text (back is_ascii_whitespace s) ≡ true
+back_ascii [] h = refl
+back_ascii (b ∷ s) h = grind (arith, common_steps, back_ascii s)

@@ -1,0 +1,59 @@
+use Rattle.std.proofs.Common.{arith, rules, ◌∙◌, ◌==◌, ◌+◌, sym, ap, subst, refl, inr, Some, append-nil}
+use Rattle.std.specs.List.{flat_map}
+use Rattle.std.proofs.lemmas.List.{length_push}
+use Rattle.std.proofs.lemmas.Iterator.Consumers.{YieldsList-at, YieldsList-end}
+use Rattle.std.proofs.lemmas.Iterator.Splits.{YieldsList-from_slice_split}
+use Rattle.csp_model.specs.Ascii.{split_at}
+use Rattle.csp_model.specs.Policies.{Skipped, Header, policies, policies_of, first_bad_from}
+use Rattle.csp_policy.specs.Reading.{AreRead}
+use Rattle.csp_policy.specs.Refusal.{refusal_at}
+use Rattle.csp_policy.proofs.LinesSoFar.{says, said, still_good, read_more, bad_at, at_turn}
+use Rattle.csp_policy.proofs.block.read_lines.Goals as goal
+
+pub loop-line-preserved-in-Skipped : goal.loop-line-preserved-in-Skipped
+loop-line-preserved-in-Skipped c =
+    let n = length_push c.loop-line.yielded c.in-Some.line in
+    record {
+      number = let number = c.loop-line.invariant.number in omega arith;
+      good = still_good c.loop-line.yielded c.in-Some.line Skipped c.in-Skipped.ensures refl c.loop-line.invariant.good;
+      read = subst (λ ps. AreRead ps c.loop-line.reader.policies c.loop-line.reader.room)
+          (sym (append-nil (flat_map (policies_of c.args.origin.now) (said c.loop-line.yielded))) ∙ read_more c.args.origin.now c.loop-line.yielded c.in-Some.line Skipped c.in-Skipped.ensures)
+          c.loop-line.invariant.read;
+    }
+
+pub loop-line-preserved : goal.loop-line-preserved
+loop-line-preserved c =
+    let n = length_push c.loop-line.yielded c.in-Some.line in
+    let header = Header c.in-Header.name.now c.in-Header.value.now in
+    record {
+      number = let number = c.loop-line.invariant.number in omega arith;
+      good = still_good c.loop-line.yielded c.in-Some.line header c.in-Header.ensures refl c.loop-line.invariant.good;
+      read = subst (λ ps. AreRead ps c.add_header.new.self.policies c.add_header.new.self.room)
+          (read_more c.args.origin.now c.loop-line.yielded c.in-Some.line header c.in-Header.ensures)
+          (c.in_ok-add_header-in-Header.ensures _ c.loop-line.invariant.read);
+    }
+
+pub returns-in-Bad-clause-bad : goal.returns-in-Bad-clause-bad
+returns-in-Bad-clause-bad c =
+    let turn = at_turn (YieldsList-at c.into_iter-line-iterator.ensures.into_iter_gives
+    (YieldsList-from_slice_split _ (λ b. b == 10) c.without_status.result.now c.split-line-items.ensures.rest c.split-line-items.ensures.done c.split-line-items.ensures.closure (λ x b q k. search rules)))
+    c.loop-line.yielded _ c.loop-line.yielded_by _ _ c.in-Some.line c.in-Some.is c.next.ensures.steps in
+    inr (ap (λ o. refusal_at o (policies c.args.bytes.now c.args.origin.now))
+    (ap (λ bytes. first_bad_from 1 (says (split_at 10 bytes))) (sym c.without_status.ensures)
+    ∙ bad_at (split_at 10 c.without_status.result.now) c.loop-line.yielded c.in-Some.line turn.0 turn.1 c.loop-line.invariant.good c.in-Bad.ensures
+    ∙ ap (λ n. Some (n + 1)) (sym c.loop-line.invariant.number)))
+
+pub returns-clause-read : goal.returns-clause-read
+returns-clause-read c =
+    let all = YieldsList-end (YieldsList-at c.into_iter-line-iterator.ensures.into_iter_gives
+    (YieldsList-from_slice_split _ (λ b. b == 10) c.without_status.result.now c.split-line-items.ensures.rest c.split-line-items.ensures.done c.split-line-items.ensures.closure (λ x b q k. search rules)))
+    c.loop-line.yielded _ c.loop-line.yielded_by _ _ c.in-None.is c.next.ensures.steps in
+    subst (λ parts. AreRead (flat_map (policies_of c.args.origin.now) (says parts)) c.loop-line.reader.policies c.loop-line.reader.room)
+    (all.0 ∙ ap (split_at 10) c.without_status.ensures) c.loop-line.invariant.read
+
+pub returns-clause-good : goal.returns-clause-good
+returns-clause-good c =
+    let all = YieldsList-end (YieldsList-at c.into_iter-line-iterator.ensures.into_iter_gives
+    (YieldsList-from_slice_split _ (λ b. b == 10) c.without_status.result.now c.split-line-items.ensures.rest c.split-line-items.ensures.done c.split-line-items.ensures.closure (λ x b q k. search rules)))
+    c.loop-line.yielded _ c.loop-line.yielded_by _ _ c.in-None.is c.next.ensures.steps in
+    ap (λ parts. first_bad_from 1 (says parts)) (sym (all.0 ∙ ap (split_at 10) c.without_status.ensures)) ∙ c.loop-line.invariant.good
