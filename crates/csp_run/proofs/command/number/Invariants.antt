@@ -1,0 +1,11 @@
+use Rattle.std.proofs.Common.{◌≡◌, take, drop, min, true}
+use Rattle.std.specs.List.{list_all}
+use Rattle.std.specs.Char.{is_ascii_digit}
+use Rattle.csp_model.specs.Grammar.{number}
+use Rattle.csp_run.proofs.command.number.Given as goal
+
+abbrev pub invariant-loop-digit : goal.invariant-loop-digit
+invariant-loop-digit l = record {
+  so_far : l.n ≡ min (number (take l.digit-index l.digits)) 65536;
+  digits : list_all is_ascii_digit (drop l.digit-index l.digits) ≡ true;
+}

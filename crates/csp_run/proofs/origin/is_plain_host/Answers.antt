@@ -1,0 +1,12 @@
+use Rattle.std.proofs.Common.{rules}
+use Rattle.std.specs.Prelude.{◌==◌}
+use Rattle.std.proofs.lemmas.Iterator.Search.{all_from_yields_List}
+use Rattle.std.proofs.lemmas.Iterator.Splits.{YieldsList-from_slice_split}
+use Rattle.csp_run.specs.Commands.{is_plain_label, is_plain_host}
+use Rattle.csp_run.proofs.origin.is_plain_host.Goals as goal
+
+pub returns : goal.returns
+unfolding is_plain_host
+returns c = all_from_yields_List is_plain_label _ _ c.all.result c.all.ensures.ran
+    (YieldsList-from_slice_split _ (λ b. b == 46) c.args.text.now c.split.ensures.rest c.split.ensures.done c.split.ensures.closure (λ x b q k. search rules))
+    (λ x b q k. search rules)

@@ -1,0 +1,102 @@
+//! The words of a command.
+ghost use Rattle.std.specs.Prelude.{◌≡◌, ◌≤◌, ◌∷◌, [], IsTrue, IfOk, None, Some, Option, MatchOption, length, min};
+ghost use Rattle.std.specs.List.{list_all};
+ghost use Rattle.std.specs.Char.{is_ascii_digit, is_ascii_lowercase};
+ghost use Rattle.csp_model.specs.Grammar.{number, are_digits};
+ghost use Rattle.csp_run.specs.Commands as commands;
+ghost use Rattle.csp_run.specs.Shown.{shown};
+
+use csp_model::{Host, Memory, Origin, Scheme, Text};
+use std::alloc::Global;
+
+/// A command, and its words.
+#[derive(Clone, Copy)]
+pub enum Command<'a> {
+    Judge {
+        origin: &'a str,
+        policy: &'a str,
+        requests: &'a str,
+    },
+    /// A form that isn't built yet.
+    Unbuilt,
+}
+
+/// The command of these words; None where they have none of the forms.
+pub fn command_of(words: &[Text]) -> Option<Command<'_>>
+    ensures { MatchOption result (commands.command_of words.now ≡ None) (λ command. commands.command_of words.now ≡ Some (shown command)) }
+{
+    match words {
+        [verb, count] => drill(verb.as_str(), count.as_str()),
+        [verb, origin, first, second] => {
+            with_two_files(
+                verb.as_str(),
+                origin.as_str(),
+                first.as_str(),
+                second.as_str(),
+            )
+        }
+        [verb, _, _, _, _] if verb.as_str() == "check" => Some(Command::Unbuilt),
+        _ => None,
+    }
+}
+
+fn drill<'a>(verb: &str, count: &str) -> Option<Command<'a>>
+    ensures { MatchOption result (commands.command_of (verb.now ∷ count.now ∷ []) ≡ None) (λ command. commands.command_of (verb.now ∷ count.now ∷ []) ≡ Some (shown command)) }
+{
+    if verb == "drill" && is_drill_number(count.as_bytes()) {
+        Some(Command::Unbuilt)
+    } else {
+        None
+    }
+}
+
+fn with_two_files<'a>(
+    verb: &str,
+    origin: &'a str,
+    first: &'a str,
+    second: &'a str,
+) -> Option<Command<'a>>
+    ensures { MatchOption result (commands.command_of (verb.now ∷ origin.now ∷ first.now ∷ second.now ∷ []) ≡ None)
+        (λ command. commands.command_of (verb.now ∷ origin.now ∷ first.now ∷ second.now ∷ []) ≡ Some (shown command)) }
+{
+    match verb {
+        "judge" => Some(Command::Judge {
+            origin,
+            policy: first,
+            requests: second,
+        }),
+        "report" | "compare" => Some(Command::Unbuilt),
+        _ => None,
+    }
+}
+
+// The number that digits spell, or 65536 where it is greater.
+fn number(digits: &[u8]) -> u32
+    requires { IsTrue (list_all is_ascii_digit digits.now) }
+    ensures { result ≡ min (number digits.now) 65536 }
+{
+    let mut n = 0;
+    for digit in digits {
+        n = (10 * n + (*digit - b'0') as u32).min(65536);
+    }
+    n
+}
+
+fn are_digits(text: &[u8]) -> bool
+    ensures { result ≡ are_digits text.now }
+{
+    !text.is_empty() && all_digits(text)
+}
+
+fn all_digits(text: &[u8]) -> bool
+    ensures { result ≡ list_all is_ascii_digit text.now }
+{
+    text.iter().all(|b| b.is_ascii_digit())
+}
+
+#[tactic(auto, unfolding(crate::specs::Commands::is_drill_number))]
+fn is_drill_number(word: &[u8]) -> bool
+    ensures { result ≡ commands.is_drill_number word.now }
+{
+    are_digits(word) && word.len() < 4 && word[0] != b'0' && number(word) <= 200
+}

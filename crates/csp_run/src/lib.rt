@@ -1,0 +1,19 @@
+//! The top call.
+#![tactic(auto)]
+
+mod answer;
+mod command;
+mod fault;
+mod lines;
+mod origin;
+mod policy;
+mod request;
+mod status;
+mod top;
+mod verdict;
+
+pub use status::{Limit, Part, Role, Status, exit_code};
+pub use top::run;
+
+#[cfg(test)]
+mod tests;
