@@ -42,12 +42,13 @@ pub none_enforced : (n : ℕ) (ps : List Policy) (asked : Check) (items : List I
 none_enforced n [] asked items are none = All-none (EnforcedAllows asked)
 none_enforced n (p ∷ ps) asked items are none =
     elim are [
-      inl kept ↦ All-cons (EnforcedAllows asked) p ps (λ _. kept.0) (none_enforced (n + 1) ps asked items kept.1 none)
-    | inr more ↦
-        let parts = or_false (is_enforced more.0) (list_any is_enforced more.1) (sym (ap (list_any is_enforced) more.2) ∙ none) in
-        All-cons (EnforcedAllows asked) p ps
+      | inl kept ↦ All-cons (EnforcedAllows asked) p ps (λ _. kept.0) (none_enforced (n + 1) ps asked items kept.1 none)
+      | inr more ↦
+          let parts = or_false (is_enforced more.0) (list_any is_enforced more.1) (sym (ap (list_any is_enforced) more.2) ∙ none) in
+          All-cons (EnforcedAllows asked) p ps
           (λ enforce. absurd (false≢true (sym parts.0 ∙ ap is_enforce (more.3.disposition ∙ enforce))))
-          (none_enforced (n + 1) ps asked more.1 more.4 parts.1) ]
+          (none_enforced (n + 1) ps asked more.1 more.4 parts.1)
+    ]
 
 -- an enforced item is of an enforced policy that doesn't allow
 pub some_enforced : (n : ℕ) (ps : List Policy) (asked : Check) (items : List Item) → AreItems n ps asked items
@@ -55,12 +56,14 @@ pub some_enforced : (n : ℕ) (ps : List Policy) (asked : Check) (items : List I
 some_enforced n [] asked items are some all = false≢true (sym (ap (list_any is_enforced) are) ∙ some)
 some_enforced n (p ∷ ps) asked items are some all =
     elim are [
-      inl kept ↦ some_enforced (n + 1) ps asked items kept.1 some (All-tail (EnforcedAllows asked) p ps all)
-    | inr more ↦
-        let here : (is_enforced more.0 || list_any is_enforced more.1) ≡ true = sym (ap (list_any is_enforced) more.2) ∙ some in
-        elim (is_enforced more.0) as (λ b. is_enforced more.0 ≡ b → ⊥) [
-          true ↦ λ e. more.3.refused (All-head (EnforcedAllows asked) p ps all (sym more.3.disposition ∙ enforce_is more.0.disposition e))
-        | false ↦ λ e. some_enforced (n + 1) ps asked more.1 more.4 (or_true (is_enforced more.0) (list_any is_enforced more.1) here e) (All-tail (EnforcedAllows asked) p ps all) ] refl ]
+      | inl kept ↦ some_enforced (n + 1) ps asked items kept.1 some (All-tail (EnforcedAllows asked) p ps all)
+      | inr more ↦
+          let here : (is_enforced more.0 || list_any is_enforced more.1) ≡ true = sym (ap (list_any is_enforced) more.2) ∙ some in
+          elim (is_enforced more.0) as (λ b. is_enforced more.0 ≡ b → ⊥) [
+            | true ↦ λ e. more.3.refused (All-head (EnforcedAllows asked) p ps all (sym more.3.disposition ∙ enforce_is more.0.disposition e))
+            | false ↦ λ e. some_enforced (n + 1) ps asked more.1 more.4 (or_true (is_enforced more.0) (list_any is_enforced more.1) here e) (All-tail (EnforcedAllows asked) p ps all)
+          ] refl
+    ]
 
 through_same : (items : List Item) → list_any is_enforced (through_enforced items) ≡ list_any is_enforced items
 through_same [] = refl
@@ -94,8 +97,9 @@ not_blocked list (asked ∷ rest) found are none =
     let parts = or_false (list_any is_enforced all) (is_blocked are.1) (sym (first_and_later asked are.0 all found are.1 are.3.2 are.2) ∙ none) in
     let allowed : ListAllows list asked = none_enforced 0 list.policies asked all are.3.1 parts.0 in
     elim are.4 [
-      inl more ↦ All-cons (ListAllows list) asked rest allowed (not_blocked list rest are.1 more.1 parts.1)
-    | inr stopped ↦ absurd (stopped.0 allowed) ]
+      | inl more ↦ All-cons (ListAllows list) asked rest allowed (not_blocked list rest are.1 more.1 parts.1)
+      | inr stopped ↦ absurd (stopped.0 allowed)
+    ]
 
 -- with an enforced item it doesn't
 pub blocked : (list : PolicyList) (checks : List Check) (found : List Finding) → AreFindings list checks found
@@ -106,7 +110,9 @@ blocked list (asked ∷ rest) found are some allowed =
     let here : (list_any is_enforced all || is_blocked are.1) ≡ true = sym (first_and_later asked are.0 all found are.1 are.3.2 are.2) ∙ some in
     let first = All-head (ListAllows list) asked rest allowed in
     elim (list_any is_enforced all) as (λ b. list_any is_enforced all ≡ b → ⊥) [
-      true ↦ λ e. some_enforced 0 list.policies asked all are.3.1 e first
-    | false ↦ λ e. elim are.4 [
-        inl more ↦ blocked list rest are.1 more.1 (or_true (list_any is_enforced all) (is_blocked are.1) here e) (All-tail (ListAllows list) asked rest allowed)
-      | inr stopped ↦ stopped.0 first ] ] refl
+      | true ↦ λ e. some_enforced 0 list.policies asked all are.3.1 e first
+      | false ↦ λ e. elim are.4 [
+        | inl more ↦ blocked list rest are.1 more.1 (or_true (list_any is_enforced all) (is_blocked are.1) here e) (All-tail (ListAllows list) asked rest allowed)
+        | inr stopped ↦ stopped.0 first
+      ]
+    ] refl

@@ -22,3 +22,6 @@ pub use source::{Algorithm, Hash, HostPart, Keyword, PathPart, PortPart, Source}
 pub use text::{Bytes, Text};
 pub use url::{Host, Origin, Scheme, Url};
 pub use verdict::{Described, Item, Verdict, Violation};
+
+#[cfg(test)]
+mod tests;

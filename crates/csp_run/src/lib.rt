@@ -12,7 +12,7 @@ mod status;
 mod top;
 mod verdict;
 
-pub use status::{Limit, Part, Role, Status, exit_code};
+pub use status::{Status, exit_code};
 pub use top::run;
 
 #[cfg(test)]

@@ -1,0 +1,159 @@
+//! Each call once with ample memory.
+use crate::{
+    Algorithm, Bytes, Capability, Check, Digests, Directive, Disposition, Duplicate, Group, Hash,
+    Host, HostPart, InlineKind, Keyword, List, Memory, Name, Origin, PathPart, Policy, PolicyList,
+    PortPart, Scheme, Source, Text, Url, Violation, name_text,
+};
+use std::alloc::Global;
+use std::test::Fail;
+
+#[test]
+fn texts_and_bytes(rt: HostRuntime) -> Result<(), Fail> {
+    let alloc = rt.alloc();
+    let text = Text::new(alloc, "é")?;
+    assert_eq!(rt; text.as_str(), "é");
+    assert!(rt; text == Text::from_string(text.copy(alloc)?.into_string()));
+    let bytes = Bytes::new(alloc, &[0, 255])?;
+    assert_eq!(rt; bytes.as_slice(), [0u8, 255].as_slice());
+    assert!(rt; bytes == Bytes::from_vec(bytes.copy(alloc)?.into_vec()));
+    Ok(())
+}
+
+#[test]
+fn lists(rt: HostRuntime) -> Result<(), Fail> {
+    let alloc = rt.alloc();
+    let mut list: List<u16> = List::new(alloc);
+    assert!(rt; list.is_empty());
+    assert_eq!(rt; list.pop(), None);
+    list.push(7)?;
+    list.push(8)?;
+    assert_eq!(rt; list.len(), 2);
+    assert_eq!(rt; list.get(1).copied(), Some(8));
+    assert_eq!(rt; list.get(2).copied(), None);
+    assert_eq!(rt; list.as_slice(), [7u16, 8].as_slice());
+    assert_eq!(rt; list.pop(), Some(8));
+    let again = List::from_vec(list.into_vec());
+    assert_eq!(rt; again.len(), 1);
+    Ok(())
+}
+
+#[test]
+fn names(rt: HostRuntime) {
+    let rows = [
+        (Group::ScriptElem.directive(), "script-src-elem"),
+        (Group::Worker.directive(), "worker-src"),
+        (InlineKind::Navigation.directive(), "script-src-elem"),
+        (InlineKind::StyleAttribute.directive(), "style-src-attr"),
+        (Name::FrameAncestors, "frame-ancestors"),
+    ];
+    for (name, text) in rows {
+        assert_eq!(rt; name_text(name), text);
+    }
+    assert_eq!(rt; Scheme::from_name("wss"), Some(Scheme::Wss));
+    assert_eq!(rt; Scheme::from_name("HTTP"), None);
+    assert_eq!(rt; Scheme::Wss.as_str(), "wss");
+    assert_eq!(rt; Scheme::Ftp.default_port(), 21);
+    assert_eq!(rt; Algorithm::from_name("sha384"), Some(Algorithm::Sha384));
+    assert_eq!(rt; Algorithm::Sha512.as_str(), "sha512");
+    assert_eq!(rt; Capability::SameOrigin.as_str(), "same-origin");
+}
+
+fn one<T: Drop>(alloc: Global, item: T) -> Result<List<T>, Memory> {
+    let mut list = List::new(alloc);
+    list.push(item)?;
+    Ok(list)
+}
+
+// A policy of the token with the hash of nothing, and a host with port and path.
+fn policy(alloc: Global) -> Result<Policy, Memory> {
+    let mut sources = one(
+        alloc,
+        Source::Digest {
+            hash: Hash {
+                algorithm: Algorithm::Sha256,
+                value: Text::new(alloc, "47DEQpj8HBSa-_TImW-5JCeuQeRkm5NMpJWZG3hSuFU=")?,
+            },
+        },
+    )?;
+    sources.push(Source::Hosted {
+        scheme: Some(Text::new(alloc, "https")?),
+        host: HostPart::Under(Text::new(alloc, "a.example")?),
+        port: PortPart::Number(80),
+        path: PathPart::Prefix(one(alloc, Bytes::new(alloc, b"x")?)?),
+    })?;
+    sources.push(Source::Word {
+        word: Keyword::SelfOrigin,
+    })?;
+    Ok(Policy {
+        disposition: Disposition::Enforce,
+        meta: false,
+        origin: Origin::Tuple {
+            scheme: Scheme::Https,
+            host: Host::Domain(Text::new(alloc, "a.example")?),
+            port: None,
+        },
+        directives: one(
+            alloc,
+            Directive {
+                name: Text::new(alloc, "script-src")?,
+                tokens: one(alloc, Text::new(alloc, "'self'")?)?,
+                sources,
+            },
+        )?,
+    })
+}
+
+#[test]
+fn copies_of_policies(rt: HostRuntime) -> Result<(), Fail> {
+    let alloc = rt.alloc();
+    let list = PolicyList {
+        policies: one(alloc, policy(alloc)?)?,
+    };
+    assert!(rt; list.copy(alloc)? == list);
+    Ok(())
+}
+
+#[test]
+fn copies_of_checks(rt: HostRuntime) -> Result<(), Fail> {
+    let alloc = rt.alloc();
+    let inline = Check::Inline {
+        kind: InlineKind::Script,
+        nonce: Text::new(alloc, "abc")?,
+        digests: Digests {
+            sha256: [1; 32],
+            sha384: [2; 48],
+            sha512: [3; 64],
+        },
+    };
+    assert!(rt; inline.copy(alloc)? == inline);
+    let fetch = Check::Fetch {
+        group: Group::Img,
+        url: Url::Hosted {
+            scheme: Scheme::Http,
+            host: Host::Address(Text::new(alloc, "10.0.0.1")?),
+            port: Some(8080),
+            path: one(alloc, Bytes::new(alloc, b"")?)?,
+        },
+        redirects: 1,
+        nonce: Text::new(alloc, "")?,
+        integrity: List::new(alloc),
+        parser_inserted: true,
+    };
+    assert!(rt; fetch.copy(alloc)? == fetch);
+    assert!(rt; fetch != inline);
+    Ok(())
+}
+
+#[test]
+fn copies_of_violations(rt: HostRuntime) -> Result<(), Fail> {
+    let alloc = rt.alloc();
+    let violation = Violation {
+        disposition: Disposition::Report,
+        effective: Name::ScriptSrcElem,
+        blocked_uri: Text::new(alloc, "https://b.example/s.js")?,
+        sample: Text::new(alloc, "")?,
+        policy: Text::new(alloc, "default-src 'self'")?,
+    };
+    assert!(rt; violation.copy(alloc)? == violation);
+    Ok(())
+}
