@@ -11,9 +11,12 @@ memory_contents m name = contents_of m.files name
 abbrev pub memory_current : MemoryInputs → Option (List ℕ)
 memory_current m = option_and_then (λ (o : Opened). name_at m.files o.place) m.opened
 
--- what is left of the current file, told until a read fails
+-- what is left of an open file, told until a read of it fails
+abbrev pub left_of : List (List ℕ × List ℕ) → Opened → Option (List ℕ)
+left_of files o = (if o.told then option_map (drop o.at) (bytes_at files o.place) else None)
+
 abbrev pub memory_left : MemoryInputs → Option (List ℕ)
-memory_left m = option_and_then (λ (o : Opened). (if o.told then option_map (drop o.at) (bytes_at m.files o.place) else None)) m.opened
+memory_left m = option_and_then (left_of m.files) m.opened
 
 abbrev pub memory_given : MemoryInputs → ℕ
 memory_given m = m.given

@@ -144,9 +144,8 @@ impl Inputs for MemoryInputs {
         };
         if fails {
             self.opened = Some(Opened {
-                place: opened.place,
-                at: opened.at,
                 told: false,
+                ..opened
             });
             self.faults = self.faults.saturating_add(1);
             return Err(Failed);
@@ -157,9 +156,8 @@ impl Inputs for MemoryInputs {
         let rest = rest_of(file.1.as_slice(), opened.at);
         let n = copy_front(rest, self.piece, into);
         self.opened = Some(Opened {
-            place: opened.place,
             at: opened.at + n,
-            told: opened.told,
+            ..opened
         });
         self.given = self.given.saturating_add(n as u64);
         Ok(n)
