@@ -131,8 +131,8 @@ pub(crate) fn nonce_source(alloc: Global, token: &[u8]) -> Result<Option<Source>
 {
     match quoted_value(b"'nonce-", token) {
         None => Ok(None),
-        Some(value) => Ok(Some(Source::Nonce {
-            value: ascii_text(alloc, value)?,
+        Some(nonce) => Ok(Some(Source::Nonce {
+            value: ascii_text(alloc, nonce)?,
         })),
     }
 }
@@ -160,10 +160,10 @@ pub(crate) fn hash_source(
 {
     match quoted_value(hash_word(algorithm).as_bytes(), token) {
         None => Ok(None),
-        Some(value) => Ok(Some(Source::Digest {
+        Some(digest) => Ok(Some(Source::Digest {
             hash: Hash {
                 algorithm,
-                value: ascii_text(alloc, value)?,
+                value: ascii_text(alloc, digest)?,
             },
         })),
     }

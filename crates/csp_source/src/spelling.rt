@@ -27,7 +27,7 @@ fn push_host(text: &mut String, host: &HostPart) -> Result<(), Memory>
     ensures { OnOk result (string_bytes text.new ≡ string_bytes text.old ++ host_spelling host.now) }
 {
     match host {
-        HostPart::Any => text.push_str("*")?,
+        HostPart::Any => text.push('*')?,
         HostPart::Under(suffix) => {
             text.push_str("*.")?;
             text.push_str(suffix.as_str())?;
@@ -44,7 +44,7 @@ fn push_port(text: &mut String, port: PortPart) -> Result<(), Memory>
         PortPart::Absent => {}
         PortPart::Any => text.push_str(":*")?,
         PortPart::Number(number) => {
-            text.push_str(":")?;
+            text.push(':')?;
             text.push_str(Buffer::new().format(number))?;
         }
         PortPart::TooLarge => text.push_str(":65536")?,
@@ -56,7 +56,7 @@ fn push_pieces(text: &mut String, pieces: &[Bytes]) -> Result<(), Memory>
     ensures { OnOk result (string_bytes text.new ≡ string_bytes text.old ++ pieces_spelling pieces.now) }
 {
     for piece in pieces {
-        text.push_str("/")?;
+        text.push('/')?;
         percent_encode(piece.as_slice(), ESCAPED).append_to(text)?;
     }
     Ok(())
@@ -70,7 +70,7 @@ fn push_path(text: &mut String, path: &PathPart) -> Result<(), Memory>
         PathPart::Exact(pieces) => push_pieces(text, pieces.as_slice())?,
         PathPart::Prefix(pieces) => {
             push_pieces(text, pieces.as_slice())?;
-            text.push_str("/")?;
+            text.push('/')?;
         }
     }
     Ok(())
@@ -81,7 +81,7 @@ fn push_quoted(text: &mut String, word: &str, value: &Text) -> Result<(), Memory
 {
     text.push_str(word)?;
     text.push_str(value.as_str())?;
-    text.push_str("'")?;
+    text.push('\'')?;
     Ok(())
 }
 
@@ -89,10 +89,10 @@ fn push_source(text: &mut String, source: &Source) -> Result<(), Memory>
     ensures { OnOk result (string_bytes text.new ≡ string_bytes text.old ++ spelling source.now) }
 {
     match source {
-        Source::Star => text.push_str("*")?,
+        Source::Star => text.push('*')?,
         Source::SchemeOnly { scheme } => {
             text.push_str(scheme.as_str())?;
-            text.push_str(":")?;
+            text.push(':')?;
         }
         Source::Hosted {
             scheme,

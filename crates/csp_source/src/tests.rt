@@ -1,7 +1,7 @@
 ghost use Rattle.std.specs.Prelude.{◌≡◌};
 ghost use Rattle.csp_model.specs.Ascii.{is_ascii_text};
 
-use crate::{read_source, source_text};
+use crate::{each_token_has_one_source, read_source, source_text};
 use csp_model::{
     Algorithm, Bytes, Hash, HostPart, Keyword, List, Memory, PathPart, PortPart, Source, Text,
 };
@@ -121,6 +121,7 @@ fn schemes(rt: HostRuntime) -> Result<(), Fail> {
 #[test]
 fn hosts(rt: HostRuntime) -> Result<(), Fail> {
     let alloc = rt.alloc();
+    each_token_has_one_source();
     assert_eq!(rt; read(alloc, &rt, "*")?, Source::Star);
     assert_eq!(rt;
         read(alloc, &rt, "self")?,
