@@ -1,6 +1,6 @@
 -- Host-sources: the reading and the grammar agree.
-use Rattle.std.proofs.Common.{arith, ◌≡◌, ◌∙◌, sym, ap, refl, ℕ, Bool, true, false, ◌&&◌, List, [], ◌∷◌, ◌++◌, length, take, drop, Some, None, nat_eq, cond, inl, inr, append_assoc}
-use Rattle.std.specs.Prelude.{slice_index, ◌-◌, codes, ⊤, Option, if◌then◌else◌, ◌==◌, ◌⊎◌}
+use Rattle.std.proofs.Common.{arith, ◌≡◌, ◌∙◌, sym, ap, refl, ℕ, Bool, true, false, ◌&&◌, List, [], ◌∷◌, ◌++◌, drop, Some, None, nat_eq, cond, inl, inr, append_assoc}
+use Rattle.std.specs.Prelude.{codes, ⊤, Option, if◌then◌else◌, ◌==◌, ◌⊎◌}
 use Rattle.std.specs.List.{list_all, slice_split, starts_with, onto_first}
 use Rattle.std.specs.Char.{is_ascii_digit}
 use Rattle.std.specs.Option.{option_map, option_and_then}
@@ -8,8 +8,8 @@ use Rattle.std.specs.Str.{bytes_eq}
 use Rattle.std.proofs.lemmas.Grind.{common_steps}
 use Rattle.std.proofs.lemmas.Slice.Eq.{bytes_eq-Decides}
 use Rattle.std.proofs.lemmas.Bool.{eqb-true}
-use Rattle.csp_model.specs.Ascii.{lower, split_at, ends_in, without_last, without_final}
-use Rattle.csp_model.specs.Grammar.{is_scheme_char, is_scheme, is_label_char, is_label, is_name, are_segments, pieces_of, IsHostSource, host_of, port_of, path_of}
+use Rattle.csp_model.specs.Ascii.{lower, ends_in, without_last, without_final}
+use Rattle.csp_model.specs.Grammar.{is_scheme_char, is_scheme, is_label_char, is_label, is_name, IsHostSource, host_of, port_of, path_of}
 use Rattle.csp_model.specs.Reading.{front, back, is_host_char, is_no_slash, authority, host_source}
 use Rattle.csp_source.proofs.EndLaws.{ends_in_front}
 use Rattle.csp_model.specs.declared.source.HostPart.{HostPart}

@@ -1,14 +1,12 @@
 -- Each token has one source: the reading and the grammar agree.
-use Rattle.std.proofs.Common.{arith, ◌≡◌, ◌∙◌, sym, ap, refl, subst, ℕ, Bool, true, false, ◌&&◌, List, [], ◌∷◌, ◌++◌, Some, None, Option, cond, inl, inr}
-use Rattle.std.specs.Prelude.{codes, ◌⊎◌, ◌≢◌, bytes_eq, unwrap_or}
+use Rattle.std.proofs.Common.{arith, ◌≡◌, ◌∙◌, sym, ap, refl, subst, ℕ, List, [], ◌∷◌, ◌++◌, Some, None, Option, inl, inr}
+use Rattle.std.specs.Prelude.{codes, ◌⊎◌, ◌≢◌}
 use Rattle.std.specs.Char.{to_ascii_lowercase}
 use Rattle.std.specs.Option.{option_map}
 use Rattle.std.proofs.lemmas.Grind.{common_steps}
-use Rattle.std.proofs.lemmas.Bool.{false≢true}
-use Rattle.std.proofs.lemmas.Slice.Eq.{bytes_eq-Decides}
 use Rattle.csp_model.specs.Ascii.{lower}
-use Rattle.csp_model.specs.Grammar.{IsKind, IsSource, IsQuoted, keyword_text, algorithm_text, is_scheme_char, is_label_char, is_name, host_of}
-use Rattle.csp_model.specs.Reading.{first_of, kind_of, source_of, scheme_source, host_source, keyword_source, nonce_source, hash_source, quoted_value, authority, front, back, is_host_char}
+use Rattle.csp_model.specs.Grammar.{IsKind, IsQuoted, keyword_text, algorithm_text, is_scheme_char, is_label_char, is_name, host_of}
+use Rattle.csp_model.specs.Reading.{first_of, kind_of, scheme_source, host_source, keyword_source, nonce_source, hash_source, quoted_value, authority, is_host_char}
 use Rattle.csp_model.specs.declared.source.Algorithm.{Algorithm}
 use Rattle.csp_model.specs.declared.source.Algorithm.TheVariants.{Sha256, Sha384, Sha512}
 use Rattle.csp_model.specs.declared.source.Hash.{Hash}
@@ -16,7 +14,7 @@ use Rattle.csp_model.specs.declared.source.Keyword.{Keyword}
 use Rattle.csp_model.specs.declared.source.Keyword.TheVariants as keyword
 use Rattle.csp_model.specs.declared.source.Source.{Source}
 use Rattle.csp_model.specs.declared.source.Source.TheVariants as source
-use Rattle.csp_source.proofs.HostLaws.{host_again, host_takes, chosen}
+use Rattle.csp_source.proofs.HostLaws.{host_again, host_takes}
 use Rattle.csp_source.proofs.SchemeLaws.{scheme_again, scheme_takes, no_host}
 use Rattle.csp_source.proofs.QuotedLaws.{keyword_is, keyword_from, keyword_again, keyword_takes, quoted_again, quoted_takes, quoted_lower, quoted_none}
 

@@ -1,5 +1,5 @@
 -- Schemes and hosts in lower case are what they were.
-use Rattle.std.proofs.Common.{arith, ◌≡◌, ◌∙◌, sym, ap, refl, subst, ℕ, Bool, true, false, ◌&&◌, ◌||◌, List, [], ◌∷◌, ◌++◌, drop, map, Some, None, Option, cond, inl, inr, nat_eq}
+use Rattle.std.proofs.Common.{arith, ◌≡◌, ◌∙◌, sym, ap, refl, subst, ℕ, Bool, true, false, ◌&&◌, ◌||◌, List, [], ◌∷◌, ◌++◌, drop, map, Some, None, cond, inl, inr, nat_eq}
 use Rattle.std.specs.Prelude.{codes, ◌⊎◌, ◌==◌, bytes_eq, if◌then◌else◌}
 use Rattle.std.specs.List.{list_all, slice_split, onto_first, starts_with}
 use Rattle.std.specs.Char.{to_ascii_lowercase, is_ascii_alphabetic}
@@ -9,7 +9,7 @@ use Rattle.std.proofs.lemmas.Bool.Decides.{nat_tests}
 use Rattle.std.proofs.lemmas.List.{map-append}
 use Rattle.std.proofs.lemmas.Slice.Eq.{bytes_eq-Decides}
 use Rattle.std.proofs.lemmas.Str.Ascii.{lowercase-lowercase}
-use Rattle.csp_model.specs.Ascii.{lower, split_at, ends_in, without_last, without_final}
+use Rattle.csp_model.specs.Ascii.{lower, split_at, without_final}
 use Rattle.csp_model.specs.Grammar.{is_scheme_char, is_scheme, is_label_char, is_label, is_name, host_of}
 use Rattle.csp_model.specs.declared.source.HostPart.{HostPart}
 use Rattle.csp_model.specs.declared.source.HostPart.TheVariants as host

@@ -1,11 +1,11 @@
 -- Sources that are a scheme alone: the reading and the grammar agree.
-use Rattle.std.proofs.Common.{arith, ◌≡◌, ◌∙◌, sym, ap, refl, ℕ, Bool, true, false, ◌&&◌, List, [], ◌∷◌, ◌++◌, Some, None, Option, cond, inl, inr, nat_eq}
-use Rattle.std.specs.Prelude.{codes, ◌⊎◌}
-use Rattle.std.specs.List.{list_all, starts_with}
-use Rattle.std.specs.Option.{option_map, option_and_then}
+use Rattle.std.proofs.Common.{arith, ◌≡◌, ◌∙◌, ap, refl, ℕ, true, ◌&&◌, List, [], ◌∷◌, ◌++◌, Some, None, Option, inl, inr}
+use Rattle.std.specs.Prelude.{codes}
+use Rattle.std.specs.List.{list_all}
+use Rattle.std.specs.Option.{option_and_then}
 use Rattle.std.proofs.lemmas.Grind.{common_steps}
 use Rattle.csp_model.specs.Ascii.{lower, ends_in, without_last}
-use Rattle.csp_model.specs.Grammar.{is_scheme_char, is_scheme, is_label_char, host_of, port_of, path_of, IsSchemeSource}
+use Rattle.csp_model.specs.Grammar.{is_scheme_char, is_scheme, is_label_char, host_of, port_of, IsSchemeSource}
 use Rattle.csp_model.specs.Reading.{front, back, is_host_char, is_no_slash, authority, host_source, scheme_source}
 use Rattle.csp_model.specs.declared.source.Source.{Source}
 use Rattle.csp_model.specs.declared.source.Source.TheVariants as source

@@ -1,26 +1,24 @@
 -- A path's spelling is read as that path.
-use Rattle.std.proofs.Common.{arith, ◌≡◌, ◌∙◌, sym, ap, refl, subst, ℕ, ◌+◌, ◌*◌, ◌/◌, ◌%◌, ◌<◌, ◌-◌, ◌≤◌, Bool, true, false, ◌&&◌, ◌||◌, List, [], ◌∷◌, ◌++◌, length, map, get_or, Some, None, Option, cond, inl, inr, zero, suc, append_assoc, append-nil, lit<}
-use Rattle.std.specs.Prelude.{codes, ◌⊎◌, ◌==◌, not, if◌then◌else◌, nat_lt, IsTrue}
-use Rattle.std.specs.List.{list_all, slice_split, onto_first, flat_map, All}
+use Rattle.std.proofs.Common.{arith, ◌≡◌, ◌∙◌, sym, ap, refl, subst, ℕ, ◌/◌, ◌%◌, ◌<◌, ◌-◌, Bool, true, false, ◌&&◌, ◌||◌, List, [], ◌∷◌, ◌++◌, length, map, get_or, Some, None, Option, cond, inl, inr, zero, suc, append-nil}
+use Rattle.std.specs.Prelude.{codes, ◌==◌, not, if◌then◌else◌}
+use Rattle.std.specs.List.{list_all, onto_first, All}
 use Rattle.std.specs.Char.{is_ascii_hexdigit}
 use Rattle.std.specs.Fmt.{digit_glyph}
-use Rattle.std.proofs.lemmas.Grind.{common_steps}
-use Rattle.std.proofs.lemmas.Bool.{false≢true, eqb-true}
+use Rattle.std.proofs.lemmas.Bool.{false≢true}
 use Rattle.std.proofs.lemmas.Bool.Decides.{nat_tests, eqb_tells}
-use Rattle.std.proofs.lemmas.List.{map-append}
 use Rattle.std.proofs.lemmas.List.Concat.{flat_map-append}
-use Rattle.std.proofs.lemmas.List.Elements.{All-nil, All-cons, All-head, All-tail}
+use Rattle.std.proofs.lemmas.List.Elements.{All-nil, All-cons}
 use Rattle.std.proofs.lemmas.List.Splits.{slice_split_none, slice_split_at}
 use Rattle.percent_encoding.specs.AsciiSet.{should_percent_encode}
 use Rattle.percent_encoding.specs.Percent.{percent_encode, percent_encode_byte, percent_decode}
 use Rattle.percent_encoding.proofs.PercentLemmas.{IsByte, IsEscapeByte, All-percent_encode, All-percent_decode, round_trip, percent_encode-nil, percent_encode_escaped, percent_encode_kept, percent_encode_nonempty, length-percent_decode}
 use Rattle.csp_model.specs.Ascii.{split_at, is_nonempty, is_ascii_text, ends_in, without_last}
-use Rattle.csp_model.specs.Grammar.{is_path_char, begins_hex_pair, is_segment, are_segments, pieces_of, path_of}
+use Rattle.csp_model.specs.Grammar.{is_path_char, is_segment, are_segments, path_of}
 use Rattle.csp_model.specs.declared.source.PathPart.{PathPart}
 use Rattle.csp_model.specs.declared.source.PathPart.TheVariants as path
 use Rattle.csp_source.specs.declared.TheConstants.{ESCAPED}
 use Rattle.csp_source.specs.Spelling.{pieces_spelling, path_spelling}
-use Rattle.csp_source.proofs.EndLaws.{ends_in-push, without_last-push}
+use Rattle.csp_source.proofs.EndLaws.{without_last-push}
 use Rattle.csp_source.proofs.HostLaws.{chosen, path_slash}
 use Rattle.csp_source.proofs.PathLaws.{first_part}
 

@@ -1,11 +1,11 @@
 -- Each token has one source: the reading and the grammar agree.
-use Rattle.std.proofs.Common.{◌≡◌, ◌∙◌, sym, ap, refl, subst, ℕ, Bool, true, false, List, Some, None, Option, cond}
+use Rattle.std.proofs.Common.{◌≡◌, ◌∙◌, sym, ap, refl, ℕ, Bool, true, false, List, Some, None, Option, cond}
 use Rattle.std.specs.Prelude.{codes, ◌≢◌, bytes_eq, unwrap_or}
 use Rattle.std.proofs.lemmas.Bool.{false≢true}
 use Rattle.std.proofs.lemmas.Slice.Eq.{bytes_eq-Decides}
 use Rattle.csp_model.specs.Grammar.{IsKind, IsSource}
 use Rattle.csp_model.specs.Grammar.{is_scheme_char, is_label_char, host_of, port_of, path_of}
-use Rattle.csp_model.specs.Reading.{kind_of, source_of, scheme_source, host_source, authority, front, back, is_host_char, is_no_slash}
+use Rattle.csp_model.specs.Reading.{kind_of, source_of, scheme_source, host_source, authority, is_host_char, is_no_slash}
 use Rattle.csp_model.specs.declared.source.HostPart.TheVariants as host
 use Rattle.csp_model.specs.declared.source.PortPart.TheVariants as port
 use Rattle.csp_model.specs.declared.source.PathPart.TheVariants as path

@@ -1,11 +1,10 @@
 -- What a source is written as reads back to it.
 use Rattle.std.proofs.Common.{arith, ◌≡◌, ◌∙◌, sym, ap, refl, subst, ℕ, Bool, true, ◌&&◌, List, [], ◌∷◌, ◌++◌, Some, None, Option, cond, false, drop, inl, inr, nat_eq}
-use Rattle.std.specs.Prelude.{codes, ◌≢◌, ◌⊎◌, ◌==◌, IsTrue, bytes_eq, nat_lt, if◌then◌else◌}
-use Rattle.std.specs.List.{list_all, starts_with}
-use Rattle.std.proofs.lemmas.Grind.{common_steps}
+use Rattle.std.specs.Prelude.{codes, ◌≢◌, ◌==◌, bytes_eq, nat_lt, if◌then◌else◌}
+use Rattle.std.specs.List.{starts_with}
 use Rattle.std.proofs.lemmas.Slice.Eq.{bytes_eq-Decides}
 use Rattle.csp_model.specs.Ascii.{lower, is_ascii_text, ends_in, without_last, split_at}
-use Rattle.csp_model.specs.Grammar.{IsKind, IsSource, IsHostSource, IsSchemePart, keyword_text, algorithm_text, is_scheme_char, is_label_char, is_name, host_of, are_digits, number, port_numbered, port_of, are_segments, pieces_of, path_of}
+use Rattle.csp_model.specs.Grammar.{IsSource, IsHostSource, IsSchemePart, keyword_text, algorithm_text, is_scheme_char, is_label_char, is_name, host_of, are_digits, number, port_numbered, port_of, are_segments, pieces_of, path_of}
 use Rattle.csp_model.specs.Reading.{source_of, host_source, authority, is_host_char, is_no_slash}
 use Rattle.csp_model.specs.declared.source.Algorithm.{Algorithm}
 use Rattle.csp_model.specs.declared.source.Algorithm.TheVariants.{Sha256, Sha384, Sha512}

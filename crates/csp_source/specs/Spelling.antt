@@ -1,6 +1,6 @@
 -- The one spelling of a source (Content Security Policy Level 3, section 2.3.1): letters in lower case where case
 -- doesn't count, ports without leading zeros, pieces of paths percent-encoded (RFC 3986, section 2.1).
-use Rattle.std.specs.Prelude.{◌≡◌, ℕ, List, [], ◌∷◌, ◌++◌, map, Option, Some, None, IsTrue, codes, decimal}
+use Rattle.std.specs.Prelude.{◌≡◌, ℕ, List, [], ◌∷◌, ◌++◌, Option, Some, None, IsTrue, codes, decimal}
 use Rattle.std.specs.List.{flat_map}
 use Rattle.percent_encoding.specs.Percent.{percent_encode}
 use Rattle.csp_model.specs.Ascii.{is_ascii_text}

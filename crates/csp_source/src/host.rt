@@ -1,5 +1,5 @@
 //! The host of a host-source.
-ghost use Rattle.std.specs.Prelude.{◌≡◌, ◌==◌, ◌≤◌, length, take, drop, IfOk, IsTrue};
+ghost use Rattle.std.specs.Prelude.{◌≡◌, ◌≤◌, length, take, drop, IfOk, IsTrue};
 ghost use Rattle.std.specs.List.{list_all};
 ghost use Rattle.csp_model.specs.Ascii.{is_ascii_text, split_at};
 ghost use Rattle.csp_model.specs.Grammar.{is_label_char, is_label, is_name, host_of};

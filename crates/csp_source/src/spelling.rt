@@ -1,5 +1,5 @@
 //! Writes a source expression.
-ghost use Rattle.std.specs.Prelude.{◌≡◌, ◌++◌, IfOk, OnOk, string_bytes, decimal, codes};
+ghost use Rattle.std.specs.Prelude.{◌≡◌, ◌++◌, IfOk, OnOk, string_bytes, codes};
 ghost use Rattle.csp_model.specs.Reading.{source_of};
 ghost use Rattle.csp_source.specs.Spelling.{scheme_spelling, host_spelling, port_spelling, pieces_spelling, path_spelling, spelling, IsRead};
 
