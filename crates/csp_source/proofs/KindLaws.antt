@@ -1,4 +1,4 @@
--- Each token has one source: the reading and the grammar agree.
+-- A token that is built as a kind is read as it, and back; "*" apart.
 use Rattle.std.proofs.Common.{arith, ◌≡◌, ◌∙◌, sym, ap, refl, subst, ℕ, List, [], ◌∷◌, ◌++◌, Some, None, Option, inl, inr}
 use Rattle.std.specs.Prelude.{codes, ◌⊎◌, ◌≢◌}
 use Rattle.std.specs.Char.{to_ascii_lowercase}

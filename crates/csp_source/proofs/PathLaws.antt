@@ -35,7 +35,7 @@ slice_split-push p (x ∷ xs) y h =
     let (q, qs, e) = first_part p xs in
     ap (λ parts. cond (p x) ([] ∷ parts) (onto_first x parts)) (slice_split-push p xs y h) ∙ split_push_by (p x) x (slice_split p xs) ([] ∷ []) q qs e
 
-nonempty : {X : Type 0} (x : X) (xs : List X) → is_nonempty (x ∷ xs) ≡ true
+pub nonempty : {X : Type 0} (x : X) (xs : List X) → is_nonempty (x ∷ xs) ≡ true
 nonempty x xs = search (rules, tests)
 
 and_true : (b : Bool) → b ≡ (b && true)

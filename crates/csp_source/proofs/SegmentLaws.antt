@@ -20,7 +20,7 @@ use Rattle.csp_source.specs.declared.TheConstants.{ESCAPED}
 use Rattle.csp_source.specs.Spelling.{pieces_spelling, path_spelling}
 use Rattle.csp_source.proofs.EndLaws.{without_last-push}
 use Rattle.csp_source.proofs.HostLaws.{chosen, path_slash}
-use Rattle.csp_source.proofs.PathLaws.{first_part}
+use Rattle.csp_source.proofs.PathLaws.{first_part, nonempty}
 
 -- a test that holds of every number below a bound, tried one by one
 below : (ℕ → Bool) → ℕ → Bool
@@ -118,9 +118,6 @@ last_empty : List (List ℕ) → Bool
 last_empty [] = true
 last_empty (s ∷ []) = not (is_nonempty s)
 last_empty (s ∷ t ∷ parts) = last_empty (t ∷ parts)
-
-nonempty : (x : ℕ) (xs : List ℕ) → is_nonempty (x ∷ xs) ≡ true
-nonempty x xs = grind (arith, nat_tests)
 
 grown : (c x : ℕ) (q : List ℕ) (qs : List (List ℕ)) → last_empty ((c ∷ x ∷ q) ∷ qs) ≡ last_empty ((x ∷ q) ∷ qs)
 unfolding last_empty

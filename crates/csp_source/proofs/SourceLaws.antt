@@ -55,7 +55,7 @@ star_kind : kind_of (codes "*") ≡ Some (source.Hosted None host.Any port.Absen
 unfolding kind_of scheme_source host_source authority is_host_char is_no_slash is_scheme_char is_label_char host_of port_of path_of
 star_kind = refl
 
--- a kind that isn't what "*" would be without its own
+-- a kind that isn't the host-source that "*" would be
 found_apart : (token : List ℕ) (s : Source) → (s ≡ source.Hosted None host.Any port.Absent path.Absent → ⊥) → kind_of token ≡ Some s → source_of token ≡ s
 found_apart token s other found = source_found token s (λ star. let e = sym found ∙ ap kind_of star ∙ star_kind in other (cc e)) found
 

@@ -47,7 +47,8 @@ fn lower_scheme(alloc: Global, letters: Option<&[u8]>) -> Result<Option<Text>, M
 fn authority(alloc: Global, letters: Option<&[u8]>, text: &[u8]) -> Result<Option<Source>, Memory>
     requires letters { IfSome letters (λ l. IsTrue (is_ascii_text l.now)) }
     requires text { IsTrue (is_ascii_text text.now) }
-    ensures { IfOk result (λ found. found ≡ authority (option_map (λ l. lower l.now) letters.entry) text.now) }
+    ensures { IfOk result
+        (λ found. found ≡ authority (option_map (λ l. lower l.now) letters.entry) text.now) }
 {
     let (name, rest) = text.split_at(host_len(text));
     let (number, pieces) = rest.split_at(len_to_slash(rest));

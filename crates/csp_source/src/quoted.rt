@@ -90,8 +90,10 @@ fn spells_word(letters: &[u8], word: &[u8]) -> bool
 /// The base64-value before an apostrophe at the end.
 fn value_before_apostrophe(rest: &[u8]) -> Option<&[u8]>
     ensures value { option_copied result
-        ≡ (if ends_in 39 rest.now && is_base64_value (without_last rest.now) then Some (without_last rest.now) else None) }
-    ensures ascii { IfSome result (λ value. IsTrue (is_ascii_text rest.now) → IsTrue (is_ascii_text value.now)) }
+        ≡ (if ends_in 39 rest.now && is_base64_value (without_last rest.now)
+        then Some (without_last rest.now) else None) }
+    ensures ascii { IfSome result
+        (λ value. IsTrue (is_ascii_text rest.now) → IsTrue (is_ascii_text value.now)) }
 {
     match rest.split_last() {
         Some((b'\'', value)) => {
@@ -110,7 +112,8 @@ fn value_before_apostrophe(rest: &[u8]) -> Option<&[u8]>
 fn quoted_value<'a>(word: &[u8], token: &'a [u8]) -> Option<&'a [u8]>
     requires { lower word.now ≡ word.now }
     ensures value { option_copied result ≡ quoted_value word.now token.now }
-    ensures ascii { IfSome result (λ value. IsTrue (is_ascii_text token.now) → IsTrue (is_ascii_text value.now)) }
+    ensures ascii { IfSome result
+        (λ value. IsTrue (is_ascii_text token.now) → IsTrue (is_ascii_text value.now)) }
 {
     if token.len() < word.len() {
         return None;

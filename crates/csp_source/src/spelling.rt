@@ -11,7 +11,8 @@ use percent_encoding::percent_encode;
 use std::alloc::Global;
 
 fn push_scheme(text: &mut String, scheme: &Option<Text>) -> Result<(), Memory>
-    ensures { OnOk result (string_bytes text.new ≡ string_bytes text.old ++ scheme_spelling scheme.now) }
+    ensures { OnOk result
+        (string_bytes text.new ≡ string_bytes text.old ++ scheme_spelling scheme.now) }
 {
     match scheme {
         None => Ok(()),
@@ -24,7 +25,8 @@ fn push_scheme(text: &mut String, scheme: &Option<Text>) -> Result<(), Memory>
 }
 
 fn push_host(text: &mut String, host: &HostPart) -> Result<(), Memory>
-    ensures { OnOk result (string_bytes text.new ≡ string_bytes text.old ++ host_spelling host.now) }
+    ensures { OnOk result
+        (string_bytes text.new ≡ string_bytes text.old ++ host_spelling host.now) }
 {
     match host {
         HostPart::Any => text.push('*')?,
@@ -38,7 +40,8 @@ fn push_host(text: &mut String, host: &HostPart) -> Result<(), Memory>
 }
 
 fn push_port(text: &mut String, port: PortPart) -> Result<(), Memory>
-    ensures { OnOk result (string_bytes text.new ≡ string_bytes text.old ++ port_spelling port) }
+    ensures { OnOk result
+        (string_bytes text.new ≡ string_bytes text.old ++ port_spelling port) }
 {
     match port {
         PortPart::Absent => {}
@@ -53,7 +56,8 @@ fn push_port(text: &mut String, port: PortPart) -> Result<(), Memory>
 }
 
 fn push_pieces(text: &mut String, pieces: &[Bytes]) -> Result<(), Memory>
-    ensures { OnOk result (string_bytes text.new ≡ string_bytes text.old ++ pieces_spelling pieces.now) }
+    ensures { OnOk result
+        (string_bytes text.new ≡ string_bytes text.old ++ pieces_spelling pieces.now) }
 {
     for piece in pieces {
         text.push('/')?;
@@ -63,7 +67,8 @@ fn push_pieces(text: &mut String, pieces: &[Bytes]) -> Result<(), Memory>
 }
 
 fn push_path(text: &mut String, path: &PathPart) -> Result<(), Memory>
-    ensures { OnOk result (string_bytes text.new ≡ string_bytes text.old ++ path_spelling path.now) }
+    ensures { OnOk result
+        (string_bytes text.new ≡ string_bytes text.old ++ path_spelling path.now) }
 {
     match path {
         PathPart::Absent => {}
@@ -77,7 +82,8 @@ fn push_path(text: &mut String, path: &PathPart) -> Result<(), Memory>
 }
 
 fn push_quoted(text: &mut String, word: &str, value: &Text) -> Result<(), Memory>
-    ensures { OnOk result (string_bytes text.new ≡ string_bytes text.old ++ (word.now ++ (value.now ++ codes "'"))) }
+    ensures { OnOk result
+        (string_bytes text.new ≡ string_bytes text.old ++ (word.now ++ (value.now ++ codes "'"))) }
 {
     text.push_str(word)?;
     text.push_str(value.as_str())?;
@@ -86,7 +92,8 @@ fn push_quoted(text: &mut String, word: &str, value: &Text) -> Result<(), Memory
 }
 
 fn push_source(text: &mut String, source: &Source) -> Result<(), Memory>
-    ensures { OnOk result (string_bytes text.new ≡ string_bytes text.old ++ spelling source.now) }
+    ensures { OnOk result
+        (string_bytes text.new ≡ string_bytes text.old ++ spelling source.now) }
 {
     match source {
         Source::Star => text.push('*')?,
