@@ -5,3 +5,5 @@ pub mod Readable
 pub mod Shortened
 pub mod Seen
 pub mod LinesSoFar
+pub mod Joined
+pub mod Tokens

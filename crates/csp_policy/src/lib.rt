@@ -8,8 +8,12 @@ mod lines;
 mod longest;
 mod names;
 mod policy;
+mod print;
+#[cfg(test)]
+mod tests;
 mod texts;
 mod words;
 
 pub use block::read_block;
 pub use error::BlockError;
+pub use print::policy_text;

@@ -5,6 +5,8 @@ ghost use Rattle.std.specs.Str.Lines.{strip_carriage_return};
 ghost use Rattle.csp_model.specs.Policies.{is_token_char, is_field_name, is_field_value, header_of, line_of, is_bad, is_colon, is_newline, without_status};
 ghost use Rattle.csp_policy.specs.Lines.{line_said};
 
+use http_header::is_token;
+
 /// What a line of a header block says.
 #[derive(Clone, Copy, Debug)]
 pub enum Line<'a> {
@@ -13,24 +15,11 @@ pub enum Line<'a> {
     Header { name: &'a [u8], value: &'a [u8] },
 }
 
-#[tactic(auto, unfolding(csp_model::specs::Policies::is_token_char))]
-fn is_token_char(b: u8) -> bool
-    ensures { result ≡ is_token_char b }
-{
-    b.is_ascii_alphanumeric() || b"!#$%&'*+-.^_`|~".contains(&b)
-}
-
-fn all_token_chars(name: &[u8]) -> bool
-    ensures { result ≡ list_all is_token_char name.now }
-{
-    name.iter().all(|b| is_token_char(*b))
-}
-
 #[tactic(auto, unfolding(csp_model::specs::Policies::is_field_name))]
 fn is_field_name(name: &[u8]) -> bool
     ensures { result ≡ is_field_name name.now }
 {
-    !name.is_empty() && name.len() < 65536 && all_token_chars(name)
+    name.len() < 65536 && is_token(name)
 }
 
 #[tactic(auto, unfolding(csp_model::specs::Policies::is_field_value))]
