@@ -4,6 +4,7 @@ pub mod Governing
 pub mod Grammar
 pub mod Inclusion
 pub mod Inline
+pub mod Laws
 pub mod Matching
 pub mod Names
 pub mod Navigation

@@ -3,6 +3,7 @@
 
 mod check;
 mod copies;
+pub mod laws;
 mod list;
 mod memory;
 mod name;
