@@ -1,11 +1,9 @@
 -- Tests that decide relations, made of the tests of their parts.
-use Rattle.std.proofs.Common.{◌≡◌, ◌≢◌, ℕ, ◌<◌, Bool, true, false, not, ◌&&◌, ◌||◌, ◌==◌, List, [], ◌∷◌, length, slice_index_or, Option, Some, None, Any, All, Contains, refl, sym, ap, ◌∙◌, inl, inr, ◌⊎◌, subst, is_none, arith}
+use Rattle.std.proofs.Common.{◌≡◌, ◌≢◌, ℕ, Bool, true, false, not, ◌&&◌, ◌||◌, ◌==◌, List, [], ◌∷◌, length, slice_index_or, Option, Some, None, Any, All, Contains, refl, sym, ap, ◌∙◌, inl, inr, ◌⊎◌, subst, is_none, arith}
 use Rattle.std.specs.Bool.{Decides}
 use Rattle.std.specs.List.{list_any, list_all}
-use Rattle.std.specs.Str.{bytes_eq}
 use Rattle.std.proofs.lemmas.Bool.{false≢true, lt-ltb}
 use Rattle.std.proofs.lemmas.Bool.Decides.{Decides-and, Decides-or, Decides-like, Decides-by_and, Decides-eqb}
-use Rattle.std.proofs.lemmas.Slice.Eq.{bytes_eq-Decides}
 use Rattle.csp_model.specs.Ascii.{is_nonempty}
 use Rattle.csp_model.proofs.AnyCases.{Any-none, Any-here, Any-later, first_or_later}
 

@@ -1,13 +1,12 @@
 -- Tests that decide whether a policy allows a fetch.
-use Rattle.std.proofs.Common.{◌≡◌, ◌≢◌, ℕ, Bool, true, false, not, ◌&&◌, ◌||◌, List, Option, Some, None, refl, ◌⊎◌}
+use Rattle.std.proofs.Common.{◌≡◌, ℕ, Bool, true, false, not, ◌&&◌, ◌||◌, List, Option, Some, None, refl}
 use Rattle.std.specs.Bool.{Decides}
 use Rattle.std.specs.Option.{MatchOption}
-use Rattle.std.proofs.lemmas.Bool.Decides.{Decides-and, Decides-or, Decides-not, Decides-like}
+use Rattle.std.proofs.lemmas.Bool.Decides.{Decides-and, Decides-or, Decides-not}
 use Rattle.csp_model.specs.Names.{group_directive}
 use Rattle.csp_model.specs.Governing.{governing_name, governing_directive, WhereGoverned}
 use Rattle.csp_model.specs.Fetch.{is_redirected, DynamicOrListed, ScriptAllows, WorkerAllows, SourcesAllow, FetchAllows}
 use Rattle.csp_model.specs.Matching.{ListMatches}
-use Rattle.csp_model.specs.Tokens.{HasKeyword, NonceMatches, IntegrityMatches}
 use Rattle.csp_model.proofs.Deciding.{no, yes, is_false}
 use Rattle.csp_model.proofs.DecidingMatches.{list_matches, list_decides}
 use Rattle.csp_model.proofs.DecidingTokens.{has_keyword, keyword_decides, nonce_matches, nonce_decides, integrity_matches, integrity_decides}

@@ -1,12 +1,12 @@
 -- Tests that decide whether a policy allows inline code and style, string compilation and WebAssembly.
-use Rattle.std.proofs.Common.{◌≡◌, ℕ, Bool, true, false, not, ◌&&◌, ◌||◌, List, Any, refl, ◌⊎◌}
+use Rattle.std.proofs.Common.{ℕ, Bool, true, false, not, ◌&&◌, ◌||◌, List, refl, ◌⊎◌}
 use Rattle.std.specs.Bool.{Decides}
 use Rattle.std.specs.List.{list_any}
 use Rattle.std.proofs.lemmas.Bool.{false≢true}
 use Rattle.std.proofs.lemmas.Bool.Decides.{Decides-and, Decides-or, Decides-not, Decides-like}
 use Rattle.csp_model.specs.Names.{inline_directive}
-use Rattle.csp_model.specs.Inline.{IsElementKind, IsScriptKind, IsNonceOrHash, AllowsAllInline, HashCounts, SourcesAllowInline, InlineAllows, EvalAllows, WasmAllows}
-use Rattle.csp_model.specs.Tokens.{HasKeyword, NonceMatches, DigestsMatch}
+use Rattle.csp_model.specs.Inline.{IsElementKind, IsScriptKind, IsNonceOrHash, AllowsAllInline, SourcesAllowInline, InlineAllows, EvalAllows, WasmAllows}
+use Rattle.csp_model.specs.Tokens.{HasKeyword}
 use Rattle.csp_model.proofs.Deciding.{no, yes, both3, any_decides}
 use Rattle.csp_model.proofs.DecidingTokens.{has_keyword, keyword_decides, nonce_matches, nonce_decides, digests_match, digests_decide}
 use Rattle.csp_model.proofs.DecidingFetch.{where_governed, governed_decides}

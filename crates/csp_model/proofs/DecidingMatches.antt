@@ -1,5 +1,5 @@
 -- Tests that decide what source expressions match.
-use Rattle.std.proofs.Common.{◌≡◌, ◌≢◌, ℕ, Bool, true, false, not, ◌&&◌, ◌||◌, ◌==◌, List, [], ◌∷◌, ◌++◌, zero, suc, Option, Some, None, Any, refl, sym, ap, ◌∙◌, inl, inr, ◌⊎◌, IsTrue, is_none, arith}
+use Rattle.std.proofs.Common.{◌≡◌, ◌≢◌, ℕ, Bool, true, false, not, ◌&&◌, ◌||◌, ◌==◌, List, [], ◌∷◌, ◌++◌, zero, suc, Option, Some, None, refl, sym, ap, inl, inr, ◌⊎◌, is_none}
 use Rattle.std.specs.Prelude.{unwrap_or}
 use Rattle.std.specs.Bool.{Decides}
 use Rattle.std.specs.List.{list_any}

@@ -1,5 +1,5 @@
 -- Tests that decide keywords, nonces, integrity and digests.
-use Rattle.std.proofs.Common.{◌≡◌, ◌≢◌, ℕ, zero, suc, Bool, true, false, ◌&&◌, ◌==◌, List, [], ◌∷◌, slice_index_or, All, Any, Contains, refl, ap, ◌∙◌}
+use Rattle.std.proofs.Common.{◌≡◌, ℕ, Bool, false, ◌&&◌, ◌==◌, List, [], ◌∷◌, slice_index_or, Contains, refl, ap, ◌∙◌}
 use Rattle.std.specs.Bool.{Decides}
 use Rattle.std.specs.List.{list_any, list_all}
 use Rattle.std.specs.Str.{bytes_eq}
@@ -9,7 +9,7 @@ use Rattle.base64.specs.GeneralPurpose.{encode_of}
 use Rattle.base64.specs.Engines.{standard}
 use Rattle.csp_model.specs.Ascii.{is_nonempty}
 use Rattle.csp_model.specs.Reading.{keywords}
-use Rattle.csp_model.specs.Tokens.{HasKeyword, NonceMatches, IntegrityMatches, digest_by, plain_value, StandsFor, IsHashOf, DigestsMatch}
+use Rattle.csp_model.specs.Tokens.{HasKeyword, NonceMatches, IntegrityMatches, digest_by, plain_value, IsHashOf, DigestsMatch}
 use Rattle.csp_model.proofs.Deciding.{no, any_decides, all_decides, has_decides, coded, nonempty_decides}
 use Rattle.csp_model.specs.declared.source.Algorithm.{Algorithm}
 use Rattle.csp_model.specs.declared.source.Algorithm.TheVariants.{Sha256, Sha384, Sha512}

@@ -1,6 +1,6 @@
 -- Values that the examples speak of: URLs, checks, lists and verdicts.
-use Rattle.std.proofs.Common.{◌≡◌, ℕ, Bool, true, false, List, [], ◌∷◌, Option, Some, None, subst, ◌∙◌}
-use Rattle.std.specs.Prelude.{codes}
+use Rattle.std.proofs.Common.{◌≡◌, ℕ, true, false, List, [], ◌∷◌, None, subst, ◌∙◌}
+use Rattle.std.specs.Prelude.{codes, ◌+◌, ◌-◌, ◌*◌, nat_lt, if◌then◌else◌}
 use Rattle.csp_model.specs.Policies.{policies}
 use Rattle.csp_model.specs.Verdict.{IsVerdict}
 use Rattle.csp_model.proofs.DecidingVerdict.{verdict_of, has_verdict}
@@ -8,12 +8,12 @@ use Rattle.csp_model.proofs.OneVerdict.{only_verdict}
 use Rattle.csp_model.specs.declared.name.Name.{Name}
 use Rattle.csp_model.specs.declared.check.Check.{Check}
 use Rattle.csp_model.specs.declared.check.Check.TheVariants as check
-use Rattle.csp_model.specs.declared.check.Group.{Group}
+use Rattle.csp_model.specs.declared.check.Digests.{Digests}
 use Rattle.csp_model.specs.declared.check.Group.TheVariants as group
 use Rattle.csp_model.specs.declared.policy.Disposition.TheVariants.{Enforce, Report}
 use Rattle.csp_model.specs.declared.policy.PolicyList.{PolicyList}
 use Rattle.csp_model.specs.declared.url.Scheme.{Scheme}
-use Rattle.csp_model.specs.declared.url.Scheme.TheVariants.{Http, Https}
+use Rattle.csp_model.specs.declared.url.Scheme.TheVariants.{Https}
 use Rattle.csp_model.specs.declared.url.Host.TheVariants as host
 use Rattle.csp_model.specs.declared.url.Origin.{Origin}
 use Rattle.csp_model.specs.declared.url.Origin.TheVariants as origin
@@ -40,6 +40,26 @@ script there = check.Fetch group.ScriptElem there 0 [] [] false
 -- the policies of a header block on a page of https://a.example
 abbrev pub block : List ℕ → PolicyList
 block bytes = record { policies = policies bytes own }
+
+-- the policies of a header block on a page of another origin
+abbrev pub block_at : Origin → List ℕ → PolicyList
+block_at origin bytes = record { policies = policies bytes origin }
+
+-- the bytes that lower-case hexadecimal digits spell
+abbrev hex_digit : ℕ → ℕ
+hex_digit c = if nat_lt c 58 then c - 48 else c - 87
+
+abbrev pub from_hex : List ℕ → List ℕ
+from_hex (a ∷ b ∷ rest) = (16 * hex_digit a + hex_digit b) ∷ from_hex rest
+from_hex rest = []
+
+-- the digests of the empty text
+abbrev pub of_nothing : Digests
+of_nothing = record {
+  sha256 = from_hex (codes "e3b0c44298fc1c149afbf4c8996fb92427ae41e4649b934ca495991b7852b855");
+  sha384 = from_hex (codes "38b060a751ac96384cd9327eb1b1e36a21fdb71114be07434c0cc7bf63f6e1da274edebfe76f65fbd51ad2f14898b95b");
+  sha512 = from_hex (codes "cf83e1357eefb8bdf1542850d66d8007d620e4050b5715dc83f4a921d36ce9ce47d0d13c5d85f2b0ff8318d2877eec2f63b931bd47417a81a538327af927da3e")
+}
 
 abbrev pub enforced : ℕ → Name → Name → Item
 enforced policy effective governing = record { policy = policy; disposition = Enforce; effective = effective; governing = governing }

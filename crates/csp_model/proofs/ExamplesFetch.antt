@@ -7,7 +7,7 @@ use Rattle.csp_model.specs.declared.check.Check.TheVariants as check
 use Rattle.csp_model.specs.declared.check.Group.TheVariants as group
 use Rattle.csp_model.specs.declared.name.Name.TheVariants.{ScriptSrcElem, DefaultSrc, ImgSrc, ScriptSrc}
 use Rattle.csp_model.specs.declared.policy.PolicyList.{PolicyList}
-use Rattle.csp_model.specs.declared.url.Scheme.TheVariants.{Http, Https}
+use Rattle.csp_model.specs.declared.url.Scheme.TheVariants.{Https}
 use Rattle.csp_model.specs.declared.url.Url.{Url}
 use Rattle.csp_model.specs.declared.check.Check.{Check}
 

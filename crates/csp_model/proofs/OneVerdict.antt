@@ -1,10 +1,10 @@
 -- A request has one verdict.
-use Rattle.std.proofs.Common.{◌≡◌, ℕ, ◌+◌, Bool, true, false, cond, List, [], ◌∷◌, ◌++◌, map, Option, Some, sym, ap, ◌∙◌, inl, inr}
+use Rattle.std.proofs.Common.{◌≡◌, ℕ, ◌+◌, Bool, false, cond, List, [], ◌∷◌, ◌++◌, map, Option, sym, ap, ◌∙◌, inl, inr}
 use Rattle.std.specs.Prelude.{unwrap_or}
 use Rattle.std.specs.List.{list_any}
 use Rattle.std.proofs.lemmas.Bool.{cond-true, cond-false, false_from_ne_true}
 use Rattle.csp_model.specs.Verdict.{effective_name, IsItem, AreItems, is_enforced, shown_items, Finding, findings, AreFindings, IsVerdict}
-use Rattle.csp_model.proofs.DecidingVerdict.{allows, allows_decides, list_allows, list_allows_decides, governing_or_own, item_of, items_of, findings_of, verdict_of}
+use Rattle.csp_model.proofs.DecidingVerdict.{allows, allows_decides, list_allows, list_allows_decides, item_of, items_of, findings_of, verdict_of}
 use Rattle.csp_model.specs.declared.name.Name.{Name}
 use Rattle.csp_model.specs.declared.check.Check.{Check}
 use Rattle.csp_model.specs.declared.policy.Disposition.{Disposition}
