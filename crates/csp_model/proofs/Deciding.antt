@@ -13,6 +13,13 @@ no none = (λ h. absurd (false≢true h), λ p. absurd (none p))
 pub yes : {P : Type 0} → P → Decides true P
 yes p = (λ _. p, λ _. refl)
 
+-- what a decided test shows
+pub holds : {P : Type 0} {b : Bool} → Decides b P → b ≡ true → P
+holds decided e = decided.0 e
+
+pub fails : {P : Type 0} {b : Bool} → Decides b P → b ≡ false → ¬ P
+fails {b = b} decided e p = false≢true (sym e ∙ decided.1 p)
+
 pub itself : (b : Bool) → Decides b (b ≡ true)
 itself b = (λ h. h, λ h. h)
 

@@ -20,6 +20,13 @@ pub fn a_verdict_blocks_what_the_list_refuses()
         → IsVerdict list checks verdict → (IsFalse verdict.blocked ↔ AllowsAll list checks) }
 {}
 
+/// Each request has one verdict.
+pub fn a_request_has_one_verdict()
+    ensures some { (list : PolicyListValue) (checks : List CheckValue) → (verdict : VerdictValue) × IsVerdict list checks verdict }
+    ensures one { (list : PolicyListValue) (checks : List CheckValue) (first second : VerdictValue)
+        → IsVerdict list checks first → IsVerdict list checks second → first ≡ second }
+{}
+
 /// Policies that are added to a list can only forbid more: two lists joined allow what both of them allow.
 pub fn joined_lists_allow_what_both_allow()
     ensures { (first second : PolicyListValue) (asked : CheckValue)
