@@ -1,0 +1,64 @@
+-- Base64-values and the bytes that they stand for.
+use Rattle.std.specs.Prelude.{⊤, MatchResult}
+use Rattle.std.proofs.Common.{subst}
+use Rattle.std.proofs.Common.{◌≡◌, ℕ, ◌+◌, ◌<◌, ◌≤◌, List, length, take, map, get_or, arith, sym, ap, refl, inl, inr, lit<, ◌∙◌, Ok, Err, Result, length-append}
+use Rattle.std.proofs.lemmas.Bool.{cases_lt}
+use Rattle.std.proofs.lemmas.List.{length-map, length-replicate, get_or-map, length-take-le, get_or_past}
+use Rattle.std.proofs.lemmas.Grind.{common_steps}
+use Rattle.base64.specs.Engines.{standard}
+use Rattle.base64.specs.GeneralPurpose.{encode_of, decode_of, IsBytes, IsStrict, IsDecodedInto}
+use Rattle.base64.specs.Rfc4648.{unpadded_len, padding_len}
+use Rattle.base64.specs.declared.decode.DecodeError.{DecodeError}
+use Rattle.base64.proofs.EngineFacts.{decode_of-encode_of, decode_of_strict}
+use Rattle.base64.proofs.RoundTrip.{length-encode_symbols}
+use Rattle.csp_model.specs.Tokens.{plain_value}
+use Rattle.csp_token.specs.Digests.{plain_symbol}
+
+pub length-encode_of : (d : List ℕ) → length (encode_of standard d) ≡ unpadded_len (length d) + padding_len (length d)
+length-encode_of d = simp (length-append, length-encode_symbols, length-replicate)
+
+pub length-plain_value : (v : List ℕ) → length (plain_value v) ≡ length v
+length-plain_value v = simp length-map
+
+pub short : (v d : List ℕ) (n : ℕ) → length d ≡ n → n ≤ 64 → plain_value v ≡ encode_of standard d → length v ≤ 88
+short v d n len small eq =
+    let a : length v ≡ length (encode_of standard d) = sym (length-plain_value v) ∙ ap length eq in
+    let b = length-encode_of d in
+    omega arith
+
+-- what decodes to bytes is the encoding of no others
+pub decodes_back : (d : List ℕ) → IsBytes d → decode_of standard (encode_of standard d) ≡ Ok d
+decodes_back d bytes = decode_of-encode_of standard d refl bytes
+
+pub encode_of_injective : (d e : List ℕ) → IsBytes d → IsBytes e → encode_of standard d ≡ encode_of standard e → d ≡ e
+encode_of_injective d e db eb eq =
+    let a = decodes_back d db in
+    let b = rw (← eq) at (decodes_back e eb) in
+    cc (a, b)
+
+pub refused : (v d : List ℕ) (e : DecodeError) → IsBytes d → plain_value v ≡ encode_of standard d → decode_of standard (plain_value v) ≡ Err e → ⊥
+refused v d e bytes eq err =
+    let a = decodes_back d bytes in
+    let b : decode_of standard (encode_of standard d) ≡ Err e = rw eq at err in
+    cc (a, b)
+
+pub plain_small : (b : ℕ) → b < 256 → plain_symbol b < 256
+plain_small b h = grind (arith, common_steps)
+
+pub same_size : (v d old new : List ℕ) (n count : ℕ) → IsBytes d → length d ≡ n → length new ≡ length old → plain_value v ≡ encode_of standard d → IsDecodedInto standard (plain_value v) count old new → count ≡ n
+same_size v d old new n count bytes len same eq into =
+    let a = decodes_back d bytes in
+    let b : decode_of standard (encode_of standard d) ≡ Ok (take count new) = rw eq at into.0 in
+    let e : d ≡ take count new = cc (a, b) in
+    let g = into.2 in
+    let f : count ≤ length new = omega (arith, g) in
+    sym (length-take-le count new f) ∙ (ap length (sym e) ∙ len)
+
+pub IsBytes-plain_value : (v : List ℕ) → IsBytes v → IsBytes (plain_value v)
+IsBytes-plain_value v h = λ i. elim (cases_lt i (length v)) [
+  | inl lt ↦ rw (get_or-map plain_symbol v i 0 0 lt) (plain_small (get_or v i 0) (h i))
+  | inr ge ↦
+      let past : length (plain_value v) ≤ i = simp length-map ge in
+      rw (get_or_past (plain_value v) i 0 past) (lit< tt)
+]
+
