@@ -20,10 +20,13 @@ fn is_nonce(source: &Source, nonce: &str) -> bool
     }
 }
 
-fn has_nonce(sources: &[Source], nonce: &str) -> bool
+fn has_nonce(sources: &List<Source>, nonce: &str) -> bool
     ensures { IsTrue result ↔ Contains sources.now (Source.Nonce nonce.now) }
 {
-    sources.iter().any(|source| is_nonce(source, nonce))
+    sources
+        .as_slice()
+        .iter()
+        .any(|source| is_nonce(source, nonce))
 }
 
 /// Whether a nonce matches a source list (Content Security Policy Level 3, section 6.7.2.3): it isn't empty, and
@@ -31,7 +34,7 @@ fn has_nonce(sources: &[Source], nonce: &str) -> bool
 pub fn nonce_matches(nonce: &Text, sources: &List<Source>) -> bool
     ensures { IsTrue result ↔ NonceMatches nonce.now sources.now }
 {
-    !is_same(nonce.as_str(), "") && has_nonce(sources.as_slice(), nonce.as_str())
+    !is_same(nonce.as_str(), "") && has_nonce(sources, nonce.as_str())
 }
 
 fn is_hash(source: &Source, pair: &Hash) -> bool
@@ -45,16 +48,19 @@ fn is_hash(source: &Source, pair: &Hash) -> bool
     }
 }
 
-fn has_hash(sources: &[Source], pair: &Hash) -> bool
+fn has_hash(sources: &List<Source>, pair: &Hash) -> bool
     ensures { IsTrue result ↔ Contains sources.now (Source.Digest pair.now) }
 {
-    sources.iter().any(|source| is_hash(source, pair))
+    sources
+        .as_slice()
+        .iter()
+        .any(|source| is_hash(source, pair))
 }
 
-fn has_hashes(sources: &[Source], pairs: &[Hash]) -> bool
+fn has_hashes(sources: &List<Source>, pairs: &List<Hash>) -> bool
     ensures { IsTrue result ↔ All (λ pair. Contains sources.now (Source.Digest pair)) pairs.now }
 {
-    pairs.iter().all(|pair| has_hash(sources, pair))
+    pairs.as_slice().iter().all(|pair| has_hash(sources, pair))
 }
 
 /// Whether integrity metadata matches a source list (Content Security Policy Level 3, section 6.7.2.4): it isn't
@@ -64,5 +70,5 @@ fn has_hashes(sources: &[Source], pairs: &[Hash]) -> bool
 pub fn integrity_matches(integrity: &List<Hash>, sources: &List<Source>) -> bool
     ensures { IsTrue result ↔ IntegrityMatches integrity.now sources.now }
 {
-    !integrity.is_empty() && has_hashes(sources.as_slice(), integrity.as_slice())
+    !integrity.is_empty() && has_hashes(sources, integrity)
 }
