@@ -61,4 +61,3 @@ IsBytes-plain_value v h = λ i. elim (cases_lt i (length v)) [
       let past : length (plain_value v) ≤ i = simp length-map ge in
       rw (get_or_past (plain_value v) i 0 past) (lit< tt)
 ]
-

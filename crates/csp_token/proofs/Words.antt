@@ -57,4 +57,4 @@ pub YieldsList-words : {s : _} (bs : List ℕ) → split_ascii_whitespace_text s
 YieldsList-words {s} bs is = rw (← is) (YieldsList-from_shown split_ascii_whitespace_steps (λ x. x.now) (λ s. words (split_ascii_whitespace_text s))
     (λ s t h. ap length (only_gap (split_ascii_whitespace_text s) h.0))
     (λ s x t h. let gap = h.3.0 in let sep = h.3.1 in
-      rw h.3.2 (gap_passed gap (x.now ++ (sep ++ split_ascii_whitespace_text t)) h.3.3 ∙ first_word x.now sep (split_ascii_whitespace_text t) h.0 h.1 h.3.4)) s)
+    rw h.3.2 (gap_passed gap (x.now ++ (sep ++ split_ascii_whitespace_text t)) h.3.3 ∙ first_word x.now sep (split_ascii_whitespace_text t) h.0 h.1 h.3.4)) s)

@@ -43,31 +43,19 @@ fn sources(alloc: Global) -> Result<List<Source>, Memory> {
     Ok(made)
 }
 
-// Whether the digests are these in hexadecimal.
-fn are(found: &Digests, sha256: &str, sha384: &str, sha512: &str) -> bool {
-    let mut room = [0; 128];
-    is_hex(&found.sha256, sha256, &mut room)
-        && is_hex(&found.sha384, sha384, &mut room)
-        && is_hex(&found.sha512, sha512, &mut room)
-}
-
-fn is_hex(bytes: &[u8], text: &str, room: &mut [u8; 128]) -> bool {
-    match hex::decode_to_slice(text, &mut room[..bytes.len()]) {
-        Ok(()) => bytes == &room[..bytes.len()],
-        Err(_) => false,
-    }
-}
-
-struct Vector {
-    message: &'static [u8],
+// A message and its digests in hexadecimal.
+#[derive(Drop)]
+struct Vector<'a> {
+    message: &'a [u8],
     sha256: &'static str,
     sha384: &'static str,
     sha512: &'static str,
 }
 
 #[test]
-fn digests_of_the_standard(_rt: HostRuntime) -> Result<(), Fail> {
-    let million = [b'a'; 1_000_000];
+fn digests_of_the_standard(rt: HostRuntime) -> Result<(), Fail> {
+    let alloc = rt.alloc();
+    let million = vec![in alloc; b'a'; 1_000_000]?;
     let rows = [
         Vector {
             message: b"",
@@ -96,19 +84,17 @@ fn digests_of_the_standard(_rt: HostRuntime) -> Result<(), Fail> {
             sha512: "8e959b75dae313da8cf4f72814fc143f8f7779c6eb9f7fa17299aeadb6889018501d289e4900f7e4331b99dec4b5433ac7d329eeb6dd26545e96e55b874be909",
         },
         Vector {
-            message: &million,
+            message: million.as_slice(),
             sha256: "cdc76e5c9914fb9281a1c7e284d73e67f1809a48a497200e046d39ccc7112cd0",
             sha384: "9d0e1809716474cb086e834e310a4a1ced149e9c00f248527972cec5704c2a5b07b8b3dc38ecc4ebae97ddd87f3d8985",
             sha512: "e718483d0ce769644e2e42c7bc15b4638e1f98b13b2044285632a803afa973ebde0ff244877ea60a4cb0432ce577c31beb009c5c2c49aa2e4eadb217ad8cc09b",
         },
     ];
     for row in &rows {
-        test::expect(are(
-            &digests(row.message),
-            row.sha256,
-            row.sha384,
-            row.sha512,
-        ))?;
+        let found = digests(row.message);
+        assert_eq!(rt; hex::encode(alloc, &found.sha256)?.as_str(), row.sha256);
+        assert_eq!(rt; hex::encode(alloc, &found.sha384)?.as_str(), row.sha384);
+        assert_eq!(rt; hex::encode(alloc, &found.sha512)?.as_str(), row.sha512);
     }
     Ok(())
 }
@@ -118,52 +104,63 @@ fn hashes_stand_for_digests(rt: HostRuntime) -> Result<(), Fail> {
     let alloc = rt.alloc();
     let empty = digests(b"");
     let padded = hash(alloc, Algorithm::Sha256, EMPTY_BASE64)?;
-    test::expect(digest_matches(&padded, &empty))?;
-    test::expect(hash_of(&padded) == Some(Digest::Sha256(empty.sha256)))?;
+    assert!(rt; digest_matches(&padded, &empty));
+    assert!(rt; hash_of(&padded) == Some(Digest::Sha256(empty.sha256)));
     let other_alphabet = hash(
         alloc,
         Algorithm::Sha256,
         "47DEQpj8HBSa-_TImW-5JCeuQeRkm5NMpJWZG3hSuFU=",
     )?;
-    test::expect(digest_matches(&other_alphabet, &empty))?;
+    assert!(rt; digest_matches(&other_alphabet, &empty));
     let unpadded = hash(
         alloc,
         Algorithm::Sha256,
         "47DEQpj8HBSa+/TImW+5JCeuQeRkm5NMpJWZG3hSuFU",
     )?;
-    test::expect(hash_of(&unpadded).is_none())?;
-    test::expect(!digest_matches(&unpadded, &empty))?;
+    assert!(rt; hash_of(&unpadded).is_none());
+    assert!(rt; !digest_matches(&unpadded, &empty));
     let zeros = hash(
         alloc,
         Algorithm::Sha384,
         "AAAAAAAAAAAAAAAAAAAAAAAAAAAAAAAAAAAAAAAAAAAAAAAAAAAAAAAAAAAAAAAA",
     )?;
-    test::expect(hash_of(&zeros) == Some(Digest::Sha384([0; 48])))
+    assert!(rt; hash_of(&zeros) == Some(Digest::Sha384([0; 48])));
+    Ok(())
 }
 
 #[test]
 fn nonces_and_integrity_match(rt: HostRuntime) -> Result<(), Fail> {
     let alloc = rt.alloc();
     let sources = sources(alloc)?;
-    test::expect(!nonce_matches(&Text::new(alloc, "")?, &sources))?;
-    test::expect(nonce_matches(&Text::new(alloc, "abc")?, &sources))?;
-    test::expect(!nonce_matches(&Text::new(alloc, "ABC")?, &sources))?;
-    test::expect(!integrity_matches(&List::new(alloc), &sources))?;
-    let both = hashes(alloc, &[(Algorithm::Sha384, "d"), (Algorithm::Sha256, "abc")])?;
-    test::expect(integrity_matches(&both, &sources))?;
-    let one = hashes(alloc, &[(Algorithm::Sha256, "abc"), (Algorithm::Sha512, "d")])?;
-    test::expect(!integrity_matches(&one, &sources))
+    assert!(rt; !nonce_matches(&Text::new(alloc, "")?, &sources));
+    assert!(rt; nonce_matches(&Text::new(alloc, "abc")?, &sources));
+    assert!(rt; !nonce_matches(&Text::new(alloc, "ABC")?, &sources));
+    assert!(rt; !integrity_matches(&List::new(alloc), &sources));
+    let both = hashes(
+        alloc,
+        &[(Algorithm::Sha384, "d"), (Algorithm::Sha256, "abc")],
+    )?;
+    assert!(rt; integrity_matches(&both, &sources));
+    let one = hashes(
+        alloc,
+        &[(Algorithm::Sha256, "abc"), (Algorithm::Sha512, "d")],
+    )?;
+    assert!(rt; !integrity_matches(&one, &sources));
+    Ok(())
 }
 
 #[test]
 fn integrity_is_read_and_printed(rt: HostRuntime) -> Result<(), Fail> {
     let alloc = rt.alloc();
-    test::expect(read_integrity(alloc, "")?.is_empty())?;
+    assert!(rt; read_integrity(alloc, "")?.is_empty());
     let pairs = read_integrity(alloc, "sha256-abc?x SHA384-d md5-zz")?;
-    let wanted = hashes(alloc, &[(Algorithm::Sha256, "abc"), (Algorithm::Sha384, "d")])?;
-    test::expect(pairs == wanted)?;
+    let wanted = hashes(
+        alloc,
+        &[(Algorithm::Sha256, "abc"), (Algorithm::Sha384, "d")],
+    )?;
+    assert!(rt; pairs == wanted);
     let text = integrity_text(alloc, &pairs)?;
-    test::expect(text.as_str() == "sha256-abc sha384-d")?;
+    assert!(rt; text.as_str() == "sha256-abc sha384-d");
     let odd = read_integrity(alloc, "\tsha512-a-b\n sha256 sha384?-c")?;
     let parts = hashes(
         alloc,
@@ -173,5 +170,6 @@ fn integrity_is_read_and_printed(rt: HostRuntime) -> Result<(), Fail> {
             (Algorithm::Sha384, ""),
         ],
     )?;
-    test::expect(odd == parts)
+    assert!(rt; odd == parts);
+    Ok(())
 }
