@@ -49,7 +49,7 @@ nonce_or_hash_decides (source.Nonce value) = yes tt
 nonce_or_hash_decides (source.Digest hash) = yes tt
 nonce_or_hash_decides other = no (λ h. h)
 
-implies_decides : {P Q : Type 0} (x y : Bool) → Decides x P → Decides y Q → Decides (not x || y) (P → Q)
+pub implies_decides : {P Q : Type 0} (x y : Bool) → Decides x P → Decides y Q → Decides (not x || y) (P → Q)
 implies_decides true y p q = Decides-like y (λ h _. h) (λ f. f (p.0 refl)) q
 implies_decides false y p q = yes (λ h. absurd (false≢true (p.1 h)))
 

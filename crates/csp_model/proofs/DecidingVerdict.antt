@@ -134,7 +134,7 @@ findings_of list [] = []
 findings_of list (asked ∷ rest) =
     findings asked (shown_items asked (items_of 0 list.policies asked)) ++ cond (list_allows list asked) (findings_of list rest) []
 
-are_findings : (list : PolicyList) (checks : List Check) → AreFindings list checks (findings_of list checks)
+pub are_findings : (list : PolicyList) (checks : List Check) → AreFindings list checks (findings_of list checks)
 are_findings list [] = refl
 are_findings list (asked ∷ rest) =
     let all = items_of 0 list.policies asked in

@@ -1,10 +1,10 @@
 -- Examples of tokens, and what they stand for.
-use Rattle.std.proofs.Common.{◌≡◌, ℕ, Bool, true, false, List, [], ◌∷◌, Option, Some, None, refl}
+use Rattle.std.proofs.Common.{◌≡◌, [], ◌∷◌, Some, None, refl}
 use Rattle.std.specs.Prelude.{codes}
-use Rattle.csp_model.specs.Grammar.{IsHostSource, IsSchemeSource, IsQuoted, IsSource, host_of, port_of, path_of, number}
+use Rattle.csp_model.specs.Grammar.{IsHostSource, IsSchemeSource, IsSource, host_of, port_of, path_of, number}
 use Rattle.csp_model.specs.Reading.{source_of}
 use Rattle.csp_model.proofs.OnLiterals.{source_on_literals}
-use Rattle.csp_model.specs.declared.source.Algorithm.TheVariants.{Sha256, Sha384, Sha512}
+use Rattle.csp_model.specs.declared.source.Algorithm.TheVariants.{Sha384}
 use Rattle.csp_model.specs.declared.source.HostPart.TheVariants as host_part
 use Rattle.csp_model.specs.declared.source.PortPart.TheVariants as port_part
 use Rattle.csp_model.specs.declared.source.PathPart.TheVariants as path_part

@@ -1,5 +1,5 @@
 -- Examples of valid URLs and checks, and of inclusion.
-use Rattle.std.proofs.Common.{◌≡◌, ℕ, Bool, true, false, List, [], ◌∷◌, Option, Some, None, refl, sym, All, arith}
+use Rattle.std.proofs.Common.{◌≡◌, true, false, [], ◌∷◌, Some, refl, sym, arith}
 use Rattle.std.specs.Prelude.{codes}
 use Rattle.std.proofs.lemmas.List.Elements.{All-nil}
 use Rattle.std.proofs.lemmas.Bool.{false≢true}
@@ -10,13 +10,12 @@ use Rattle.csp_model.proofs.Deciding.{holds, fails}
 use Rattle.csp_model.proofs.DecidingVerdict.{list_allows_decides}
 use Rattle.csp_model.proofs.OnLiterals.{validity_on_literals, verdicts_on_literals}
 use Rattle.csp_model.proofs.ExampleValues.{at, image, block, of_nothing}
-use Rattle.csp_model.specs.declared.check.Check.{Check}
 use Rattle.csp_model.specs.declared.check.Check.TheVariants as check
 use Rattle.csp_model.specs.declared.check.Group.TheVariants as group
 use Rattle.csp_model.specs.declared.check.InlineKind.TheVariants as kind
 use Rattle.csp_model.specs.declared.policy.PolicyList.{PolicyList}
 use Rattle.csp_model.specs.declared.source.Hash.{Hash}
-use Rattle.csp_model.specs.declared.url.Scheme.TheVariants.{Http, Https}
+use Rattle.csp_model.specs.declared.url.Scheme.TheVariants.{Https}
 use Rattle.csp_model.specs.declared.url.Host.TheVariants as host
 use Rattle.csp_model.specs.declared.url.Url.{Url}
 use Rattle.csp_model.specs.declared.url.Url.TheVariants as url

@@ -1,5 +1,5 @@
 -- Examples of what schemes, hosts, ports, paths and source expressions match.
-use Rattle.std.proofs.Common.{◌≡◌, ℕ, Bool, true, false, List, [], ◌∷◌, Option, Some, None, refl}
+use Rattle.std.proofs.Common.{◌≡◌, false, List, [], ◌∷◌, Some, None, refl}
 use Rattle.std.specs.Prelude.{codes, filter}
 use Rattle.csp_model.specs.Matching.{SchemeMatches, HostMatches, PortMatches, PathMatches, SelfMatches, Matches, ListMatches}
 use Rattle.csp_model.specs.Schemes.{scheme_text}
@@ -13,8 +13,6 @@ use Rattle.csp_model.specs.declared.url.Origin.{Origin}
 use Rattle.csp_model.specs.declared.url.Origin.TheVariants as origin
 use Rattle.csp_model.specs.declared.url.Url.{Url}
 use Rattle.csp_model.specs.declared.url.Url.TheVariants as url
-use Rattle.csp_model.specs.declared.source.Hash.{Hash}
-use Rattle.csp_model.specs.declared.source.Algorithm.TheVariants.{Sha256}
 use Rattle.csp_model.specs.declared.source.HostPart.TheVariants as host_part
 use Rattle.csp_model.specs.declared.source.PortPart.TheVariants as port_part
 use Rattle.csp_model.specs.declared.source.PathPart.TheVariants as path_part

@@ -1,12 +1,12 @@
 -- Examples of header blocks and their policies, and of governing directives.
-use Rattle.std.proofs.Common.{◌≡◌, ℕ, Bool, true, false, List, [], ◌∷◌, ◌++◌, map, length, Option, Some, None, refl}
+use Rattle.std.proofs.Common.{◌≡◌, ℕ, List, [], ◌∷◌, map, length, Some, None, refl}
 use Rattle.std.specs.Prelude.{codes}
 use Rattle.csp_model.specs.Ascii.{words}
 use Rattle.csp_model.specs.Governing.{governs, governing_name}
 use Rattle.csp_model.specs.Policies.{directives_of, first_bad, policies, lines_of, token_count, longest_text, policy_text}
 use Rattle.csp_model.proofs.OnLiterals.{policies_on_literals, verdicts_on_literals}
 use Rattle.csp_model.proofs.ExampleValues.{own}
-use Rattle.csp_model.specs.declared.name.Name.TheVariants.{WorkerSrc, FrameSrc, StyleSrcAttr, ScriptSrcElem, ImgSrc, BaseUri, ScriptSrc, ChildSrc, DefaultSrc}
+use Rattle.csp_model.specs.declared.name.Name.TheVariants.{WorkerSrc, FrameSrc, StyleSrcAttr, ScriptSrcElem, ImgSrc, BaseUri, ScriptSrc, ChildSrc}
 use Rattle.csp_model.specs.declared.policy.Directive.{Directive}
 use Rattle.csp_model.specs.declared.policy.Disposition.{Disposition}
 use Rattle.csp_model.specs.declared.policy.Disposition.TheVariants.{Enforce, Report}

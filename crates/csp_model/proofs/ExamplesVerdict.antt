@@ -1,23 +1,20 @@
 -- Examples of violations, of an element's nonce, and of checks that stop at the first block.
-use Rattle.std.proofs.Common.{◌≡◌, ◌≢◌, ℕ, Bool, true, false, List, [], ◌∷◌, ◌++◌, Option, Some, None, refl, inl, inr, ◌⊎◌, sym, ◌∙◌, arith}
-use Rattle.std.specs.Prelude.{codes, Any}
-use Rattle.std.proofs.lemmas.Bool.{false≢true}
-use Rattle.csp_model.specs.Inline.{Mentions, IsSuspect, nonce_attribute, IsNonceable, IsElementNonce}
-use Rattle.csp_model.specs.Verdict.{AreFindings, EachViolation, AreViolations, IsSampled, IsSample}
-use Rattle.csp_model.specs.Tokens.{HasKeyword}
+use Rattle.std.proofs.Common.{[], ◌∷◌, refl, inl, inr}
+use Rattle.std.specs.Prelude.{codes}
+use Rattle.csp_model.specs.Verdict.{AreViolations}
 use Rattle.csp_model.proofs.Deciding.{holds, fails}
 use Rattle.csp_model.proofs.DecidingTokens.{keyword_decides}
 use Rattle.csp_model.proofs.DecidingVerdict.{findings_of, are_findings}
 use Rattle.csp_model.proofs.OnLiterals.{verdicts_on_literals}
-use Rattle.csp_model.proofs.ExampleValues.{at, image, script, block, enforced, allowed, blocked_with, of_nothing, Gives, judged}
-use Rattle.csp_model.specs.declared.check.Check.{Check}
+use Rattle.csp_model.proofs.ExampleValues.{at, image, script, block, enforced, blocked_with, of_nothing, Gives, judged}
 use Rattle.csp_model.specs.declared.check.Check.TheVariants as check
 use Rattle.csp_model.specs.declared.check.InlineKind.TheVariants as kind
-use Rattle.csp_model.specs.declared.name.Name.TheVariants.{ScriptSrcElem, ScriptSrc, DefaultSrc, ImgSrc}
-use Rattle.csp_model.specs.declared.policy.Disposition.TheVariants.{Enforce, Report}
+use Rattle.csp_model.specs.declared.name.Name.TheVariants.{ScriptSrcElem, ImgSrc}
+use Rattle.csp_model.specs.declared.policy.Disposition.TheVariants.{Enforce}
 use Rattle.csp_model.specs.declared.policy.PolicyList.{PolicyList}
 use Rattle.csp_model.specs.declared.source.Keyword.TheVariants as keyword
-use Rattle.csp_model.specs.declared.url.Scheme.TheVariants.{Http, Https}
+use Rattle.csp_model.specs.declared.source.Source.TheVariants as source
+use Rattle.csp_model.specs.declared.url.Scheme.TheVariants.{Https}
 use Rattle.csp_model.specs.declared.verdict.Described.{Described}
 use Rattle.csp_model.specs.declared.verdict.Violation.{Violation}
 
@@ -73,7 +70,22 @@ unfolding verdicts_on_literals
 a_sample_is_shown =
     (findings_of sampled inline.checks, are_findings sampled inline.checks,
     (_, _, [], refl, refl,
-    record { disposition = refl; effective = refl; blocked_uri = refl; sample = inl ((tt, holds (keyword_decides keyword.ReportSample _) refl), refl); policy = refl }, refl))
+    record { disposition = refl; effective = refl; blocked_uri = refl; sample = inl ((tt, holds (keyword_decides keyword.ReportSample (source.Word keyword.ReportSample ∷ [])) refl), refl); policy = refl }, refl))
+
+-- and no other is
+pub no_sample_is_shown_unasked : AreViolations own_only inline
+    (record { disposition = Enforce; effective = ScriptSrcElem; blocked_uri = codes "inline"; sample = []; policy = codes "default-src 'self'" } ∷ [])
+unfolding verdicts_on_literals
+no_sample_is_shown_unasked =
+    (findings_of own_only inline.checks, are_findings own_only inline.checks,
+    (_, _, [], refl, refl,
+    record {
+      disposition = refl;
+      effective = refl;
+      blocked_uri = refl;
+      sample = inr ((λ asked. fails (keyword_decides keyword.ReportSample (source.Word keyword.SelfOrigin ∷ [])) refl asked.1), refl);
+      policy = refl
+    }, refl))
 
 -- a sandbox makes no report
 pub a_sandbox_makes_no_report : AreViolations (block (codes "Content-Security-Policy: sandbox\n"))
