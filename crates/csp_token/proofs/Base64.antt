@@ -1,15 +1,13 @@
 -- Base64-values and the bytes that they stand for.
-use Rattle.std.specs.Prelude.{⊤, MatchResult}
-use Rattle.std.proofs.Common.{subst}
-use Rattle.std.proofs.Common.{◌≡◌, ℕ, ◌+◌, ◌<◌, ◌≤◌, List, length, take, map, get_or, arith, sym, ap, refl, inl, inr, lit<, ◌∙◌, Ok, Err, Result, length-append}
+use Rattle.std.proofs.Common.{◌≡◌, ℕ, ◌+◌, ◌<◌, ◌≤◌, List, length, take, get_or, arith, sym, ap, refl, inl, inr, lit<, ◌∙◌, Ok, Err, length-append}
 use Rattle.std.proofs.lemmas.Bool.{cases_lt}
 use Rattle.std.proofs.lemmas.List.{length-map, length-replicate, get_or-map, length-take-le, get_or_past}
 use Rattle.std.proofs.lemmas.Grind.{common_steps}
 use Rattle.base64.specs.Engines.{standard}
-use Rattle.base64.specs.GeneralPurpose.{encode_of, decode_of, IsBytes, IsStrict, IsDecodedInto}
+use Rattle.base64.specs.GeneralPurpose.{encode_of, decode_of, IsBytes, IsDecodedInto}
 use Rattle.base64.specs.Rfc4648.{unpadded_len, padding_len}
 use Rattle.base64.specs.declared.decode.DecodeError.{DecodeError}
-use Rattle.base64.proofs.EngineFacts.{decode_of-encode_of, decode_of_strict}
+use Rattle.base64.proofs.EngineFacts.{decode_of-encode_of}
 use Rattle.base64.proofs.RoundTrip.{length-encode_symbols}
 use Rattle.csp_model.specs.Tokens.{plain_value}
 use Rattle.csp_token.specs.Digests.{plain_symbol}

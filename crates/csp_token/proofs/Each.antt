@@ -1,5 +1,5 @@
 -- A test of each item, by the answer of `all`.
-use Rattle.std.proofs.Common.{◌≡◌, ◌<◌, ◌↔◌, ℕ, Bool, true, false, List, length, IsTrue, sym, refl, subst}
+use Rattle.std.proofs.Common.{◌<◌, ◌↔◌, ℕ, Bool, List, length, IsTrue}
 use Rattle.std.specs.Bool.{MatchBool}
 use Rattle.std.specs.List.{All, AllWithin, HoldsAt}
 use Rattle.std.proofs.lemmas.Iterator.Search.{true_from_All}

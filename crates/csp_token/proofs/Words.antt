@@ -1,5 +1,5 @@
 -- The words of a text, one after the other.
-use Rattle.std.proofs.Common.{◌≡◌, ◌≢◌, ◌<◌, List, [], ◌∷◌, ◌++◌, ℕ, length, get_or, true, false, sym, refl, ap, ◌∙◌, arith, append-nil, inl, inr}
+use Rattle.std.proofs.Common.{◌≡◌, ◌<◌, List, [], ◌∷◌, ◌++◌, ℕ, length, get_or, true, false, sym, refl, ap, ◌∙◌, arith, append-nil, inl, inr}
 use Rattle.std.specs.List.{slice_split, filter, All, AllPass}
 use Rattle.std.specs.Char.{is_ascii_whitespace}
 use Rattle.std.specs.Str.{NoCharPasses}

@@ -1,6 +1,6 @@
-use Rattle.std.proofs.Common.{rules, arith, ◌≡◌, ◌≤◌, ℕ, List, length, sym, refl, ◌∙◌, Err, get_or}
+use Rattle.std.proofs.Common.{arith, refl, ◌∙◌}
 use Rattle.base64.specs.Engines.{standard}
-use Rattle.base64.specs.GeneralPurpose.{decode_of, IsBytes, IsDecodedInto}
+use Rattle.base64.specs.GeneralPurpose.{IsBytes}
 use Rattle.base64.proofs.EngineFacts.{decode_of_strict}
 use Rattle.csp_model.specs.Tokens.{plain_value}
 use Rattle.csp_token.proofs.Base64.{short, refused, same_size, IsBytes-plain_value}

@@ -1,5 +1,4 @@
-use Rattle.std.proofs.Common.{tests, rules, ◌≡◌, ◌≢◌, []}
-use Rattle.std.proofs.lemmas.Grind.{common_steps}
+use Rattle.std.proofs.Common.{◌≢◌, []}
 use Rattle.csp_token.proofs.matching.integrity_matches.Goals as goal
 
 pub returns-then-not-is_empty : goal.returns-then-not-is_empty
