@@ -7,7 +7,7 @@ use Rattle.csp_model.specs.Policies.{is_for_meta, token_count}
 use Rattle.csp_model.specs.declared.policy.Directive.{Directive}
 use Rattle.csp_model.specs.declared.policy.Policy.{Policy}
 
--- the directive of this name, with so many of the words of this text
+-- the directive of this name, in whatever case, and these tokens
 abbrev pub directive_with : List ℕ → List (List ℕ) → Directive
 directive_with name tokens = record { name = lower name; tokens = tokens; sources = map source_of tokens }
 

@@ -3,7 +3,7 @@ ghost use Rattle.std.specs.Prelude.{◌≡◌, IfOk, true};
 ghost use Rattle.csp_model.specs.Ascii.{lower, is_ascii_text};
 
 use csp_model::{Memory, Text};
-use std::alloc::Global;
+use std::alloc::{AllocError, Global};
 
 pub fn is_ascii_text(text: &[u8]) -> bool
     ensures { result ≡ is_ascii_text text.now }
@@ -11,13 +11,10 @@ pub fn is_ascii_text(text: &[u8]) -> bool
     text.iter().all(|b| *b < 128)
 }
 
-fn lower_bytes(alloc: Global, text: &[u8]) -> Result<Vec<u8>, Memory>
+fn lower_bytes(alloc: Global, text: &[u8]) -> Result<Vec<u8>, AllocError>
     ensures { IfOk result (λ made. made.items ≡ lower text.now) }
 {
-    match text.iter().map(|b| b.to_ascii_lowercase()).collect(alloc) {
-        Ok(lowered) => Ok(lowered),
-        Err(_) => Err(Memory),
-    }
+    text.iter().map(|b| b.to_ascii_lowercase()).collect(alloc)
 }
 
 /// The text of ASCII bytes, in lower case.
