@@ -40,7 +40,7 @@ module _ {X : Type 0} where
   any_decides p P each [] = no (Any-none P)
   any_decides p P each (x ∷ xs) =
       Decides-like (p x || list_any p xs) (λ (h : P x ⊎ Any P xs). elim h [ inl here ↦ Any-here P x xs here | inr later ↦ Any-later P x xs later ])
-        (first_or_later P x xs) (Decides-or (p x) (list_any p xs) (each x) (any_decides p P each xs))
+      (first_or_later P x xs) (Decides-or (p x) (list_any p xs) (each x) (any_decides p P each xs))
 
   pub all_decides : (p : X → Bool) (P : X → Type 0) → ((x : X) → Decides (p x) (P x)) → (xs : List X) → Decides (list_all p xs) (All P xs)
   all_decides p P each xs = Decides-by_and p P (list_all p) each refl (λ _ _. refl) xs
@@ -49,9 +49,9 @@ module _ {X : Type 0} where
   pub has_decides : (p : X → Bool) (x : X) → ((y : X) → Decides (p y) (y ≡ x)) → (xs : List X) → Decides (list_any p xs) (Contains xs x)
   has_decides p x each xs =
       Decides-like (list_any p xs)
-        (λ (h : Any (λ y. y ≡ x) xs). (h.0, h.2, subst (λ y. slice_index_or xs h.0 y ≡ y) h.4 h.3))
-        (λ (h : Contains xs x). (h.0, x, h.1, h.2, refl))
-        (any_decides p (λ y. y ≡ x) each xs)
+      (λ (h : Any (λ y. y ≡ x) xs). (h.0, h.2, subst (λ y. slice_index_or xs h.0 y ≡ y) h.4 h.3))
+      (λ (h : Contains xs x). (h.0, x, h.1, h.2, refl))
+      (any_decides p (λ y. y ≡ x) each xs)
 
   -- items with numbers of their own
   pub coded : (code : X → ℕ) (item : ℕ → X) → ((x : X) → item (code x) ≡ x) → (x y : X) → Decides (code x == code y) (x ≡ y)
@@ -77,5 +77,5 @@ module _ {X : Type 0} where
   lists_decides same each (x ∷ xs) [] = no (λ (h : x ∷ xs ≡ []). cc)
   lists_decides same each (x ∷ xs) (y ∷ ys) =
       Decides-like (same x y && lists_eq same xs ys) (λ ((e, f) : (x ≡ y) × (xs ≡ ys)). cc)
-        (λ (h : x ∷ xs ≡ y ∷ ys). let e : x ≡ y = cc in let f : xs ≡ ys = cc in (e, f))
-        (Decides-and (same x y) (lists_eq same xs ys) (each x y) (lists_decides same each xs ys))
+      (λ (h : x ∷ xs ≡ y ∷ ys). let e : x ≡ y = cc in let f : xs ≡ ys = cc in (e, f))
+      (Decides-and (same x y) (lists_eq same xs ys) (each x y) (lists_decides same each xs ys))

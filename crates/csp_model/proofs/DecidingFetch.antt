@@ -59,8 +59,8 @@ dynamic_decides sources parser_inserted listed Listed is =
     let dynamic = has_keyword keyword.StrictDynamic sources in
     let decided = keyword_decides keyword.StrictDynamic sources in
     Decides-or (dynamic && not parser_inserted) (not dynamic && listed)
-      (Decides-and dynamic (not parser_inserted) decided (is_false parser_inserted))
-      (Decides-and (not dynamic) listed (Decides-not dynamic decided) is)
+    (Decides-and dynamic (not parser_inserted) decided (is_false parser_inserted))
+    (Decides-and (not dynamic) listed (Decides-not dynamic decided) is)
 
 abbrev pub script_allows : List Source → List ℕ → List Hash → Bool → Bool → Bool
 script_allows sources nonce integrity parser_inserted listed =
@@ -70,8 +70,8 @@ script_decides : (sources : List Source) (nonce : List ℕ) (integrity : List Ha
     → Decides (script_allows sources nonce integrity parser_inserted listed) (ScriptAllows sources nonce integrity parser_inserted Listed)
 script_decides sources nonce integrity parser_inserted listed Listed is =
     Decides-or (nonce_matches nonce sources) (integrity_matches integrity sources || dynamic_or_listed sources parser_inserted listed) (nonce_decides nonce sources)
-      (Decides-or (integrity_matches integrity sources) (dynamic_or_listed sources parser_inserted listed) (integrity_decides integrity sources)
-        (dynamic_decides sources parser_inserted listed Listed is))
+    (Decides-or (integrity_matches integrity sources) (dynamic_or_listed sources parser_inserted listed) (integrity_decides integrity sources)
+    (dynamic_decides sources parser_inserted listed Listed is))
 
 abbrev pub worker_allows : Policy → List Source → List ℕ → List Hash → Bool → Bool → Bool
 worker_allows policy sources nonce integrity parser_inserted listed =
@@ -84,8 +84,8 @@ worker_decides policy sources nonce integrity parser_inserted listed Listed is =
     let script = is_script_src (governing_name policy.directives WorkerSrc) in
     let decided = is_script_src_decides (governing_name policy.directives WorkerSrc) in
     Decides-or (script && script_allows sources nonce integrity parser_inserted listed) (not script && listed)
-      (Decides-and script (script_allows sources nonce integrity parser_inserted listed) decided (script_decides sources nonce integrity parser_inserted listed Listed is))
-      (Decides-and (not script) listed (Decides-not script decided) is)
+    (Decides-and script (script_allows sources nonce integrity parser_inserted listed) decided (script_decides sources nonce integrity parser_inserted listed Listed is))
+    (Decides-and (not script) listed (Decides-not script decided) is)
 
 -- Fetches
 
@@ -111,7 +111,7 @@ pub fetch_decides : (policy : Policy) (kind : Group) (there : Url) (redirects : 
     → Decides (fetch_allows policy kind there redirects nonce integrity parser_inserted) (FetchAllows policy kind there redirects nonce integrity parser_inserted)
 fetch_decides policy kind there redirects nonce integrity parser_inserted =
     governed_decides policy (group_directive kind)
-      (λ d. sources_allow policy kind d.sources nonce integrity parser_inserted (list_matches d.sources policy.origin there (is_redirected redirects)))
-      (λ d. SourcesAllow policy kind d.sources nonce integrity parser_inserted (ListMatches d.sources policy.origin there (is_redirected redirects)))
-      (λ d. sources_decide policy kind d.sources nonce integrity parser_inserted (list_matches d.sources policy.origin there (is_redirected redirects))
-        (ListMatches d.sources policy.origin there (is_redirected redirects)) (list_decides d.sources policy.origin there (is_redirected redirects)))
+    (λ d. sources_allow policy kind d.sources nonce integrity parser_inserted (list_matches d.sources policy.origin there (is_redirected redirects)))
+    (λ d. SourcesAllow policy kind d.sources nonce integrity parser_inserted (ListMatches d.sources policy.origin there (is_redirected redirects)))
+    (λ d. sources_decide policy kind d.sources nonce integrity parser_inserted (list_matches d.sources policy.origin there (is_redirected redirects))
+    (ListMatches d.sources policy.origin there (is_redirected redirects)) (list_decides d.sources policy.origin there (is_redirected redirects)))

@@ -61,9 +61,9 @@ all_inline_decides : (which : InlineKind) (sources : List Source) → Decides (a
 all_inline_decides which sources =
     let dynamic = has_keyword keyword.StrictDynamic sources in
     both3 (has_keyword keyword.UnsafeInline sources) (not (list_any is_nonce_or_hash sources)) (not (is_script_kind which) || not dynamic)
-      (keyword_decides keyword.UnsafeInline sources)
-      (Decides-not (list_any is_nonce_or_hash sources) (any_decides is_nonce_or_hash IsNonceOrHash nonce_or_hash_decides sources))
-      (implies_decides (is_script_kind which) (not dynamic) (script_kind_decides which) (Decides-not dynamic (keyword_decides keyword.StrictDynamic sources)))
+    (keyword_decides keyword.UnsafeInline sources)
+    (Decides-not (list_any is_nonce_or_hash sources) (any_decides is_nonce_or_hash IsNonceOrHash nonce_or_hash_decides sources))
+    (implies_decides (is_script_kind which) (not dynamic) (script_kind_decides which) (Decides-not dynamic (keyword_decides keyword.StrictDynamic sources)))
 
 abbrev pub hash_counts : InlineKind → List Source → Bool
 hash_counts which sources = is_element_kind which || has_keyword keyword.UnsafeHashes sources
@@ -78,10 +78,10 @@ sources_inline_decide which nonce digests sources =
     let by_nonce = is_element_kind which && nonce_matches nonce sources in
     let by_hash = digests_match digests sources && hash_counts which sources in
     Decides-or (allows_all_inline which sources) (by_nonce || by_hash) (all_inline_decides which sources)
-      (Decides-or by_nonce by_hash
-        (Decides-and (is_element_kind which) (nonce_matches nonce sources) (element_kind_decides which) (nonce_decides nonce sources))
-        (Decides-and (digests_match digests sources) (hash_counts which sources) (digests_decide digests sources)
-          (Decides-or (is_element_kind which) (has_keyword keyword.UnsafeHashes sources) (element_kind_decides which) (keyword_decides keyword.UnsafeHashes sources))))
+    (Decides-or by_nonce by_hash
+    (Decides-and (is_element_kind which) (nonce_matches nonce sources) (element_kind_decides which) (nonce_decides nonce sources))
+    (Decides-and (digests_match digests sources) (hash_counts which sources) (digests_decide digests sources)
+    (Decides-or (is_element_kind which) (has_keyword keyword.UnsafeHashes sources) (element_kind_decides which) (keyword_decides keyword.UnsafeHashes sources))))
 
 abbrev pub inline_allows : Policy → InlineKind → List ℕ → Digests → Bool
 inline_allows policy which nonce digests = where_governed policy (inline_directive which) (λ d. sources_allow_inline which nonce digests d.sources)
@@ -90,7 +90,7 @@ pub inline_decides : (policy : Policy) (which : InlineKind) (nonce : List ℕ) (
     → Decides (inline_allows policy which nonce digests) (InlineAllows policy which nonce digests)
 inline_decides policy which nonce digests =
     governed_decides policy (inline_directive which) (λ d. sources_allow_inline which nonce digests d.sources)
-      (λ d. SourcesAllowInline which nonce digests d.sources) (λ d. sources_inline_decide which nonce digests d.sources)
+    (λ d. SourcesAllowInline which nonce digests d.sources) (λ d. sources_inline_decide which nonce digests d.sources)
 
 abbrev pub eval_allows : Policy → Bool
 eval_allows policy = where_governed policy ScriptSrc (λ d. has_keyword keyword.UnsafeEval d.sources)
@@ -98,7 +98,7 @@ eval_allows policy = where_governed policy ScriptSrc (λ d. has_keyword keyword.
 pub eval_decides : (policy : Policy) → Decides (eval_allows policy) (EvalAllows policy)
 eval_decides policy =
     governed_decides policy ScriptSrc (λ d. has_keyword keyword.UnsafeEval d.sources) (λ d. HasKeyword keyword.UnsafeEval d.sources)
-      (λ d. keyword_decides keyword.UnsafeEval d.sources)
+    (λ d. keyword_decides keyword.UnsafeEval d.sources)
 
 abbrev pub wasm_allows : Policy → Bool
 wasm_allows policy = where_governed policy ScriptSrc (λ d. has_keyword keyword.UnsafeEval d.sources || has_keyword keyword.WasmUnsafeEval d.sources)
@@ -106,6 +106,6 @@ wasm_allows policy = where_governed policy ScriptSrc (λ d. has_keyword keyword.
 pub wasm_decides : (policy : Policy) → Decides (wasm_allows policy) (WasmAllows policy)
 wasm_decides policy =
     governed_decides policy ScriptSrc (λ d. has_keyword keyword.UnsafeEval d.sources || has_keyword keyword.WasmUnsafeEval d.sources)
-      (λ d. HasKeyword keyword.UnsafeEval d.sources ⊎ HasKeyword keyword.WasmUnsafeEval d.sources)
-      (λ d. Decides-or (has_keyword keyword.UnsafeEval d.sources) (has_keyword keyword.WasmUnsafeEval d.sources)
-        (keyword_decides keyword.UnsafeEval d.sources) (keyword_decides keyword.WasmUnsafeEval d.sources))
+    (λ d. HasKeyword keyword.UnsafeEval d.sources ⊎ HasKeyword keyword.WasmUnsafeEval d.sources)
+    (λ d. Decides-or (has_keyword keyword.UnsafeEval d.sources) (has_keyword keyword.WasmUnsafeEval d.sources)
+    (keyword_decides keyword.UnsafeEval d.sources) (keyword_decides keyword.WasmUnsafeEval d.sources))

@@ -38,7 +38,7 @@ scheme_decides part scheme =
     let p = λ (pair : List ℕ × List ℕ). bytes_eq pair.0 part && bytes_eq pair.1 scheme in
     let P = λ (pair : List ℕ × List ℕ). (pair.0 ≡ part) × (pair.1 ≡ scheme) in
     Decides-or (bytes_eq part scheme) (list_any p upgrades) (bytes_eq-Decides part scheme)
-      (any_decides p P (λ pair. Decides-and (bytes_eq pair.0 part) (bytes_eq pair.1 scheme) (bytes_eq-Decides pair.0 part) (bytes_eq-Decides pair.1 scheme)) upgrades)
+    (any_decides p P (λ pair. Decides-and (bytes_eq pair.0 part) (bytes_eq pair.1 scheme) (bytes_eq-Decides pair.0 part) (bytes_eq-Decides pair.1 scheme)) upgrades)
 
 abbrev pub scheme_code : Scheme → ℕ
 scheme_code Http = 0
@@ -88,11 +88,12 @@ under_decides : (suffix domain : List ℕ) → Decides (is_under suffix domain) 
 under_decides suffix [] = no (λ (front, e). nothing_above suffix front e)
 under_decides suffix (c ∷ cs) =
     Decides-like (is_under suffix (c ∷ cs))
-      (λ (h : (c ∷ cs ≡ 46 ∷ suffix) ⊎ Under suffix cs). elim h [
-        inl e ↦ ([], e)
-      | inr more ↦ (c ∷ more.0, ap (λ (t : List ℕ). c ∷ t) more.1) ])
-      (λ (h : Under suffix (c ∷ cs)). shorter suffix c cs h.0 h.1)
-      (Decides-or (bytes_eq (c ∷ cs) (46 ∷ suffix)) (is_under suffix cs) (bytes_eq-Decides (c ∷ cs) (46 ∷ suffix)) (under_decides suffix cs))
+    (λ (h : (c ∷ cs ≡ 46 ∷ suffix) ⊎ Under suffix cs). elim h [
+      | inl e ↦ ([], e)
+      | inr more ↦ (c ∷ more.0, ap (λ (t : List ℕ). c ∷ t) more.1)
+    ])
+    (λ (h : Under suffix (c ∷ cs)). shorter suffix c cs h.0 h.1)
+    (Decides-or (bytes_eq (c ∷ cs) (46 ∷ suffix)) (is_under suffix cs) (bytes_eq-Decides (c ∷ cs) (46 ∷ suffix)) (under_decides suffix cs))
 
 abbrev pub domain_matches : HostPart → List ℕ → Bool
 domain_matches host_part.Any domain = true
@@ -139,10 +140,10 @@ prefix_decides [] (y ∷ ys) = yes (y ∷ ys, (λ (h : y ∷ ys ≡ []). cc), re
 prefix_decides (x ∷ xs) [] = no (λ ((rest, some, e) : ProperPrefix (x ∷ xs) []). cc)
 prefix_decides (x ∷ xs) (y ∷ ys) =
     Decides-like (bytes_eq x y && is_proper_prefix xs ys)
-      (λ ((e, (rest, some, f)) : (x ≡ y) × ProperPrefix xs ys). let g : y ∷ ys ≡ x ∷ (xs ++ rest) = cc in (rest, some, g))
-      (λ ((rest, some, g) : ProperPrefix (x ∷ xs) (y ∷ ys)).
-        let e : x ≡ y = cc in let f : ys ≡ xs ++ rest = cc in (e, (rest, some, f)))
-      (Decides-and (bytes_eq x y) (is_proper_prefix xs ys) (bytes_eq-Decides x y) (prefix_decides xs ys))
+    (λ ((e, (rest, some, f)) : (x ≡ y) × ProperPrefix xs ys). let g : y ∷ ys ≡ x ∷ (xs ++ rest) = cc in (rest, some, g))
+    (λ ((rest, some, g) : ProperPrefix (x ∷ xs) (y ∷ ys)).
+    let e : x ≡ y = cc in let f : ys ≡ xs ++ rest = cc in (e, (rest, some, f)))
+    (Decides-and (bytes_eq x y) (is_proper_prefix xs ys) (bytes_eq-Decides x y) (prefix_decides xs ys))
 
 abbrev pub path_matches : PathPart → List (List ℕ) → Bool
 path_matches path_part.Absent path = true
@@ -186,9 +187,9 @@ self_scheme own scheme = same_scheme own scheme || (same_scheme scheme Https || 
 self_scheme_decides : (own scheme : Scheme) → Decides (self_scheme own scheme) (SelfScheme own scheme)
 self_scheme_decides own scheme =
     Decides-or (same_scheme own scheme) (same_scheme scheme Https || (same_scheme scheme Wss || (same_scheme own Http && same_scheme scheme Ws))) (same_scheme_decides own scheme)
-      (Decides-or (same_scheme scheme Https) (same_scheme scheme Wss || (same_scheme own Http && same_scheme scheme Ws)) (same_scheme_decides scheme Https)
-      (Decides-or (same_scheme scheme Wss) (same_scheme own Http && same_scheme scheme Ws) (same_scheme_decides scheme Wss)
-      (Decides-and (same_scheme own Http) (same_scheme scheme Ws) (same_scheme_decides own Http) (same_scheme_decides scheme Ws))))
+    (Decides-or (same_scheme scheme Https) (same_scheme scheme Wss || (same_scheme own Http && same_scheme scheme Ws)) (same_scheme_decides scheme Https)
+    (Decides-or (same_scheme scheme Wss) (same_scheme own Http && same_scheme scheme Ws) (same_scheme_decides scheme Wss)
+    (Decides-and (same_scheme own Http) (same_scheme scheme Ws) (same_scheme_decides own Http) (same_scheme_decides scheme Ws))))
 
 abbrev pub self_matches : Origin → Url → Bool
 self_matches (origin.Tuple own name port) (url.Hosted scheme url_name url_port path) = same_host name url_name && (same_port port url_port && self_scheme own scheme)
@@ -197,7 +198,7 @@ self_matches self there = false
 pub self_decides : (self : Origin) (there : Url) → Decides (self_matches self there) (SelfMatches self there)
 self_decides (origin.Tuple own name port) (url.Hosted scheme url_name url_port path) =
     both3 (same_host name url_name) (same_port port url_port) (self_scheme own scheme)
-      (same_host_decides name url_name) (same_port_decides port url_port) (self_scheme_decides own scheme)
+    (same_host_decides name url_name) (same_port_decides port url_port) (self_scheme_decides own scheme)
 self_decides self there = no (λ h. h)
 
 -- Source expressions
@@ -224,10 +225,10 @@ pub host_source_decides : (scheme : Option (List ℕ)) (name : HostPart) (port :
 host_source_decides scheme name port path self (url.Plain there) redirected = no (λ h. h)
 host_source_decides scheme name port path self (url.Hosted there url_name url_port url_path) redirected =
     both4 (scheme_or_own scheme self (λ part. scheme_matches part (scheme_text there))) (host_matches name url_name)
-      (port_matches port url_port there) (redirected || path_matches path url_path)
-      (scheme_or_own_decides scheme self (λ part. scheme_matches part (scheme_text there)) (λ part. SchemeMatches part (scheme_text there)) (λ part. scheme_decides part (scheme_text there)))
-      (host_decides name url_name) (port_decides port url_port there)
-      (Decides-or redirected (path_matches path url_path) (itself redirected) (path_decides path url_path))
+    (port_matches port url_port there) (redirected || path_matches path url_path)
+    (scheme_or_own_decides scheme self (λ part. scheme_matches part (scheme_text there)) (λ part. SchemeMatches part (scheme_text there)) (λ part. scheme_decides part (scheme_text there)))
+    (host_decides name url_name) (port_decides port url_port there)
+    (Decides-or redirected (path_matches path url_path) (itself redirected) (path_decides path url_path))
 
 abbrev pub is_network : Url → Bool
 is_network (url.Plain scheme) = false

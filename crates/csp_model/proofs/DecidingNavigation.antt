@@ -29,7 +29,7 @@ listed_decides : (policy : Policy) (effective : Name) (there : Url) (redirected 
     → Decides (listed_allows policy effective there redirected) (WhereGoverned policy effective (λ d. ListMatches d.sources policy.origin there redirected))
 listed_decides policy effective there redirected =
     governed_decides policy effective (λ d. list_matches d.sources policy.origin there redirected)
-      (λ d. ListMatches d.sources policy.origin there redirected) (λ d. list_decides d.sources policy.origin there redirected)
+    (λ d. ListMatches d.sources policy.origin there redirected) (λ d. list_decides d.sources policy.origin there redirected)
 
 abbrev pub base_allows : Policy → Url → Bool
 base_allows policy there = listed_allows policy BaseUri there false
@@ -71,7 +71,7 @@ gives tokens capability = list_any (λ token. list_any (λ t. bytes_eq t (lower 
 gives_decides : (tokens : List (List ℕ)) (capability : Capability) → Decides (gives tokens capability) (Gives tokens capability)
 gives_decides tokens capability =
     any_decides (λ token. list_any (λ t. bytes_eq t (lower token)) (capability_tokens capability)) (λ token. Contains (capability_tokens capability) (lower token))
-      (λ token. has_decides (λ t. bytes_eq t (lower token)) (lower token) (λ t. bytes_eq-Decides t (lower token)) (capability_tokens capability)) tokens
+    (λ token. has_decides (λ t. bytes_eq t (lower token)) (lower token) (λ t. bytes_eq-Decides t (lower token)) (capability_tokens capability)) tokens
 
 abbrev pub capability_allows : Policy → Capability → Bool
 capability_allows policy capability = is_report policy.disposition || where_governed policy Sandbox (λ d. gives d.tokens capability)
@@ -79,7 +79,7 @@ capability_allows policy capability = is_report policy.disposition || where_gove
 pub capability_decides : (policy : Policy) (capability : Capability) → Decides (capability_allows policy capability) (CapabilityAllows policy capability)
 capability_decides policy capability =
     Decides-or (is_report policy.disposition) (where_governed policy Sandbox (λ d. gives d.tokens capability)) (report_decides policy.disposition)
-      (governed_decides policy Sandbox (λ d. gives d.tokens capability) (λ d. Gives d.tokens capability) (λ d. gives_decides d.tokens capability))
+    (governed_decides policy Sandbox (λ d. gives d.tokens capability) (λ d. Gives d.tokens capability) (λ d. gives_decides d.tokens capability))
 
 abbrev pub worker_start_allows : Policy → Bool
 worker_start_allows policy = is_report policy.disposition || where_governed policy Sandbox (λ d. gives d.tokens Scripts && gives d.tokens SameOrigin)
@@ -87,5 +87,5 @@ worker_start_allows policy = is_report policy.disposition || where_governed poli
 pub worker_start_decides : (policy : Policy) → Decides (worker_start_allows policy) (WorkerStartAllows policy)
 worker_start_decides policy =
     Decides-or (is_report policy.disposition) (where_governed policy Sandbox (λ d. gives d.tokens Scripts && gives d.tokens SameOrigin)) (report_decides policy.disposition)
-      (governed_decides policy Sandbox (λ d. gives d.tokens Scripts && gives d.tokens SameOrigin) (λ d. Gives d.tokens Scripts × Gives d.tokens SameOrigin)
-        (λ d. Decides-and (gives d.tokens Scripts) (gives d.tokens SameOrigin) (gives_decides d.tokens Scripts) (gives_decides d.tokens SameOrigin)))
+    (governed_decides policy Sandbox (λ d. gives d.tokens Scripts && gives d.tokens SameOrigin) (λ d. Gives d.tokens Scripts × Gives d.tokens SameOrigin)
+    (λ d. Decides-and (gives d.tokens Scripts) (gives d.tokens SameOrigin) (gives_decides d.tokens Scripts) (gives_decides d.tokens SameOrigin)))

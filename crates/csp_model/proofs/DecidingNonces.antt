@@ -26,9 +26,9 @@ begins_decides [] text = yes (text, refl)
 begins_decides (w ∷ word) [] = no (λ ((back, e) : Begins (w ∷ word) []). cc)
 begins_decides (w ∷ word) (c ∷ text) =
     Decides-like ((c == w) && begins word text)
-      (λ ((e, (back, f)) : (c ≡ w) × Begins word text). let g : c ∷ text ≡ w ∷ (word ++ back) = cc in (back, g))
-      (λ ((back, g) : Begins (w ∷ word) (c ∷ text)). let e : c ≡ w = cc in let f : text ≡ word ++ back = cc in (e, (back, f)))
-      (Decides-and (c == w) (begins word text) (Decides-eqb c w) (begins_decides word text))
+    (λ ((e, (back, f)) : (c ≡ w) × Begins word text). let g : c ∷ text ≡ w ∷ (word ++ back) = cc in (back, g))
+    (λ ((back, g) : Begins (w ∷ word) (c ∷ text)). let e : c ≡ w = cc in let f : text ≡ word ++ back = cc in (e, (back, f)))
+    (Decides-and (c == w) (begins word text) (Decides-eqb c w) (begins_decides word text))
 
 abbrev pub has_word : List ℕ → List ℕ → Bool
 has_word word [] = begins word []
@@ -50,11 +50,12 @@ has_word_decides word [] =
     Decides-like (begins word []) (λ ((back, e) : Begins word []). ([], back, e)) (λ (h : HasWord word []). at_end word h.0 h.1 h.2) (begins_decides word [])
 has_word_decides word (c ∷ text) =
     Decides-like (has_word word (c ∷ text))
-      (λ (h : Begins word (c ∷ text) ⊎ HasWord word text). elim h [
-        inl here ↦ ([], here.0, here.1)
-      | inr later ↦ (c ∷ later.0, later.1, ap (λ (t : List ℕ). c ∷ t) later.2) ])
-      (λ (h : HasWord word (c ∷ text)). first_or_rest word c text h.0 h.1 h.2)
-      (Decides-or (begins word (c ∷ text)) (has_word word text) (begins_decides word (c ∷ text)) (has_word_decides word text))
+    (λ (h : Begins word (c ∷ text) ⊎ HasWord word text). elim h [
+      | inl here ↦ ([], here.0, here.1)
+      | inr later ↦ (c ∷ later.0, later.1, ap (λ (t : List ℕ). c ∷ t) later.2)
+    ])
+    (λ (h : HasWord word (c ∷ text)). first_or_rest word c text h.0 h.1 h.2)
+    (Decides-or (begins word (c ∷ text)) (has_word word text) (begins_decides word (c ∷ text)) (has_word_decides word text))
 
 -- Elements
 
@@ -71,9 +72,9 @@ is_suspect attribute = (mentions (codes "<script") attribute.0 || mentions (code
 is_suspect_decides : (attribute : List ℕ × List ℕ) → Decides (is_suspect attribute) (IsSuspect attribute)
 is_suspect_decides attribute =
     let either = λ (text : List ℕ). Decides-or (mentions (codes "<script") text) (mentions (codes "<style") text)
-      (mentions_decides (codes "<script") text) (mentions_decides (codes "<style") text) in
+    (mentions_decides (codes "<script") text) (mentions_decides (codes "<style") text) in
     Decides-or (mentions (codes "<script") attribute.0 || mentions (codes "<style") attribute.0)
-      (mentions (codes "<script") attribute.1 || mentions (codes "<style") attribute.1) (either attribute.0) (either attribute.1)
+    (mentions (codes "<script") attribute.1 || mentions (codes "<style") attribute.1) (either attribute.0) (either attribute.1)
 
 some_decides : {X : Type 0} (o : Option X) → Decides (is_some o) (o ≢ None)
 some_decides None = no (λ some. some refl)
@@ -87,9 +88,9 @@ pub nonceable_decides : (tag : List ℕ) (attributes : List (List ℕ × List �
     → Decides (is_nonceable tag attributes duplicate) (IsNonceable tag attributes duplicate)
 nonceable_decides tag attributes duplicate =
     both3 (is_some (nonce_attribute attributes)) (not duplicate) (not (bytes_eq tag (codes "script")) || not (list_any is_suspect attributes))
-      (some_decides (nonce_attribute attributes)) (is_false duplicate)
-      (implies_decides (bytes_eq tag (codes "script")) (not (list_any is_suspect attributes)) (bytes_eq-Decides tag (codes "script"))
-        (Decides-not (list_any is_suspect attributes) (any_decides is_suspect IsSuspect is_suspect_decides attributes)))
+    (some_decides (nonce_attribute attributes)) (is_false duplicate)
+    (implies_decides (bytes_eq tag (codes "script")) (not (list_any is_suspect attributes)) (bytes_eq-Decides tag (codes "script"))
+    (Decides-not (list_any is_suspect attributes) (any_decides is_suspect IsSuspect is_suspect_decides attributes)))
 
 abbrev pub element_nonce : List ℕ → List (List ℕ × List ℕ) → Bool → List ℕ
 element_nonce tag attributes duplicate = cond (is_nonceable tag attributes duplicate) (unwrap_or (nonce_attribute attributes) []) []
@@ -104,6 +105,7 @@ pub has_nonce : (tag : List ℕ) (attributes : List (List ℕ × List ℕ)) (dup
 has_nonce tag attributes duplicate =
     let decided = nonceable_decides tag attributes duplicate in
     elim (is_nonceable tag attributes duplicate) as (λ b. is_nonceable tag attributes duplicate ≡ b
-        → IsElementNonce tag attributes duplicate (cond b (unwrap_or (nonce_attribute attributes) []) [])) [
-      true ↦ λ e. inl (decided.0 e, its_value (nonce_attribute attributes) (decided.0 e).0)
-    | false ↦ λ e. inr (not_from_Decides (is_nonceable tag attributes duplicate) decided e, refl) ] refl
+    → IsElementNonce tag attributes duplicate (cond b (unwrap_or (nonce_attribute attributes) []) [])) [
+      | true ↦ λ e. inl (decided.0 e, its_value (nonce_attribute attributes) (decided.0 e).0)
+      | false ↦ λ e. inr (not_from_Decides (is_nonceable tag attributes duplicate) decided e, refl)
+    ] refl

@@ -50,7 +50,7 @@ is_word word s = false
 is_word_decides : (word : Keyword) (s : Source) → Decides (is_word word s) (s ≡ source.Word word)
 is_word_decides word (source.Word other) =
     Decides-like (keyword_code other == keyword_code word) (ap source.Word) (λ (h : source.Word other ≡ source.Word word). cc)
-      (coded keyword_code keyword_at keyword_back other word)
+    (coded keyword_code keyword_at keyword_back other word)
 is_word_decides word s = no (λ (h : s ≡ source.Word word). cc)
 
 abbrev pub has_keyword : Keyword → List Source → Bool
@@ -76,7 +76,7 @@ nonce_matches nonce sources = is_nonempty nonce && list_any (is_nonce nonce) sou
 pub nonce_decides : (nonce : List ℕ) (sources : List Source) → Decides (nonce_matches nonce sources) (NonceMatches nonce sources)
 nonce_decides nonce sources =
     Decides-and (is_nonempty nonce) (list_any (is_nonce nonce) sources) (nonempty_decides nonce)
-      (has_decides (is_nonce nonce) (source.Nonce nonce) (is_nonce_decides nonce) sources)
+    (has_decides (is_nonce nonce) (source.Nonce nonce) (is_nonce_decides nonce) sources)
 
 -- Hashes
 
@@ -103,9 +103,9 @@ hash_from_parts x y e f =
 same_hash_decides : (x y : Hash) → Decides (same_hash x y) (x ≡ y)
 same_hash_decides x y =
     Decides-like (same_hash x y) (λ ((e, f) : (x.algorithm ≡ y.algorithm) × (x.value ≡ y.value)). hash_from_parts x y e f)
-      (λ (h : x ≡ y). (ap (λ (g : Hash). g.algorithm) h, ap (λ (g : Hash). g.value) h))
-      (Decides-and (algorithm_code x.algorithm == algorithm_code y.algorithm) (bytes_eq x.value y.value)
-        (coded algorithm_code algorithm_at algorithm_back x.algorithm y.algorithm) (bytes_eq-Decides x.value y.value))
+    (λ (h : x ≡ y). (ap (λ (g : Hash). g.algorithm) h, ap (λ (g : Hash). g.value) h))
+    (Decides-and (algorithm_code x.algorithm == algorithm_code y.algorithm) (bytes_eq x.value y.value)
+    (coded algorithm_code algorithm_at algorithm_back x.algorithm y.algorithm) (bytes_eq-Decides x.value y.value))
 
 abbrev pub is_hash : Hash → Source → Bool
 is_hash hash (source.Digest other) = same_hash other hash
@@ -122,8 +122,8 @@ integrity_matches integrity sources = is_nonempty integrity && list_all (λ h. l
 pub integrity_decides : (integrity : List Hash) (sources : List Source) → Decides (integrity_matches integrity sources) (IntegrityMatches integrity sources)
 integrity_decides integrity sources =
     Decides-and (is_nonempty integrity) (list_all (λ h. list_any (is_hash h) sources) integrity) (nonempty_decides integrity)
-      (all_decides (λ h. list_any (is_hash h) sources) (λ h. Contains sources (source.Digest h))
-        (λ h. has_decides (is_hash h) (source.Digest h) (is_hash_decides h) sources) integrity)
+    (all_decides (λ h. list_any (is_hash h) sources) (λ h. Contains sources (source.Digest h))
+    (λ h. has_decides (is_hash h) (source.Digest h) (is_hash_decides h) sources) integrity)
 
 abbrev pub is_hash_of : Digests → Source → Bool
 is_hash_of digests (source.Digest hash) = bytes_eq (plain_value hash.value) (encode_of standard (digest_by hash.algorithm digests))

@@ -58,7 +58,7 @@ list_allows list asked = list_all (λ (p : Policy). not (is_enforce p.dispositio
 pub list_allows_decides : (list : PolicyList) (asked : Check) → Decides (list_allows list asked) (ListAllows list asked)
 list_allows_decides list asked =
     all_decides (λ (p : Policy). not (is_enforce p.disposition) || allows p asked) (λ (p : Policy). p.disposition ≡ Enforce → Allows p asked)
-      (λ p. if_enforced p.disposition (allows p asked) (allows_decides p asked)) list.policies
+    (λ p. if_enforced p.disposition (allows p asked) (allows_decides p asked)) list.policies
 
 abbrev pub allows_all : PolicyList → List Check → Bool
 allows_all list checks = list_all (list_allows list) checks
@@ -72,8 +72,9 @@ no_name : (ds : List Directive) (names : List Name) → find (λ name. is_some (
 no_name ds [] none = refl
 no_name ds (name ∷ names) none =
     elim (place_of ds name) as (λ o. place_of ds name ≡ o → first_place (filter_map (place_of ds) (name ∷ names)) ≡ None) [
-      None ↦ λ e. grind (arith, common_steps, no_name ds names)
-    | Some i ↦ λ e. grind (arith, common_steps) ] refl
+      | None ↦ λ e. grind (arith, common_steps, no_name ds names)
+      | Some i ↦ λ e. grind (arith, common_steps)
+    ] refl
 
 where_none : (policy : Policy) (effective : Name) (P : Directive → Type 0) → governing_name policy.directives effective ≡ None → WhereGoverned policy effective P
 where_none policy effective P none =
@@ -124,8 +125,9 @@ are_items n (p ∷ ps) asked =
     let more = are_items (n + 1) ps asked in
     let later = items_of (n + 1) ps asked in
     elim (allows p asked) as (λ b. allows p asked ≡ b → AreItems n (p ∷ ps) asked (cond b later (item_of n p asked ∷ later))) [
-      true ↦ λ e. inl ((allows_decides p asked).0 e, more)
-    | false ↦ λ e. inr (item_of n p asked, later, refl, is_item n p asked (not_from_Decides (allows p asked) (allows_decides p asked) e), more) ] refl
+      | true ↦ λ e. inl ((allows_decides p asked).0 e, more)
+      | false ↦ λ e. inr (item_of n p asked, later, refl, is_item n p asked (not_from_Decides (allows p asked) (allows_decides p asked) e), more)
+    ] refl
 
 -- The verdict on a request
 
@@ -140,13 +142,14 @@ are_findings list (asked ∷ rest) =
     let all = items_of 0 list.policies asked in
     let first : IsCheckVerdict list asked (shown_items asked all) = (all, are_items 0 list.policies asked, refl) in
     elim (list_allows list asked) as (λ b. list_allows list asked ≡ b → AreFindings list (asked ∷ rest) (findings asked (shown_items asked all) ++ cond b (findings_of list rest) [])) [
-      true ↦ λ e. (shown_items asked all, findings_of list rest, refl, first, inl ((list_allows_decides list asked).0 e, are_findings list rest))
-    | false ↦ λ e. (shown_items asked all, [], refl, first, inr (not_from_Decides (list_allows list asked) (list_allows_decides list asked) e, refl)) ] refl
+      | true ↦ λ e. (shown_items asked all, findings_of list rest, refl, first, inl ((list_allows_decides list asked).0 e, are_findings list rest))
+      | false ↦ λ e. (shown_items asked all, [], refl, first, inr (not_from_Decides (list_allows list asked) (list_allows_decides list asked) e, refl))
+    ] refl
 
 abbrev pub verdict_of : PolicyList → List Check → Verdict
 verdict_of list checks = record {
   blocked = list_any (λ (f : Finding). is_enforced f.item) (findings_of list checks);
-  items = map (λ (f : Finding). f.item) (findings_of list checks)
+  items = map (λ (f : Finding). f.item) (findings_of list checks);
 }
 
 -- each request has this verdict

@@ -13,7 +13,6 @@ use Rattle.csp_model.specs.declared.url.Scheme.TheVariants.{Https, Wss}
 use Rattle.csp_model.specs.declared.url.Host.TheVariants as host
 use Rattle.csp_model.specs.declared.url.Url.{Url}
 use Rattle.csp_model.specs.declared.url.Url.TheVariants as url
-
 use Rattle.csp_model.specs.Policies.{policies}
 use Rattle.csp_model.proofs.ExampleValues.{own}
 use Rattle.csp_model.specs.declared.policy.Directive.{Directive}
@@ -40,7 +39,7 @@ abbrev directive : List ℕ → List (List ℕ × Source) → Directive
 directive name values = record {
   name = name;
   tokens = map (λ (v : List ℕ × Source). v.0) values;
-  sources = map (λ (v : List ℕ × Source). v.1) values
+  sources = map (λ (v : List ℕ × Source). v.1) values;
 }
 
 abbrev self : List ℕ × Source
@@ -56,13 +55,13 @@ abbrev enforced_directives : List Directive
 enforced_directives =
     directive (codes "default-src") (self ∷ [])
     ∷ directive (codes "script-src") (self ∷ (codes "'nonce-R4nd0m'", source.Nonce (codes "R4nd0m")) ∷ (codes "https://cdn.example.net", plain (codes "cdn.example.net"))
-        ∷ (codes "https://*.analytics.example", source.Hosted (Some (codes "https")) (host_part.Under (codes "analytics.example")) port_part.Absent path_part.Absent) ∷ [])
+    ∷ (codes "https://*.analytics.example", source.Hosted (Some (codes "https")) (host_part.Under (codes "analytics.example")) port_part.Absent path_part.Absent) ∷ [])
     ∷ directive (codes "style-src") (self ∷ (codes "'unsafe-inline'", source.Word keyword.UnsafeInline) ∷ (codes "https://fonts.example.net", plain (codes "fonts.example.net")) ∷ [])
     ∷ directive (codes "img-src") (self ∷ (codes "data:", source.SchemeOnly (codes "data")) ∷ (codes "https:", source.SchemeOnly (codes "https")) ∷ [])
     ∷ directive (codes "font-src") ((codes "https://fonts.example.net", plain (codes "fonts.example.net")) ∷ [])
     ∷ directive (codes "connect-src") (self
-        ∷ (codes "https://api.a.example:8443/v1/", source.Hosted (Some (codes "https")) (host_part.Exact (codes "api.a.example")) (port_part.Number 8443) (path_part.Prefix (codes "v1" ∷ [])))
-        ∷ (codes "wss://live.a.example", source.Hosted (Some (codes "wss")) (host_part.Exact (codes "live.a.example")) port_part.Absent path_part.Absent) ∷ [])
+    ∷ (codes "https://api.a.example:8443/v1/", source.Hosted (Some (codes "https")) (host_part.Exact (codes "api.a.example")) (port_part.Number 8443) (path_part.Prefix (codes "v1" ∷ [])))
+    ∷ (codes "wss://live.a.example", source.Hosted (Some (codes "wss")) (host_part.Exact (codes "live.a.example")) port_part.Absent path_part.Absent) ∷ [])
     ∷ directive (codes "frame-src") ((codes "https://video.example.net/embed/", source.Hosted (Some (codes "https")) (host_part.Exact (codes "video.example.net")) port_part.Absent (path_part.Prefix (codes "embed" ∷ []))) ∷ [])
     ∷ directive (codes "frame-ancestors") (none ∷ [])
     ∷ directive (codes "base-uri") (self ∷ [])

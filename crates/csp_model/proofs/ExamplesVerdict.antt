@@ -34,7 +34,7 @@ abbrev described : Described
 described = record {
   checks = script (at Https (codes "b.example") (codes "s.js" ∷ [])) ∷ [];
   blocked_uri = codes "https://b.example/s.js";
-  sample = []
+  sample = [];
 }
 
 abbrev violation : Violation
@@ -43,15 +43,24 @@ violation = record {
   effective = ScriptSrcElem;
   blocked_uri = codes "https://b.example/s.js";
   sample = [];
-  policy = codes "default-src 'self'"
+  policy = codes "default-src 'self'";
 }
 
 pub a_blocked_script_is_reported : AreViolations own_only described (violation ∷ [])
 unfolding verdicts_on_literals
-a_blocked_script_is_reported =
-    (findings_of own_only described.checks, are_findings own_only described.checks,
-    (_, violation, [], refl, refl,
-    record { disposition = refl; effective = refl; blocked_uri = refl; sample = inr ((λ asked. asked.0), refl); policy = refl }, refl))
+a_blocked_script_is_reported = (
+  findings_of own_only described.checks,
+  are_findings own_only described.checks,
+  (
+    _,
+    violation,
+    [],
+    refl,
+    refl,
+    record { disposition = refl; effective = refl; blocked_uri = refl; sample = inr ((λ asked. asked.0), refl); policy = refl },
+    refl,
+  ),
+)
 
 -- a sample is shown where the list asks for it
 abbrev sampled : PolicyList
@@ -61,36 +70,56 @@ abbrev inline : Described
 inline = record {
   checks = check.Inline kind.Script [] of_nothing ∷ [];
   blocked_uri = codes "inline";
-  sample = codes "x()"
+  sample = codes "x()";
 }
 
 pub a_sample_is_shown : AreViolations sampled inline
     (record { disposition = Enforce; effective = ScriptSrcElem; blocked_uri = codes "inline"; sample = codes "x()"; policy = codes "script-src 'report-sample'" } ∷ [])
 unfolding verdicts_on_literals
-a_sample_is_shown =
-    (findings_of sampled inline.checks, are_findings sampled inline.checks,
-    (_, _, [], refl, refl,
-    record { disposition = refl; effective = refl; blocked_uri = refl; sample = inl ((tt, holds (keyword_decides keyword.ReportSample (source.Word keyword.ReportSample ∷ [])) refl), refl); policy = refl }, refl))
+a_sample_is_shown = (
+  findings_of sampled inline.checks,
+  are_findings sampled inline.checks,
+  (
+    _,
+    _,
+    [],
+    refl,
+    refl,
+    record { disposition = refl; effective = refl; blocked_uri = refl; sample = inl ((tt, holds (keyword_decides keyword.ReportSample (source.Word keyword.ReportSample ∷ [])) refl), refl); policy = refl },
+    refl,
+  ),
+)
 
 -- and no other is
 pub no_sample_is_shown_unasked : AreViolations own_only inline
     (record { disposition = Enforce; effective = ScriptSrcElem; blocked_uri = codes "inline"; sample = []; policy = codes "default-src 'self'" } ∷ [])
 unfolding verdicts_on_literals
-no_sample_is_shown_unasked =
-    (findings_of own_only inline.checks, are_findings own_only inline.checks,
-    (_, _, [], refl, refl,
+no_sample_is_shown_unasked = (
+  findings_of own_only inline.checks,
+  are_findings own_only inline.checks,
+  (
+    _,
+    _,
+    [],
+    refl,
+    refl,
     record {
       disposition = refl;
       effective = refl;
       blocked_uri = refl;
       sample = inr ((λ asked. fails (keyword_decides keyword.ReportSample (source.Word keyword.SelfOrigin ∷ [])) refl asked.1), refl);
-      policy = refl
-    }, refl))
+      policy = refl;
+    },
+    refl,
+  ),
+)
 
 -- a sandbox makes no report
 pub a_sandbox_makes_no_report : AreViolations (block (codes "Content-Security-Policy: sandbox\n"))
     (record { checks = check.WorkerStart ∷ []; blocked_uri = []; sample = [] }) []
 unfolding verdicts_on_literals
-a_sandbox_makes_no_report =
-    (findings_of (block (codes "Content-Security-Policy: sandbox\n")) (check.WorkerStart ∷ []),
-    are_findings (block (codes "Content-Security-Policy: sandbox\n")) (check.WorkerStart ∷ []), refl)
+a_sandbox_makes_no_report = (
+  findings_of (block (codes "Content-Security-Policy: sandbox\n")) (check.WorkerStart ∷ []),
+  are_findings (block (codes "Content-Security-Policy: sandbox\n")) (check.WorkerStart ∷ []),
+  refl,
+)
