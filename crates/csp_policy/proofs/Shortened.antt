@@ -1,15 +1,11 @@
 -- Directives that are read with room for so many tokens.
-use Rattle.std.proofs.Common.{arith, ◌≡◌, ◌∙◌, sym, ap, refl, ℕ, ◌+◌, ◌-◌, ◌<◌, ◌≤◌, Bool, List, [], ◌∷◌, ◌++◌, length, map, take, min, length-append, append-nil, subst}
+use Rattle.std.proofs.Common.{arith, ◌≡◌, ◌∙◌, sym, ap, ℕ, ◌+◌, ◌-◌, ◌≤◌, List, [], ◌∷◌, ◌++◌, length, map, take, min, length-append}
 use Rattle.std.proofs.lemmas.List.{take_all, length-take}
 use Rattle.std.proofs.lemmas.List.Sums.{sum_by_push}
 use Rattle.csp_model.specs.Ascii.{lower}
 use Rattle.csp_model.specs.Reading.{source_of}
-use Rattle.csp_model.specs.Policies.{policy_with, token_count}
-use Rattle.csp_model.specs.declared.policy.Disposition.{Disposition}
-use Rattle.csp_model.specs.declared.policy.Policy.{Policy}
-use Rattle.csp_model.specs.declared.url.Origin.{Origin}
 use Rattle.csp_model.specs.declared.policy.Directive.{Directive}
-use Rattle.csp_policy.specs.Reading.{directive_with, shortened, tokens_in, AreShortened, AreRead}
+use Rattle.csp_policy.specs.Reading.{directive_with, shortened, tokens_in, AreShortened}
 
 tokens_more : (ds : List Directive) (d : Directive) → tokens_in (ds ++ d ∷ []) ≡ tokens_in ds + length d.tokens
 tokens_more ds d = sum_by_push (λ (d : Directive). length d.tokens) ds d
