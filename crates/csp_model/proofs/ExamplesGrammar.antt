@@ -1,8 +1,13 @@
 -- Examples of tokens, and what they stand for.
-use Rattle.std.proofs.Common.{◌≡◌, [], ◌∷◌, Some, None, refl}
+use Rattle.std.proofs.Common.{true, ◌≡◌, [], ◌∷◌, Some, None, refl, ℕ, List, ◌++◌, Option, IsTrue, subst}
 use Rattle.std.specs.Prelude.{codes}
-use Rattle.csp_model.specs.Grammar.{IsHostSource, IsSchemeSource, IsSource, host_of, port_of, path_of, number}
+use Rattle.csp_model.specs.Grammar.{IsHostSource, IsSchemeSource, IsSource, host_of, port_of, path_of, number, is_scheme}
 use Rattle.csp_model.specs.Reading.{source_of}
+use Rattle.std.specs.Str.{bytes_eq}
+use Rattle.std.proofs.lemmas.Bool.{false≢true}
+use Rattle.std.proofs.lemmas.Bool.Decides.{not_from_Decides}
+use Rattle.std.proofs.lemmas.Slice.Eq.{bytes_eq-Decides}
+use Rattle.csp_model.specs.Ascii.{lower}
 use Rattle.csp_model.proofs.OnLiterals.{source_on_literals}
 use Rattle.csp_model.specs.declared.source.Algorithm.TheVariants.{Sha384}
 use Rattle.csp_model.specs.declared.source.HostPart.TheVariants as host_part
@@ -139,3 +144,20 @@ no_path_has_a_comma = refl
 
 pub zeros_first_change_no_number : number (codes "0080") ≡ 80
 zeros_first_change_no_number = refl
+
+digit_first : (letters : List ℕ) → codes "1a:" ≡ letters ++ codes ":" → IsTrue (is_scheme letters) → ⊥
+digit_first [] e scheme = false≢true scheme
+digit_first (c ∷ cs) e scheme = let f : c ≡ 49 = cc in false≢true (subst (λ (x : ℕ). is_scheme (x ∷ cs) ≡ true) f scheme)
+
+pub no_scheme_begins_with_a_digit : (scheme : List ℕ) → ¬ IsSource (codes "1a:") (source.SchemeOnly scheme)
+no_scheme_begins_with_a_digit scheme (letters, e, is, _) = digit_first letters e is
+
+pub no_nonce_is_empty : ¬ IsSource (codes "'nonce-'") (source.Nonce [])
+unfolding source_on_literals
+no_nonce_is_empty (letters, _, _, value) = false≢true value
+
+pub none_is_no_keyword : ¬ IsSource (codes "'none'") (source.Word keyword.SelfOrigin)
+none_is_no_keyword = not_from_Decides (bytes_eq (lower (codes "'none'")) (codes "'self'")) (bytes_eq-Decides (lower (codes "'none'")) (codes "'self'")) refl
+
+pub a_star_is_no_host_source : (scheme : Option (List ℕ)) → ¬ IsSource (codes "*") (source.Hosted scheme host_part.Any port_part.Absent path_part.Absent)
+a_star_is_no_host_source scheme is = is.0 refl

@@ -113,10 +113,8 @@ fn copies_of_policies(rt: HostRuntime) -> Result<(), Fail> {
     Ok(())
 }
 
-#[test]
-fn copies_of_checks(rt: HostRuntime) -> Result<(), Fail> {
-    let alloc = rt.alloc();
-    let inline = Check::Inline {
+fn inline_script(alloc: Global) -> Result<Check, Memory> {
+    Ok(Check::Inline {
         kind: InlineKind::Script,
         nonce: Text::new(alloc, "abc")?,
         digests: Digests {
@@ -124,23 +122,40 @@ fn copies_of_checks(rt: HostRuntime) -> Result<(), Fail> {
             sha384: [2; 48],
             sha512: [3; 64],
         },
-    };
-    assert!(rt; inline.copy(alloc)? == inline);
-    let fetch = Check::Fetch {
+    })
+}
+
+fn address_url(alloc: Global) -> Result<Url, Memory> {
+    let path = one(alloc, Bytes::new(alloc, b"")?)?;
+    Ok(Url::Hosted {
+        scheme: Scheme::Http,
+        host: Host::Address(Text::new(alloc, "10.0.0.1")?),
+        port: Some(8080),
+        path,
+    })
+}
+
+fn image_fetch(alloc: Global) -> Result<Check, Memory> {
+    let url = address_url(alloc)?;
+    Ok(Check::Fetch {
         group: Group::Img,
-        url: Url::Hosted {
-            scheme: Scheme::Http,
-            host: Host::Address(Text::new(alloc, "10.0.0.1")?),
-            port: Some(8080),
-            path: one(alloc, Bytes::new(alloc, b"")?)?,
-        },
+        url,
         redirects: 1,
         nonce: Text::new(alloc, "")?,
         integrity: List::new(alloc),
         parser_inserted: true,
-    };
-    assert!(rt; fetch.copy(alloc)? == fetch);
-    assert!(rt; fetch != inline);
+    })
+}
+
+fn is_copied(alloc: Global, check: &Check) -> Result<bool, Memory> {
+    Ok(check.copy(alloc)? == *check)
+}
+
+#[test]
+fn copies_of_checks(rt: HostRuntime) -> Result<(), Fail> {
+    let alloc = rt.alloc();
+    assert!(rt; is_copied(alloc, &inline_script(alloc)?)?);
+    assert!(rt; is_copied(alloc, &image_fetch(alloc)?)?);
     Ok(())
 }
 
