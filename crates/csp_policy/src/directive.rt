@@ -1,5 +1,5 @@
 //! Serialized policies (Content Security Policy Level 3, section 2.2.1).
-ghost use Rattle.std.specs.Prelude.{◌≡◌, ◌-◌, IfOk, OnOk, IsTrue, IfSome, MatchOption, None, Some, true, not, ◌||◌, [], length, map, take};
+ghost use Rattle.std.specs.Prelude.{◌≡◌, ◌-◌, IfOk, OnOk, IfSome, MatchOption, None, Some, true, not, ◌||◌, [], length, map, take};
 ghost use Rattle.csp_model.specs.Ascii.{is_ascii_text, words};
 ghost use Rattle.csp_model.specs.Policies.{directive_of, directives_of, is_for_meta};
 ghost use Rattle.csp_model.specs.Reading.{source_of};

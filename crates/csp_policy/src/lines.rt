@@ -1,8 +1,7 @@
 //! The lines of a header block (RFC 9110, sections 5.1, 5.5 and 5.6.2).
-ghost use Rattle.std.specs.Prelude.{◌≡◌, ◌<◌, ◌≤◌, ◌+◌, ◌^◌, ◌-◌, length, map, IfSome, position, IsTrue, drop};
-ghost use Rattle.std.specs.List.{list_all, position_or_len};
+ghost use Rattle.std.specs.Prelude.{◌≡◌, ◌<◌, length, IfSome, position};
 ghost use Rattle.std.specs.Str.Lines.{strip_carriage_return};
-ghost use Rattle.csp_model.specs.Policies.{is_token_char, is_field_name, is_field_value, header_of, line_of, is_bad, is_colon, is_newline, without_status};
+ghost use Rattle.csp_model.specs.Policies.{is_field_name, is_field_value, header_of, line_of, is_colon, is_newline, without_status};
 ghost use Rattle.csp_policy.specs.Lines.{line_said};
 
 use http_header::is_token;

@@ -1,9 +1,8 @@
 //! Names of directives, whose letters may be of either case.
-ghost use Rattle.std.specs.Prelude.{◌≡◌, Some, refl, nat_eq};
+ghost use Rattle.std.specs.Prelude.{Some, refl, nat_eq};
 ghost use Rattle.std.specs.Cmp.{on_equiv, on_total, partial_equiv_from_equiv, on_po};
 ghost use Rattle.std.specs.Cmp.Lexicographic.{pointwise, slice_cmp, nat_list_eq_equiv, nat_list_cmp_total, texts_ties, texts_po};
 ghost use Rattle.std.specs.Ordering.{nat_cmp};
-ghost use Rattle.std.proofs.Common.{rules};
 
 use std::cmp::Ordering;
 

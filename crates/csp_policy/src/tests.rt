@@ -1,5 +1,3 @@
-ghost use Rattle.std.specs.Prelude.{length, ◌<◌, ◌-◌, ◌^◌};
-
 use crate::{BlockError, policy_text, read_block};
 use csp_model::{Disposition, Memory, Origin, PolicyList};
 use std::alloc::Global;
