@@ -1,0 +1,54 @@
+//! Hosts (URL Standard, section 3).
+ghost use Rattle.std.specs.Prelude.{◌≡◌, IfOk, option_and_then, option_copied};
+ghost use Rattle.url.specs.Parts.{nonempty_host};
+ghost use Rattle.csp_url.specs.Reading.{domain_of, address_of, found_host};
+ghost use Rattle.csp_url.specs.Parts as spec;
+
+use crate::address::is_address;
+use crate::domain::is_domain;
+use csp_model::{Host, Memory, Text};
+use std::alloc::Global;
+
+fn domain_of(alloc: Global, text: &str) -> Result<Option<Host>, Memory>
+    ensures { IfOk result (λ found. found ≡ domain_of text.now) }
+{
+    if is_domain(text) {
+        Ok(Some(Host::Domain(Text::new(alloc, text)?)))
+    } else {
+        Ok(None)
+    }
+}
+
+fn address_of(alloc: Global, text: &str) -> Result<Option<Host>, Memory>
+    ensures { IfOk result (λ found. found ≡ address_of text.now) }
+{
+    if is_address(text) {
+        Ok(Some(Host::Address(Text::new(alloc, text)?)))
+    } else {
+        Ok(None)
+    }
+}
+
+/// The host that parsing found, where it is valid.
+pub(crate) fn found_host(alloc: Global, parsed: &url::Url) -> Result<Option<Host>, Memory>
+    ensures { IfOk result (λ found. found ≡ option_and_then found_host (nonempty_host parsed.now)) }
+{
+    match parsed.host() {
+        None => Ok(None),
+        Some(url::Host::Domain(text)) => domain_of(alloc, text),
+        Some(_) => match parsed.host_str() {
+            None => Ok(None),
+            Some(text) => address_of(alloc, text),
+        },
+    }
+}
+
+/// The domain or the address that a text is.
+pub(crate) fn host_named(alloc: Global, text: &str) -> Result<Option<Host>, Memory>
+    ensures { IfOk result (λ found. found ≡ spec.host_named text.now) }
+{
+    match domain_of(alloc, text)? {
+        Some(host) => Ok(Some(host)),
+        None => address_of(alloc, text),
+    }
+}

@@ -1,0 +1,129 @@
+//! Makes URLs of their parts.
+ghost use Rattle.std.specs.Prelude.{◌≡◌, Ok, Err, IfOk, option_copied};
+ghost use Rattle.csp_model.specs.Validity.{IsValidUrl};
+ghost use Rattle.csp_url.specs.Parts.{IsPartsAnswer, given_host, given_port, kept_port, hosted_answer, plain_answer, parts_answer};
+
+use crate::error::{Part, PartsError};
+use crate::host::host_named;
+use crate::path::path_of;
+use crate::scheme::is_lower_scheme;
+use csp_model::{Host, Memory, Scheme, Text, Url};
+use std::alloc::Global;
+
+impl From<Memory> for PartsError {
+    ghost use Rattle.csp_url.specs.declared.error.PartsError.{PartsError};
+
+    ghost from_gives = { λ _ made. made ≡ PartsError.Memory };
+
+    fn from(_: Memory) -> PartsError {
+        PartsError::Memory
+    }
+}
+
+fn given_host(alloc: Global, host: Option<&str>) -> Result<Option<Host>, Memory>
+    ensures { IfOk result (λ found. found ≡ given_host (option_copied host)) }
+{
+    match host {
+        None => Ok(None),
+        Some(text) => host_named(alloc, text),
+    }
+}
+
+fn kept_port(scheme: Scheme, port: u16) -> Option<u16>
+    ensures { result ≡ kept_port scheme port }
+{
+    if port == scheme.default_port() {
+        None
+    } else {
+        Some(port)
+    }
+}
+
+fn given_port(scheme: Scheme, port: Option<u32>) -> Option<Option<u16>>
+    ensures { result ≡ given_port scheme port }
+{
+    match port {
+        None => Some(None),
+        Some(n) => {
+            if n < 65536 {
+                Some(kept_port(scheme, n as u16))
+            } else {
+                None
+            }
+        }
+    }
+}
+
+fn hosted(
+    alloc: Global,
+    scheme: Scheme,
+    host: Option<&str>,
+    port: Option<u32>,
+    path: &str,
+) -> Result<Url, PartsError>
+    ensures { IsPartsAnswer result (hosted_answer scheme (option_copied host) port path.now) }
+{
+    let Some(host) = given_host(alloc, host)? else {
+        return Err(PartsError::Bad { part: Part::Host });
+    };
+    let Some(port) = given_port(scheme, port) else {
+        return Err(PartsError::Bad { part: Part::Port });
+    };
+    let Some(path) = path_of(alloc, path.as_bytes())? else {
+        return Err(PartsError::Bad { part: Part::Path });
+    };
+    Ok(Url::Hosted {
+        scheme,
+        host,
+        port,
+        path,
+    })
+}
+
+fn plain(
+    alloc: Global,
+    scheme: &str,
+    host: Option<&str>,
+    port: Option<u32>,
+    path: &str,
+) -> Result<Url, PartsError>
+    ensures { IsPartsAnswer result (plain_answer scheme.now (option_copied host) port path.now) }
+{
+    if host.is_some() {
+        return Err(PartsError::Bad { part: Part::Host });
+    }
+    if port.is_some() {
+        return Err(PartsError::Bad { part: Part::Port });
+    }
+    if path != "/" {
+        return Err(PartsError::Bad { part: Part::Path });
+    }
+    Ok(Url::Plain {
+        scheme: Text::new(alloc, scheme)?,
+    })
+}
+
+/// The URL of its parts (URL Standard, section 4.1). The scheme is in lower case. A URL of http, https, ws, wss or
+/// ftp has a host in lower case, or an address, as the standard prints them; a port of 16 bits, of which the scheme's
+/// default is kept as None; and a path that begins with `/`, whose pieces are percent-decoded. One of another scheme
+/// has neither host nor port, and the path `/`.
+///
+/// `Bad` names the first part, in the order of the arguments, that isn't so.
+pub fn url_from_parts(
+    alloc: Global,
+    scheme: &str,
+    host: Option<&str>,
+    port: Option<u32>,
+    path: &str,
+) -> Result<Url, PartsError>
+    ensures url { IsPartsAnswer result (parts_answer scheme.now (option_copied host) port path.now) }
+    ensures valid { IfOk result IsValidUrl }
+{
+    if !is_lower_scheme(scheme) {
+        return Err(PartsError::Bad { part: Part::Scheme });
+    }
+    match Scheme::from_name(scheme) {
+        Some(known) => hosted(alloc, known, host, port, path),
+        None => plain(alloc, scheme, host, port, path),
+    }
+}

@@ -1,0 +1,60 @@
+//! Paths (URL Standard, section 4.1).
+ghost use Rattle.std.specs.Prelude.{◌≡◌, ◌<◌, All, IfOk};
+ghost use Rattle.std.specs.List.{list_all};
+ghost use Rattle.percent_encoding.specs.Percent.{percent_decode};
+ghost use Rattle.csp_model.specs.Grammar.{pieces_of};
+ghost use Rattle.csp_model.specs.Validity as validity;
+ghost use Rattle.csp_url.specs.Reading.{path_of};
+
+use csp_model::{Bytes, List, Memory};
+use percent_encoding::percent_decode;
+use std::alloc::Global;
+
+fn decoded(alloc: Global, piece: &[u8]) -> Result<Bytes, Memory>
+    ensures { IfOk result (λ made. made ≡ percent_decode piece.now) }
+{
+    let mut bytes = Vec::new(alloc);
+    percent_decode(piece).append_to(&mut bytes)?;
+    Ok(Bytes::from_vec(bytes))
+}
+
+fn pieces_of(alloc: Global, text: &[u8]) -> Result<List<Bytes>, Memory>
+    ensures { IfOk result (λ made. made ≡ pieces_of text.now) }
+{
+    let mut pieces = List::new(alloc);
+    for piece in text.split(|b| *b == b'/') {
+        pieces.push(decoded(alloc, piece)?)?;
+    }
+    Ok(pieces)
+}
+
+#[tactic(auto, unfolding(csp_model::specs::Validity::is_piece))]
+fn is_piece(piece: &[u8]) -> bool
+    ensures { result ≡ validity.is_piece piece.now }
+{
+    !matches!(piece, [b'.'] | [b'.', b'.'])
+}
+
+fn are_pieces(pieces: &[Bytes]) -> bool
+    ensures { result ≡ list_all validity.is_piece pieces.now }
+{
+    pieces.iter().all(|piece| is_piece(piece.as_slice()))
+}
+
+/// The decoded pieces of a path that begins with a slash, where none is `.` or `..`.
+#[tactic(auto, unfolding(crate::specs::Reading::path_of))]
+pub(crate) fn path_of(alloc: Global, text: &[u8]) -> Result<Option<List<Bytes>>, Memory>
+    ensures { IfOk result (λ found. found ≡ path_of text.now) }
+{
+    match text.split_first() {
+        Some((b'/', rest)) => {
+            let pieces = pieces_of(alloc, rest)?;
+            if are_pieces(pieces.as_slice()) {
+                Ok(Some(pieces))
+            } else {
+                Ok(None)
+            }
+        }
+        _ => Ok(None),
+    }
+}

@@ -1,0 +1,82 @@
+//! Writes URLs.
+ghost use Rattle.std.specs.Prelude.{◌≡◌, ◌++◌, ℕ, List, Option, Some, IfOk, OnOk, string_bytes};
+ghost use Rattle.csp_model.specs.Validity.{IsValidUrl};
+ghost use Rattle.csp_model.specs.declared.url.Url.TheVariants.{Hosted};
+ghost use Rattle.csp_url.specs.Reading.{path_of};
+ghost use Rattle.csp_url.specs.Texts as spec;
+
+use crate::ESCAPED;
+use csp_model::{Bytes, Host, Memory, Scheme, Text, Url};
+use itoa::Buffer;
+use percent_encoding::percent_encode;
+use std::alloc::Global;
+
+fn host_str(host: &Host) -> &str
+    ensures { result.now ≡ spec.host_text host.now }
+{
+    match host {
+        Host::Domain(text) => text.as_str(),
+        Host::Address(text) => text.as_str(),
+    }
+}
+
+fn push_port(text: &mut String, port: Option<u16>) -> Result<(), Memory>
+    ensures { OnOk result (string_bytes text.new ≡ string_bytes text.old ++ spec.port_text port) }
+{
+    if let Some(number) = port {
+        text.push(':')?;
+        text.push_str(Buffer::new().format(number))?;
+    }
+    Ok(())
+}
+
+fn push_path(text: &mut String, pieces: &[Bytes]) -> Result<(), Memory>
+    ensures { OnOk result (string_bytes text.new ≡ string_bytes text.old ++ spec.path_text pieces.now) }
+{
+    for piece in pieces {
+        text.push('/')?;
+        percent_encode(piece.as_slice(), ESCAPED).append_to(text)?;
+    }
+    Ok(())
+}
+
+fn push_url(text: &mut String, url: &Url) -> Result<(), Memory>
+    ensures { OnOk result (string_bytes text.new ≡ string_bytes text.old ++ spec.url_text url.now) }
+{
+    match url {
+        Url::Plain { scheme } => {
+            text.push_str(scheme.as_str())?;
+            text.push(':')?;
+        }
+        Url::Hosted {
+            scheme,
+            host,
+            port,
+            path,
+        } => {
+            text.push_str(scheme.as_str())?;
+            text.push_str("://")?;
+            text.push_str(host_str(host))?;
+            push_port(text, *port)?;
+            push_path(text, path.as_slice())?;
+        }
+    }
+    Ok(())
+}
+
+/// The text of a URL: `scheme:`, or `scheme://host`, `:port` where it isn't None, and `/` and the piece for each
+/// piece of the path. In a piece every byte but letters, digits, `-`, `.`, `_` and `~` is written as `%` and two
+/// upper-case hexadecimal digits.
+pub fn url_text(alloc: Global, url: &Url) -> Result<Text, Memory>
+    ensures { IfOk result (λ text. text ≡ spec.url_text url.now) }
+{
+    let mut text = String::new(alloc);
+    push_url(&mut text, url)?;
+    Ok(Text::from_string(text))
+}
+
+/// The path of a valid URL that has a host, written as a text, reads back to its pieces.
+pub fn path_reads_back(url: &Url)
+    requires valid { IsValidUrl url.now }
+    ensures { spec.ReadsBack url.now }
+{}
