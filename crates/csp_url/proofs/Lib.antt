@@ -1,2 +1,6 @@
+mod Bytes
 mod Examples
 mod Labels
+mod PathText
+mod Steps
+mod Valid

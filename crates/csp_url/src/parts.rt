@@ -21,7 +21,7 @@ impl From<Memory> for PartsError {
 }
 
 fn given_host(alloc: Global, host: Option<&str>) -> Result<Option<Host>, Memory>
-    ensures { IfOk result (λ found. found ≡ given_host (option_copied host)) }
+    ensures { IfOk result (λ found. found ≡ given_host (option_copied host.entry)) }
 {
     match host {
         None => Ok(None),
@@ -61,7 +61,7 @@ fn hosted(
     port: Option<u32>,
     path: &str,
 ) -> Result<Url, PartsError>
-    ensures { IsPartsAnswer result (hosted_answer scheme (option_copied host) port path.now) }
+    ensures { IsPartsAnswer result (hosted_answer scheme (option_copied host.entry) port path.now) }
 {
     let Some(host) = given_host(alloc, host)? else {
         return Err(PartsError::Bad { part: Part::Host });
@@ -87,7 +87,7 @@ fn plain(
     port: Option<u32>,
     path: &str,
 ) -> Result<Url, PartsError>
-    ensures { IsPartsAnswer result (plain_answer scheme.now (option_copied host) port path.now) }
+    ensures { IsPartsAnswer result (plain_answer scheme.now (option_copied host.entry) port path.now) }
 {
     if host.is_some() {
         return Err(PartsError::Bad { part: Part::Host });
@@ -116,7 +116,7 @@ pub fn url_from_parts(
     port: Option<u32>,
     path: &str,
 ) -> Result<Url, PartsError>
-    ensures url { IsPartsAnswer result (parts_answer scheme.now (option_copied host) port path.now) }
+    ensures url { IsPartsAnswer result (parts_answer scheme.now (option_copied host.entry) port path.now) }
     ensures valid { IfOk result IsValidUrl }
 {
     if !is_lower_scheme(scheme) {

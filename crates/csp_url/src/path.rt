@@ -1,6 +1,7 @@
 //! Paths (URL Standard, section 4.1).
-ghost use Rattle.std.specs.Prelude.{◌≡◌, ◌<◌, All, IfOk};
+ghost use Rattle.std.specs.Prelude.{◌≡◌, ◌||◌, codes, IfOk};
 ghost use Rattle.std.specs.List.{list_all};
+ghost use Rattle.std.specs.Str.{bytes_eq};
 ghost use Rattle.percent_encoding.specs.Percent.{percent_decode};
 ghost use Rattle.csp_model.specs.Grammar.{pieces_of};
 ghost use Rattle.csp_model.specs.Validity as validity;
@@ -28,11 +29,16 @@ fn pieces_of(alloc: Global, text: &[u8]) -> Result<List<Bytes>, Memory>
     Ok(pieces)
 }
 
-#[tactic(auto, unfolding(csp_model::specs::Validity::is_piece))]
+fn is_dots(piece: &[u8]) -> bool
+    ensures { result ≡ (bytes_eq piece.now (codes ".") || bytes_eq piece.now (codes "..")) }
+{
+    matches!(piece, [b'.'] | [b'.', b'.'])
+}
+
 fn is_piece(piece: &[u8]) -> bool
     ensures { result ≡ validity.is_piece piece.now }
 {
-    !matches!(piece, [b'.'] | [b'.', b'.'])
+    !is_dots(piece)
 }
 
 fn are_pieces(pieces: &[Bytes]) -> bool
