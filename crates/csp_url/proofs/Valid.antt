@@ -105,7 +105,7 @@ path_valid [] pieces h = absurd (cc h)
 path_valid (b ∷ text) pieces h = by (b == 47) h where
   by : (s : Bool) → (if s then whole_pieces (pieces_of text) else None) ≡ Some pieces → (pieces ≢ []) × IsTrue (list_all is_piece pieces)
   by true e = let c = some_if (list_all is_piece (pieces_of text)) (pieces_of text) pieces e in
-    (subst (λ ps. ps ≢ []) c.1 (nonempty_split text), subst (λ ps. IsTrue (list_all is_piece ps)) c.1 c.0)
+      (subst (λ ps. ps ≢ []) c.1 (nonempty_split text), subst (λ ps. IsTrue (list_all is_piece ps)) c.1 c.0)
   by false e = absurd (cc e)
 
 -- URLs
