@@ -1,14 +1,11 @@
 -- The items of a check, found from the first policy on.
-use Rattle.std.proofs.Common.{◌≡◌, ◌<◌, ◌+◌, ℕ, Bool, true, false, ◌||◌, List, [], ◌∷◌, ◌++◌, length, drop, get_or, map, ◌⊎◌, sym, ap, refl, ◌∙◌, append-nil, append_assoc, add-one, drop-cons, subst, inl, inr, All}
+use Rattle.std.proofs.Common.{◌≡◌, ◌<◌, ◌+◌, ℕ, Bool, true, false, ◌||◌, List, [], ◌∷◌, ◌++◌, length, drop, get_or, map, ◌⊎◌, sym, ap, refl, ◌∙◌, append-nil, append_assoc, add-one, drop-cons, subst, inl, inr}
 use Rattle.std.specs.List.{list_any}
-use Rattle.std.proofs.lemmas.List.Folds.{list_any-append}
-use Rattle.std.proofs.lemmas.Grind.{common_steps}
 use Rattle.csp_model.specs.Verdict.{Allows, ListAllows, AreItems, IsItem, IsVerdict, is_enforced, Finding, findings}
 use Rattle.csp_model.specs.declared.check.Check.{Check}
 use Rattle.csp_model.specs.declared.policy.Policy.{Policy}
 use Rattle.csp_model.specs.declared.policy.PolicyList.{PolicyList}
 use Rattle.csp_model.specs.declared.verdict.Item.{Item}
-use Rattle.csp_model.specs.declared.verdict.Verdict.{Verdict}
 use Rattle.csp_model.specs.declared.url.Url.{Url}
 use Rattle.csp_model.proofs.Items.{none_enforced, some_enforced, is_blocked}
 use Rattle.csp_run.specs.Requests.{image_check}

@@ -1,5 +1,5 @@
 -- JSON values as the code holds them.
-use Rattle.std.proofs.Common.{◌≡◌, ◌+◌, ℕ, List, [], ◌∷◌, length, map, String, refl, ap, ◌∙◌, sym, add-one, true, false, IsUtf8, Option, Some, None, cond}
+use Rattle.std.proofs.Common.{◌≡◌, ◌+◌, ℕ, List, [], ◌∷◌, length, map, String, refl, ap, ◌∙◌, sym, add-one, true, false, IsUtf8, Some, None, cond}
 use Rattle.std.specs.Prelude.{◌==◌}
 use Rattle.std.proofs.lemmas.List.{length-map}
 use Rattle.std.proofs.lemmas.Bool.{false≢true}

@@ -1,12 +1,12 @@
 -- The output of one verdict.
-use Rattle.std.proofs.Common.{◌≡◌, ℕ, true, false, List, [], ◌∷◌, ◌++◌, refl, sym, ◌∙◌, append-nil, ap, Bool, ◌||◌, if◌then◌else◌}
+use Rattle.std.proofs.Common.{◌≡◌, ℕ, true, false, List, [], ◌∷◌, refl, sym, ◌∙◌, append-nil, ap, Bool, ◌||◌, if◌then◌else◌}
 use Rattle.csp_model.specs.Verdict.{IsVerdict}
 use Rattle.csp_model.specs.declared.check.Check.{Check}
 use Rattle.csp_model.specs.declared.policy.PolicyList.{PolicyList}
 use Rattle.csp_model.specs.declared.verdict.Verdict.{Verdict}
 use Rattle.csp_run.specs.declared.status.Status.{Status}
 use Rattle.csp_run.specs.declared.status.Status.TheVariants.{Clean, Found}
-use Rattle.csp_run.specs.Lines.{IsJudgment, AreVerdicts, judged_status, lines_from, verdict_line}
+use Rattle.csp_run.specs.Lines.{IsJudgment, judged_status, verdict_line}
 
 or_nothing : (b : Bool) → (b || false) ≡ b
 or_nothing true = refl

@@ -4,3 +4,4 @@ pub mod Items
 pub mod Judgment
 pub mod Outcomes
 pub mod Causes
+pub mod Limits

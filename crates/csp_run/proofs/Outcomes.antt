@@ -1,7 +1,7 @@
 -- What the tests of two files find, and what is due then.
-use Rattle.std.proofs.Common.{◌≡◌, ℕ, List, [], ◌∷◌, Option, Some, None, refl, sym, ap, ◌∙◌, subst, inl, inr, ◌⊎◌, true, false, Bool, cond, IsNone, if◌then◌else◌, Result, Ok, Err, IfOk, IfErr}
+use Rattle.std.proofs.Common.{◌≡◌, ℕ, List, [], ◌∷◌, Option, Some, None, refl, sym, ap, ◌∙◌, subst, inl, inr, ◌⊎◌, true, false, Bool, IsNone, if◌then◌else◌, Result, Ok, Err, IfOk, IfErr}
 use Rattle.std.proofs.lemmas.Bool.{false≢true}
-use Rattle.csp_io.specs.Told.{WhereTold, Rose}
+use Rattle.csp_io.specs.Told.{WhereTold}
 use Rattle.csp_model.specs.Policies.{policies}
 use Rattle.csp_model.specs.declared.policy.PolicyList.{PolicyList}
 use Rattle.csp_model.specs.declared.policy.Policy.{Policy}
@@ -15,9 +15,10 @@ use Rattle.csp_run.specs.declared.status.Role.{Role}
 use Rattle.csp_run.specs.declared.status.Role.TheVariants.{Policy as PolicyFile, Requests}
 use Rattle.csp_run.specs.declared.status.Status.{Status}
 use Rattle.csp_run.specs.declared.status.Status.TheVariants as status
-use Rattle.csp_run.specs.Answer.{Outcome, Untold, Faulty, Whole, and_then, tested, told_file, outcome_of, IsAnswerTo, IsImageJudgment}
-use Rattle.csp_run.specs.Commands.{Command, Judge, File, files_of, origin_of}
-use Rattle.csp_run.specs.Due.{Passes, HasFailed, IsDueAfter, IsDueOf, IsFileFault}
+use Rattle.csp_run.specs.Answer.{Outcome, Untold, Faulty, Whole, and_then, tested, told_file, outcome_of, IsAnswerTo}
+use Rattle.csp_url.specs.Origins.{origin_of}
+use Rattle.csp_run.specs.Commands.{Command, Judge, File, files_of}
+use Rattle.csp_run.specs.Due.{Passes, IsDueAfter, IsDueOf, IsFileFault}
 use Rattle.csp_run.specs.Lines.{IsJudgment, judged_status}
 use Rattle.csp_run.specs.Requests.{requested_url, image_check}
 use Rattle.csp_run.specs.Tests.{fault_of, Reads, with_origin}
@@ -116,21 +117,21 @@ judgment_due policy requests o c before now list there (Ok built) passes read pa
     (judged_told word policy requests o (c policy) (c requests) list there built.status built.text passes read passes_too asked judged)
 judgment_due policy requests o c before now list there (Err f) passes read passes_too asked judged = tt
 
-from_word : (word policy requests : List ℕ) (o : Origin) (c : List ℕ → Option (List ℕ)) (before now : List ℕ → ℕ) (s : Status) (text : List ℕ) → Some o ≡ origin_of word
+from_word : (word policy requests : List ℕ) (o : Origin) (c : List ℕ → Option (List ℕ)) (before now : List ℕ → ℕ) (s : Status) (text : List ℕ) → origin_of word ≡ Some o
     → IsDueAfter (Reads o (files_of (Judge word policy requests))) (Some (Judge word policy requests)) c before now s text
     → IsDueOf (Some (Judge word policy requests)) c before now s text
 from_word word policy requests o c before now s text named due =
     let P : Option Origin → Type 0 = λ found. IsDueAfter (with_origin found (files_of (Judge word policy requests))) (Some (Judge word policy requests)) c before now s text in
-    subst P named due
+    subst P (sym named) due
 
 -- what is due from the origin that the word names is due
-pub output_due : (word policy requests : List ℕ) (o : Origin) (c : List ℕ → Option (List ℕ)) (before now : List ℕ → ℕ) (r : Result Built Fault) → Some o ≡ origin_of word
+pub output_due : (word policy requests : List ℕ) (o : Origin) (c : List ℕ → Option (List ℕ)) (before now : List ℕ → ℕ) (r : Result Built Fault) → origin_of word ≡ Some o
     → IfOk r (λ built. (any : List ℕ) → IsDueAfter (Reads o (files_of (Judge any policy requests))) (Some (Judge any policy requests)) c before now built.status built.text)
     → IfOk r (λ built. IsDueOf (Some (Judge word policy requests)) c before now built.status built.text)
 output_due word policy requests o c before now (Ok built) named due = from_word word policy requests o c before now built.status built.text named (due word)
 output_due word policy requests o c before now (Err f) named due = tt
 
-pub fault_due : (word policy requests : List ℕ) (o : Origin) (c : List ℕ → Option (List ℕ)) (before now : List ℕ → ℕ) (r : Result Built Fault) → Some o ≡ origin_of word
+pub fault_due : (word policy requests : List ℕ) (o : Origin) (c : List ℕ → Option (List ℕ)) (before now : List ℕ → ℕ) (r : Result Built Fault) → origin_of word ≡ Some o
     → IfErr r (λ f. (any : List ℕ) → IsDueAfter (Reads o (files_of (Judge any policy requests))) (Some (Judge any policy requests)) c before now (status_of f) (fault_text f))
     → IfErr r (λ f. IsDueOf (Some (Judge word policy requests)) c before now (status_of f) (fault_text f))
 fault_due word policy requests o c before now (Ok built) named due = tt

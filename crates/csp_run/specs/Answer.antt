@@ -5,7 +5,7 @@ use Rattle.csp_model.specs.declared.url.Origin.{Origin}
 use Rattle.csp_model.specs.declared.url.Url.{Url}
 use Rattle.csp_run.specs.declared.status.Fault.{Fault}
 use Rattle.csp_run.specs.declared.status.Status.{Status}
-use Rattle.csp_run.specs.Commands.{Command, Judge, Unbuilt, command_of, File}
+use Rattle.csp_run.specs.Commands.{Command, Judge, command_of, File}
 use Rattle.csp_run.specs.Lines.{IsJudgment}
 use Rattle.csp_run.specs.Requests.{requested_url, image_check}
 use Rattle.csp_run.specs.Tests.{fault_of, Opening, Refused, Reads, opening_of}

@@ -1,14 +1,7 @@
 -- The commands, and the files that each one reads, in order.
-use Rattle.std.specs.Prelude.{Bool, ℕ, if◌then◌else◌, ◌&&◌, ◌||◌, ◌==◌, not, nat_le, nat_lt, List, [], ◌∷◌, length, drop, slice_index, Option, Some, None, codes, nat_eq}
-use Rattle.std.specs.List.{list_all, starts_with}
+use Rattle.std.specs.Prelude.{Bool, ℕ, if◌then◌else◌, ◌&&◌, ◌||◌, ◌==◌, not, nat_le, nat_lt, List, [], ◌∷◌, length, slice_index, Option, Some, None, codes}
 use Rattle.std.specs.Str.{bytes_eq}
-use Rattle.std.specs.Char.{is_ascii_lowercase}
-use Rattle.csp_model.specs.Ascii.{is_nonempty, split_at}
 use Rattle.csp_model.specs.Grammar.{are_digits, number}
-use Rattle.csp_model.specs.declared.url.Origin.{Origin}
-use Rattle.csp_model.specs.declared.url.Origin.TheVariants.{Tuple}
-use Rattle.csp_model.specs.declared.url.Scheme.TheVariants.{Https}
-use Rattle.csp_model.specs.declared.url.Host.TheVariants.{Domain}
 use Rattle.csp_run.specs.declared.status.Role.{Role}
 use Rattle.csp_run.specs.declared.status.Role.TheVariants.{Policy, Requests}
 
@@ -31,18 +24,6 @@ command_of (verb ∷ origin ∷ first ∷ second ∷ []) =
     else None
 command_of (verb ∷ origin ∷ first ∷ second ∷ proof ∷ []) = if bytes_eq verb (codes "check") then Some Unbuilt else None
 command_of words = None
-
--- labels of lower-case letters, joined by "."
-unfoldable pub is_plain_label : List ℕ → Bool
-is_plain_label text = is_nonempty text && list_all is_ascii_lowercase text
-
-unfoldable pub is_plain_host : List ℕ → Bool
-is_plain_host text = list_all is_plain_label (split_at 46 text)
-
--- the origin of a word: "https://" and a plain host
-abbrev pub origin_of : List ℕ → Option Origin
-origin_of word =
-    if starts_with nat_eq word (codes "https://") && is_plain_host (drop 8 word) then Some (Tuple Https (Domain (drop 8 word)) None) else None
 
 -- a file that a command reads
 pub record File : Type 0 where

@@ -1,5 +1,5 @@
 -- The text that is due with each status, and the cause of each fault.
-use Rattle.std.specs.Prelude.{◌≡◌, ◌⊎◌, ℕ, List, [], ◌∷◌, Option, Some, None, IsNone, ⊤}
+use Rattle.std.specs.Prelude.{◌≡◌, ◌⊎◌, ℕ, List, [], ◌∷◌, Option, Some, IsNone, ⊤}
 use Rattle.csp_io.specs.Told.{WhereTold, Rose}
 use Rattle.csp_model.specs.declared.url.Origin.{Origin}
 use Rattle.csp_run.specs.declared.status.Role.{Role}

@@ -13,14 +13,13 @@ ghost use Rattle.csp_run.specs.Texts as texts;
 
 use crate::command::{Command, command_of};
 use crate::lines::verdict_line;
-use crate::origin::read_origin;
-use crate::policy::is_built;
-use crate::request::requested_url;
+use crate::request::{RequestError, requested_url};
 use crate::status::{Fault, Limit, Part, Role, Status};
 use crate::verdict::judge_image;
 use csp_io::{Inputs, ReadError, read_all};
 use csp_model::{Bytes, List, Memory, Origin, PolicyList, Text, Url};
 use csp_policy::{BlockError, read_block};
+use csp_url::{OriginError, read_origin};
 use std::alloc::Global;
 
 /// A whole output.
@@ -68,9 +67,9 @@ fn judge<I: Inputs>(
     ensures later { (n : Items ℕ) → I.faults inputs.old n ≤ I.faults inputs.new n }
 {
     match read_origin(alloc, origin) {
-        Ok(Some(from)) => judge_from(alloc, inputs, &from, policy, requests),
-        Ok(None) => Err(Fault::NotBuilt { part: Part::Origin }),
-        Err(_) => Err(Fault::Memory),
+        Ok(from) => judge_from(alloc, inputs, &from, policy, requests),
+        Err(OriginError::BadOrigin) => Err(Fault::BadOrigin),
+        Err(OriginError::Memory) => Err(Fault::Memory),
     }
 }
 
@@ -150,13 +149,7 @@ fn policies_of(alloc: Global, bytes: &[u8], origin: &Origin) -> Result<PolicyLis
     ensures fault { IfErr result (IsFaultOf origin.now Role.Policy bytes.now) }
 {
     match read_block(alloc, bytes, origin) {
-        Ok(list) => {
-            if is_built(&list) {
-                Ok(list)
-            } else {
-                Err(Fault::NotBuilt { part: Part::Policy })
-            }
-        }
+        Ok(list) => Ok(list),
         Err(error) => Err(fault_of_refusal(error)),
     }
 }
@@ -199,11 +192,12 @@ fn read_request<I: Inputs>(
     match read_file(alloc, inputs, name, Role::Requests) {
         Err(fault) => Err(fault),
         Ok(bytes) => match requested_url(alloc, bytes.as_slice()) {
-            Ok(Some(url)) => Ok(url),
-            Ok(None) => Err(Fault::NotBuilt {
+            Ok(url) => Ok(url),
+            Err(RequestError::NotBuilt) => Err(Fault::NotBuilt {
                 part: Part::Requests,
             }),
-            Err(_) => Err(Fault::Memory),
+            Err(RequestError::BadUrl) => Err(Fault::BadUrl { request: 1 }),
+            Err(RequestError::Memory) => Err(Fault::Memory),
         },
     }
 }

@@ -14,8 +14,6 @@ fn part_text<'a>(part: Part) -> &'a str
 {
     match part {
         Part::Command => "command",
-        Part::Origin => "origin",
-        Part::Policy => "policy",
         Part::Requests => "requests",
     }
 }
@@ -72,6 +70,7 @@ fn pieces<'a>(fault: Fault, digits: &'a mut Buffer) -> [&'a str; 5]
 {
     match fault {
         Fault::Usage => [usage_text(), "", "", "", "\n"],
+        Fault::BadOrigin => ["bad origin", "", "", "", "\n"],
         Fault::NotBuilt { part } => ["not built: ", part_text(part), "", "", "\n"],
         Fault::BadPolicy { file, line } => {
             [
@@ -85,6 +84,13 @@ fn pieces<'a>(fault: Fault, digits: &'a mut Buffer) -> [&'a str; 5]
         Fault::TooLarge { file, limit } => {
             ["too large: ", role_text(file), " ", limit_text(limit), "\n"]
         }
+        Fault::BadUrl { request } => [
+            "bad requests: request ",
+            digits.format(request),
+            " ",
+            "url",
+            "\n",
+        ],
         Fault::Read { file } => ["read fault: ", role_text(file), "", "", "\n"],
         Fault::Memory => ["no memory", "", "", "", "\n"],
     }

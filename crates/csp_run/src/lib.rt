@@ -5,8 +5,6 @@ mod answer;
 mod command;
 mod fault;
 mod lines;
-mod origin;
-mod policy;
 mod request;
 mod status;
 mod top;

@@ -1,27 +1,45 @@
-//! The requests of a request file: for now one fetch of an image, its URL in parts.
-ghost use Rattle.std.specs.Prelude.{◌≡◌, ℕ, IfOk, List as Items, map, Some, None, Option, option_map, option_copied, option_and_then, ◌==◌, slice_index, drop};
-ghost use Rattle.std.specs.List.{list_all, slice_split};
-ghost use Rattle.serde_json.specs.View.{view, items_view, members_view};
-ghost use Rattle.serde_json.specs.Find.{as_array, as_object};
-ghost use Rattle.csp_model.specs.Ascii.{split_at};
+//! The requests of a request file: for now one fetch of an image.
+ghost use Rattle.std.specs.Prelude.{◌≡◌, IfOk, OnOk, IsErrOf, Some, option_map, option_copied, option_and_then, None};
+ghost use Rattle.serde_json.specs.Find.{as_array, as_object, as_str};
+ghost use Rattle.serde_json.specs.View.{view, items_view};
 ghost use Rattle.csp_run.specs.Requests as requests;
+ghost use Rattle.csp_run.specs.Tests.{request_fault};
 
-use crate::origin::is_plain_host;
-use csp_model::{Bytes, Host, List, Memory, Scheme, Text, Url};
+use crate::status::{Fault, Part};
+use csp_model::{Memory, Url};
+use csp_url::{PartsError, UrlError, read_url, url_from_parts};
 use serde_json::Value;
 use std::alloc::Global;
 
-/// The URL of the one image that a request file asks for, or None where the file has another form.
-#[tactic(auto, unfolding(crate::specs::Requests::requested_url))]
-pub fn requested_url(alloc: Global, bytes: &[u8]) -> Result<Option<Url>, Memory>
-    ensures { IfOk result (λ url. url ≡ requests.requested_url bytes.now) }
+/// Why no URL is read from a request file.
+#[derive(Clone, Copy)]
+pub enum RequestError {
+    /// The file asks for something else than one image.
+    NotBuilt,
+    /// What stands for the URL is none.
+    BadUrl,
+    Memory,
+}
+
+/// The URL of the one image that a request file asks for.
+#[tactic(auto, unfolding(crate::specs::Requests::requested_value))]
+pub fn requested_url(alloc: Global, bytes: &[u8]) -> Result<Url, RequestError>
+    ensures passes { OnOk result (request_fault (requests.requested_value bytes.now) ≡ None) }
+    ensures url { IfOk result (λ url. requests.requested_url bytes.now ≡ Some url) }
+    ensures not_built { IsErrOf result RequestError.NotBuilt → request_fault (requests.requested_value bytes.now) ≡ Some (Fault.NotBuilt Part.Requests) }
+    ensures bad_url { IsErrOf result RequestError.BadUrl → request_fault (requests.requested_value bytes.now) ≡ Some (Fault.BadUrl 1) }
 {
-    let Some(value) = json_of(alloc, bytes)? else {
-        return Ok(None);
-    };
-    match only_item(&value) {
-        None => Ok(None),
-        Some(item) => image_url(alloc, item),
+    match json_of(alloc, bytes) {
+        Err(_) => Err(RequestError::Memory),
+        Ok(None) => Err(RequestError::NotBuilt),
+        Ok(Some(value)) => match only_image(&value) {
+            None => Err(RequestError::NotBuilt),
+            Some(url) => match url_of_value(alloc, url) {
+                Ok(Some(url)) => Ok(url),
+                Ok(None) => Err(RequestError::BadUrl),
+                Err(_) => Err(RequestError::Memory),
+            },
+        },
     }
 }
 
@@ -37,6 +55,17 @@ fn json_of(alloc: Global, bytes: &[u8]) -> Result<Option<Value>, Memory>
                 Ok(None)
             }
         }
+    }
+}
+
+// What stands for the URL in an array of one image's fetch.
+fn only_image(value: &Value) -> Option<&Value>
+    ensures { option_map (λ v. view v.now) result
+        ≡ option_and_then requests.image_value (option_and_then requests.only_item (as_array (view value.now))) }
+{
+    match only_item(value) {
+        None => None,
+        Some(item) => image_value(item),
     }
 }
 
@@ -73,125 +102,106 @@ fn text_member<'v>(value: &'v Value, name: &str) -> Option<&'v str>
     value.get(name)?.as_str()
 }
 
-fn image_url(alloc: Global, value: &Value) -> Result<Option<Url>, Memory>
-    ensures { IfOk result (λ url. url ≡ requests.image_url (view value.now)) }
+fn image_value(value: &Value) -> Option<&Value>
+    ensures { option_map (λ v. view v.now) result ≡ requests.image_value (view value.now) }
 {
     if !has_three(value) {
-        return Ok(None);
+        return None;
     }
     match (
         text_member(value, "kind"),
         text_member(value, "destination"),
     ) {
         (Some("fetch"), Some("image")) => match value.get("url") {
-            None => Ok(None),
-            Some(url) => url_of_parts(alloc, url),
+            None => None,
+            Some(url) => text_or_object(url),
         },
-        _ => Ok(None),
+        _ => None,
     }
 }
 
-fn web_scheme(name: &str) -> Option<Scheme>
-    ensures { result ≡ requests.web_scheme name.now }
+fn text_or_object(value: &Value) -> Option<&Value>
+    ensures { option_map (λ v. view v.now) result ≡ requests.text_or_object (view value.now) }
 {
-    match name {
-        "http" => Some(Scheme::Http),
-        "https" => Some(Scheme::Https),
-        _ => None,
+    if value.as_str().is_some() || value.as_object().is_some() {
+        Some(value)
+    } else {
+        None
+    }
+}
+
+// The URL of a text, or of an object in parts.
+fn url_of_value(alloc: Global, value: &Value) -> Result<Option<Url>, Memory>
+    ensures { IfOk result (λ url. url ≡ requests.url_of_value (view value.now)) }
+{
+    match value.as_str() {
+        None => url_of_parts(alloc, value),
+        Some(text) => match read_url(alloc, text) {
+            Ok(url) => Ok(Some(url)),
+            Err(UrlError::NotAUrl) => Ok(None),
+            Err(UrlError::Memory) => Err(Memory),
+        },
+    }
+}
+
+// A member that is null counts as absent.
+fn present<'v>(value: &'v Value, name: &str) -> Option<&'v Value>
+    ensures { option_map (λ v. view v.now) result ≡ requests.present name.now (view value.now) }
+{
+    let member = value.get(name)?;
+    if member.is_null() { None } else { Some(member) }
+}
+
+fn required_text<'v>(value: &'v Value, name: &str) -> Option<&'v str>
+    ensures { option_copied result ≡ option_and_then as_str (requests.present name.now (view value.now)) }
+{
+    present(value, name)?.as_str()
+}
+
+fn text_or_absent(value: Option<&Value>) -> Option<Option<&str>>
+    ensures { option_map option_copied result ≡ requests.text_or_absent (option_map (λ v. view v.now) value.entry) }
+{
+    match value {
+        None => Some(None),
+        Some(value) => match value.as_str() {
+            None => None,
+            Some(text) => Some(Some(text)),
+        },
+    }
+}
+
+fn port_or_absent(value: Option<&Value>) -> Option<Option<u32>>
+    ensures { result ≡ requests.port_or_absent (option_map (λ v. view v.now) value.entry) }
+{
+    let Some(value) = value else {
+        return Some(None);
+    };
+    let number = value.as_u64()?;
+    if number < 65536 {
+        Some(Some(number as u32))
+    } else {
+        None
     }
 }
 
 fn url_of_parts(alloc: Global, value: &Value) -> Result<Option<Url>, Memory>
     ensures { IfOk result (λ url. url ≡ requests.url_of_parts (view value.now)) }
 {
-    if !has_three(value) {
-        return Ok(None);
-    }
-    let Some(scheme) = text_member(value, "scheme").and_then(web_scheme) else {
+    let Some(scheme) = required_text(value, "scheme") else {
         return Ok(None);
     };
-    let Some(host) = text_member(value, "host") else {
+    let Some(host) = text_or_absent(present(value, "host")) else {
         return Ok(None);
     };
-    if !is_plain_host(host.as_bytes()) {
-        return Ok(None);
-    }
-    let Some(path) = text_member(value, "path") else {
+    let Some(port) = port_or_absent(present(value, "port")) else {
         return Ok(None);
     };
-    match plain_path(alloc, path.as_bytes())? {
-        None => Ok(None),
-        Some(path) => Ok(Some(Url::Hosted {
-            scheme,
-            host: Host::Domain(Text::new(alloc, host)?),
-            port: None,
-            path,
-        })),
+    let Some(path) = text_or_absent(present(value, "path")) else {
+        return Ok(None);
+    };
+    match url_from_parts(alloc, scheme, host, port, path.unwrap_or("/")) {
+        Ok(url) => Ok(Some(url)),
+        Err(PartsError::Bad { .. }) => Ok(None),
+        Err(PartsError::Memory) => Err(Memory),
     }
-}
-
-// The pieces of a plain path, if it is one.
-#[tactic(auto, unfolding(crate::specs::Requests::plain_path))]
-fn plain_path(alloc: Global, path: &[u8]) -> Result<Option<List<Bytes>>, Memory>
-    ensures { IfOk result (λ pieces. pieces ≡ requests.plain_path path.now) }
-{
-    match path.split_first() {
-        Some((b'/', rest)) if are_plain(path) && has_plain_pieces(rest) => Ok(Some(pieces_of(
-            alloc, rest,
-        )?)),
-        _ => Ok(None),
-    }
-}
-
-fn are_plain(path: &[u8]) -> bool
-    ensures { result ≡ list_all requests.is_plain_path_char path.now }
-{
-    path.iter().all(|b| is_plain_path_char(*b))
-}
-
-#[tactic(auto, unfolding(crate::specs::Requests::is_plain_path_char))]
-fn is_plain_path_char(b: u8) -> bool
-    ensures { result ≡ requests.is_plain_path_char b }
-{
-    b.is_ascii_alphanumeric() || b"/.-_".contains(&b)
-}
-
-fn has_plain_pieces(rest: &[u8]) -> bool
-    ensures { result ≡ list_all requests.is_plain_piece (split_at 47 rest.now) }
-{
-    rest.split(|b| *b == b'/')
-        .all(|piece| is_plain_piece(piece))
-}
-
-#[tactic(auto, unfolding(crate::specs::Requests::is_plain_piece))]
-fn is_plain_piece(piece: &[u8]) -> bool
-    ensures { result ≡ requests.is_plain_piece piece.now }
-{
-    piece != b".".as_slice() && piece != b"..".as_slice()
-}
-
-fn slices(alloc: Global, rest: &[u8]) -> Result<Vec<&[u8]>, Memory>
-    ensures { IfOk result (λ v. map (λ x. x.now) v.items ≡ split_at 47 rest.now) }
-{
-    match rest.split(|b| *b == b'/').collect(alloc) {
-        Ok(pieces) => Ok(pieces),
-        Err(_) => Err(Memory),
-    }
-}
-
-fn pieces_of(alloc: Global, rest: &[u8]) -> Result<List<Bytes>, Memory>
-    ensures { IfOk result (λ pieces. pieces ≡ split_at 47 rest.now) }
-{
-    let slices = slices(alloc, rest)?;
-    copies(alloc, slices.as_slice())
-}
-
-fn copies(alloc: Global, slices: &[&[u8]]) -> Result<List<Bytes>, Memory>
-    ensures { IfOk result (λ made. made ≡ map (λ x. x.now) slices.now) }
-{
-    let mut made = List::new(alloc);
-    for slice in slices {
-        made.push(Bytes::new(alloc, slice)?)?;
-    }
-    Ok(made)
 }

@@ -11,10 +11,14 @@ pub enum Status {
     Found,
     /// The words have none of the forms.
     Usage,
+    /// The origin is none.
+    BadOrigin,
     /// A policy file has a bad line.
     BadPolicy,
     /// A count passes a limit.
     TooLarge,
+    /// A request is malformed.
+    BadRequests,
     /// A file couldn't be read.
     ReadFault,
     /// The output couldn't be written.
@@ -29,8 +33,6 @@ pub enum Status {
 #[derive(Clone, Copy, Debug, PartialEq, Eq)]
 pub enum Part {
     Command,
-    Origin,
-    Policy,
     Requests,
 }
 
@@ -58,9 +60,12 @@ pub enum Limit {
 #[derive(Clone, Copy, Debug, PartialEq, Eq)]
 pub enum Fault {
     Usage,
+    BadOrigin,
     NotBuilt { part: Part },
     BadPolicy { file: Role, line: u32 },
     TooLarge { file: Role, limit: Limit },
+    /// The URL of the request of this number, counted from 1, is none.
+    BadUrl { request: u32 },
     Read { file: Role },
     Memory,
 }
@@ -73,8 +78,10 @@ pub fn exit_code(status: Status) -> u8
         Status::Clean => 0,
         Status::Found => 1,
         Status::Usage => 2,
+        Status::BadOrigin => 3,
         Status::BadPolicy => 4,
         Status::TooLarge => 5,
+        Status::BadRequests => 6,
         Status::ReadFault => 8,
         Status::WriteFault => 9,
         Status::NoMemory => 10,
@@ -88,9 +95,11 @@ pub fn status_of(fault: Fault) -> Status
 {
     match fault {
         Fault::Usage => Status::Usage,
+        Fault::BadOrigin => Status::BadOrigin,
         Fault::NotBuilt { .. } => Status::NotBuilt,
         Fault::BadPolicy { .. } => Status::BadPolicy,
         Fault::TooLarge { .. } => Status::TooLarge,
+        Fault::BadUrl { .. } => Status::BadRequests,
         Fault::Read { .. } => Status::ReadFault,
         Fault::Memory => Status::NoMemory,
     }

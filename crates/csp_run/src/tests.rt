@@ -86,6 +86,16 @@ fn policies_of_one_image(rt: HostRuntime) -> Result<(), Fail> {
             Status::Clean,
             "1 allowed\n",
         ),
+        (
+            "Content-Security-Policy: default-src 'self'",
+            Status::Found,
+            "1 blocked 0:enforce:img-src/default-src\n",
+        ),
+        (
+            "Content-Security-Policy: script-src 'none'",
+            Status::Clean,
+            "1 allowed\n",
+        ),
         ("", Status::Clean, "1 allowed\n"),
         (
             "content-security-policy-report-only: img-src ftp:, img-src https:\nMeta-Content-Security-Policy: sandbox; img-src ftp:",
@@ -98,24 +108,14 @@ fn policies_of_one_image(rt: HostRuntime) -> Result<(), Fail> {
             "bad policy: policy line 2\n",
         ),
         (
-            "Content-Security-Policy: default-src 'self'",
-            Status::NotBuilt,
-            "not built: policy\n",
-        ),
-        (
-            "Content-Security-Policy: img-src 'self'",
-            Status::NotBuilt,
-            "not built: policy\n",
-        ),
-        (
             "Content-Security-Policy: img-src b.example:443",
-            Status::NotBuilt,
-            "not built: policy\n",
+            Status::Clean,
+            "1 allowed\n",
         ),
         (
             "Content-Security-Policy: img-src b.example/x",
-            Status::NotBuilt,
-            "not built: policy\n",
+            Status::Found,
+            "1 blocked 0:enforce:img-src/img-src\n",
         ),
     ];
     for (policy, status, text) in rows {
@@ -126,13 +126,78 @@ fn policies_of_one_image(rt: HostRuntime) -> Result<(), Fail> {
     Ok(())
 }
 
+const ALLOWED: &str = "1 allowed\n";
+
+const BLOCKED: &str = "1 blocked 0:enforce:img-src/img-src\n";
+
+#[test]
+fn urls_and_origins(rt: HostRuntime) -> Result<(), Fail> {
+    let alloc = rt.alloc();
+    let own = "https://a.example";
+    let rows: [(&str, &str, &str, &str); 14] = [
+        (own, "*", "https://b.example/x.png", ALLOWED),
+        (own, "http://a.example", "https://a.example/", ALLOWED),
+        (own, "http://a.example:80", "https://a.example/", BLOCKED),
+        (own, "https://a.example/x/", "https://a.example/x", BLOCKED),
+        (own, "https://a.example/x/", "https://a.example/x/", ALLOWED),
+        (
+            own,
+            "https://a.example/x/",
+            "https://a.example/%78/y",
+            ALLOWED,
+        ),
+        (own, "localhost:*", "https://localhost:3000/", ALLOWED),
+        (own, "localhost:*", "http://localhost:3000/", BLOCKED),
+        ("null", "localhost:*", "https://localhost:3000/", BLOCKED),
+        ("null", "localhost:*", "http://localhost:3000/", BLOCKED),
+        (
+            "https://A.example:443",
+            "'self'",
+            "https://a.example/",
+            ALLOWED,
+        ),
+        (
+            "https://a.example/",
+            "'self'",
+            "https://a.example/",
+            ALLOWED,
+        ),
+        (own, "*", "//", "bad requests: request 1 url\n"),
+        (
+            "https://a.example/x",
+            "*",
+            "https://b.example/",
+            "bad origin\n",
+        ),
+    ];
+    for (origin, token, url, text) in rows {
+        let policy = format!(in alloc; "Content-Security-Policy: img-src {token}")?;
+        let requests = format!(in alloc;
+            "[{{\"kind\":\"fetch\",\"destination\":\"image\",\"url\":\"{url}\"}}]"
+        )?;
+        let words = ["judge", origin, "p", "r"];
+        let (_, written) = judged(
+            alloc,
+            &words,
+            policy.as_str().as_bytes(),
+            requests.as_str().as_bytes(),
+        )?;
+        assert_eq!(rt;
+            written.as_slice(),
+            text.as_bytes(),
+            "at {origin} {token} {url}"
+        );
+    }
+    Ok(())
+}
+
 const USAGE: &str =
     "usage: judge ORIGIN POLICY REQUESTS | report ORIGIN POLICY REQUESTS | compare ORIGIN FIRST SECOND | check ORIGIN FIRST SECOND PROOF | drill N\n";
 
 #[test]
 fn words_and_origins(rt: HostRuntime) -> Result<(), Fail> {
     let alloc = rt.alloc();
-    let rows: [(&[&str], Status, &str); 12] = [
+    let rows: [(&[&str], Status, &str); 13] = [
         (&[], Status::Usage, USAGE),
         (&["judge"], Status::Usage, USAGE),
         (
@@ -160,15 +225,16 @@ fn words_and_origins(rt: HostRuntime) -> Result<(), Fail> {
             "not built: command\n",
         ),
         (
-            &["judge", "http://a.example", "p", "r"],
-            Status::NotBuilt,
-            "not built: origin\n",
+            &["judge", "https://a.example/x", "p", "r"],
+            Status::BadOrigin,
+            "bad origin\n",
         ),
         (
-            &["judge", "https://a..example", "p", "r"],
-            Status::NotBuilt,
-            "not built: origin\n",
+            &["judge", "a.example", "p", "r"],
+            Status::BadOrigin,
+            "bad origin\n",
         ),
+        (&["judge", "null", "p", "r"], Status::Clean, "1 allowed\n"),
     ];
     for (words, status, text) in rows {
         let (found, written) = judged(alloc, words, b"", IMAGE.as_bytes())?;
@@ -181,26 +247,58 @@ fn words_and_origins(rt: HostRuntime) -> Result<(), Fail> {
 #[test]
 fn request_files(rt: HostRuntime) -> Result<(), Fail> {
     let alloc = rt.alloc();
-    let bad = [
-        "[]",
-        "{}",
-        "[{\"kind\":",
-        r#"[{"kind":"fetch","destination":"font","url":{"scheme":"https","host":"b.example","path":"/"}}]"#,
-        r#"[{"kind":"fetch","destination":"image","url":{"scheme":"ws","host":"b.example","path":"/"}}]"#,
-        r#"[{"kind":"fetch","destination":"image","url":{"scheme":"https","host":"B.example","path":"/"}}]"#,
-        r#"[{"kind":"fetch","destination":"image","url":{"scheme":"https","host":"b.example","path":"/../x"}}]"#,
-        r#"[{"kind":"fetch","destination":"image","url":{"scheme":"https","host":"b.example"}}]"#,
-        r#"[{"kind":"fetch","destination":"image","url":{"scheme":"https","host":"b.example","path":"/"},"nonce":"x"}]"#,
-        r#"[{"kind":"eval"},{"kind":"eval"}]"#,
+    let other = "not built: requests\n";
+    let bad = "bad requests: request 1 url\n";
+    let rows = [
+        ("[]", other),
+        ("{}", other),
+        ("[{\"kind\":", other),
+        (
+            r#"[{"kind":"fetch","destination":"font","url":"https://b.example"}]"#,
+            other,
+        ),
+        (r#"[{"kind":"fetch","destination":"image","url":7}]"#, other),
+        (
+            r#"[{"kind":"fetch","destination":"image","url":null}]"#,
+            other,
+        ),
+        (
+            r#"[{"kind":"fetch","destination":"image","url":"https://b.example","nonce":"x"}]"#,
+            other,
+        ),
+        (r#"[{"kind":"eval"},{"kind":"eval"}]"#, other),
+        (
+            r#"[{"kind":"fetch","destination":"image","url":{"scheme":"https","host":"B.example"}}]"#,
+            bad,
+        ),
+        (
+            r#"[{"kind":"fetch","destination":"image","url":{"host":"b.example"}}]"#,
+            bad,
+        ),
+        (
+            r#"[{"kind":"fetch","destination":"image","url":{"scheme":"https","host":"b.example","port":80.0}}]"#,
+            bad,
+        ),
+        (
+            r#"[{"kind":"fetch","destination":"image","url":{"scheme":"https","host":"b.example","port":65536}}]"#,
+            bad,
+        ),
+        (
+            r#"[{"kind":"fetch","destination":"image","url":{"scheme":"https","host":"b.example","path":"/../x"}}]"#,
+            bad,
+        ),
+        (
+            r#"[{"kind":"fetch","destination":"image","url":{"scheme":"https","host":"b.example","port":null,"path":null}}]"#,
+            ALLOWED,
+        ),
+        (
+            r#"[{"kind":"fetch","destination":"image","url":{"scheme":"data"}}]"#,
+            ALLOWED,
+        ),
     ];
-    for requests in bad {
-        let (found, written) = judged(alloc, &WORDS, b"", requests.as_bytes())?;
-        assert_eq!(rt; found, Status::NotBuilt, "at {requests}");
-        assert_eq!(rt;
-            written.as_slice(),
-            b"not built: requests\n".as_slice(),
-            "at {requests}"
-        );
+    for (requests, text) in rows {
+        let (_, written) = judged(alloc, &WORDS, b"", requests.as_bytes())?;
+        assert_eq!(rt; written.as_slice(), text.as_bytes(), "at {requests}");
     }
     Ok(())
 }
