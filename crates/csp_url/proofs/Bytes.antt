@@ -1,5 +1,5 @@
 -- Tests on bytes, as the code makes them.
-use Rattle.std.proofs.Common.{arith, ◌≡◌, ◌∙◌, sym, ap, refl, ℕ, ◌<◌, Bool, true, false, ◌&&◌, ◌||◌, not, nat_lt, zero, suc, List, [], ◌∷◌, get_or, All, map}
+use Rattle.std.proofs.Common.{arith, ◌≡◌, ◌∙◌, sym, ap, refl, ℕ, ◌<◌, Bool, true, false, ◌&&◌, ◌||◌, not, suc, List, [], ◌∷◌, get_or, All}
 use Rattle.std.specs.Prelude.{codes}
 use Rattle.std.specs.List.{list_all}
 use Rattle.std.specs.Str.{bytes_eq}

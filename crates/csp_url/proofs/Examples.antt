@@ -1,12 +1,12 @@
 -- What the definitions say of single texts.
 use Rattle.std.proofs.Common.{◌≡◌, refl, [], ◌∷◌, Some, None}
-use Rattle.std.specs.Prelude.{codes, Ok, Err}
+use Rattle.std.specs.Prelude.{codes, Err}
 use Rattle.url.proofs.OnLiterals.{url_on_literals}
 use Rattle.percent_encoding.proofs.OnLiterals.{percent_encoding_on_literals}
-use Rattle.csp_model.specs.declared.url.Scheme.TheVariants.{Https, Ftp}
-use Rattle.csp_model.specs.declared.url.Host.TheVariants.{Domain, Address}
-use Rattle.csp_model.specs.declared.url.Url.TheVariants.{Plain, Hosted}
-use Rattle.csp_model.specs.declared.url.Origin.TheVariants.{Opaque, Tuple}
+use Rattle.csp_model.specs.declared.url.Scheme.TheVariants.{Https}
+use Rattle.csp_model.specs.declared.url.Host.TheVariants.{Domain}
+use Rattle.csp_model.specs.declared.url.Url.TheVariants.{Hosted}
+use Rattle.csp_model.specs.declared.url.Origin.TheVariants.{Tuple}
 use Rattle.csp_model.specs.Validity.{is_domain, is_domain_byte, ends_in_number, is_address, is_four_numbers, is_bracketed, is_piece, is_lower_scheme}
 use Rattle.csp_model.specs.Grammar.{is_scheme_char}
 use Rattle.csp_url.specs.declared.error.Part.TheVariants as part

@@ -1,5 +1,5 @@
 -- The last part of a text.
-use Rattle.std.proofs.Common.{◌≡◌, List, [], ◌∷◌, ℕ, map, Bor, Some, None, sym, refl}
+use Rattle.std.proofs.Common.{◌≡◌, List, [], ◌∷◌, ℕ, map, Bor, Some, None, refl}
 use Rattle.std.specs.List.{last_or}
 use Rattle.csp_model.specs.Validity.{last_part}
 

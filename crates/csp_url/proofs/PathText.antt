@@ -1,5 +1,5 @@
 -- The text of a path reads as its pieces.
-use Rattle.std.proofs.Common.{arith, ◌≡◌, ◌≢◌, ◌∙◌, sym, ap, refl, ℕ, Bool, true, false, ◌&&◌, ◌==◌, IsTrue, List, [], ◌∷◌, ◌++◌, map, All, Some, append-nil, inl, inr}
+use Rattle.std.proofs.Common.{arith, ◌≡◌, ◌≢◌, ◌∙◌, ap, refl, ℕ, Bool, true, false, ◌&&◌, ◌==◌, List, [], ◌∷◌, ◌++◌, map, All, Some, append-nil, inl, inr}
 use Rattle.std.specs.List.{list_all}
 use Rattle.std.proofs.lemmas.Bool.Decides.{eqb_tells}
 use Rattle.std.proofs.lemmas.List.Splits.{slice_split_none, slice_split_at}
@@ -7,7 +7,6 @@ use Rattle.percent_encoding.specs.AsciiSet.{should_percent_encode}
 use Rattle.percent_encoding.specs.Percent.{percent_encode, percent_decode}
 use Rattle.percent_encoding.proofs.PercentLemmas.{IsEscapeByte, All-percent_encode, round_trip}
 use Rattle.csp_model.specs.Ascii.{split_at}
-use Rattle.csp_model.specs.Grammar.{pieces_of}
 use Rattle.csp_model.specs.Validity.{is_piece, IsValidUrl}
 use Rattle.csp_model.specs.declared.url.Url.{Url}
 use Rattle.csp_model.specs.declared.url.Url.TheVariants as url

@@ -1,14 +1,14 @@
 -- From the parts that parsing found to the answer.
-use Rattle.std.proofs.Common.{◌≡◌, ◌∙◌, sym, ap, refl, ℕ, Bool, true, false, List, Option, Some, None, Result, Ok, Err}
+use Rattle.std.proofs.Common.{◌≡◌, ◌∙◌, sym, ap, ℕ, Bool, false, List, Option, Some, None, Ok, Err}
 use Rattle.std.specs.Prelude.{if◌then◌else◌, bytes_eq, codes, option_map}
 use Rattle.url.specs.Parser.{Parsed, parse_url}
 use Rattle.url.specs.Parts.{Parts}
 use Rattle.csp_model.specs.declared.url.Url.{Url}
 use Rattle.csp_model.specs.declared.url.Origin.{Origin}
 use Rattle.csp_model.specs.declared.url.Origin.TheVariants as origin
-use Rattle.csp_url.specs.Reading.{from_parsed, url_from, url_of}
+use Rattle.csp_url.specs.Reading.{from_parsed, url_from}
 use Rattle.csp_url.specs.Origins.{origin_from, origin_of}
-use Rattle.csp_url.specs.Texts.{shown_text, stripped_from, stripped_of}
+use Rattle.csp_url.specs.Texts.{shown_text, stripped_from}
 
 parsed_is : (found : Parsed Parts) (parts : Parts) → from_parsed (λ p. Some p) found ≡ Some parts → found ≡ Ok parts
 parsed_is (Ok p) parts h = let same : p ≡ parts = cc in ap Ok same

@@ -1,5 +1,5 @@
 -- The origin that a text is (URL Standard, section 4.7).
-use Rattle.std.specs.Prelude.{◌≡◌, ℕ, ◌&&◌, Bool, true, false, List, [], ◌∷◌, Option, Some, None, is_none, codes, option_and_then, Result, Ok, Err, ⊤, if◌then◌else◌}
+use Rattle.std.specs.Prelude.{◌≡◌, ℕ, ◌&&◌, Bool, true, false, List, Option, Some, None, is_none, codes, option_and_then, Result, Ok, Err, ⊤, if◌then◌else◌}
 use Rattle.std.specs.Str.{bytes_eq}
 use Rattle.url.specs.Input.{is_empty}
 use Rattle.url.specs.Parser.{parse_url}

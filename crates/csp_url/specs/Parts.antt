@@ -1,8 +1,8 @@
 -- The URL of parts that are given one by one (URL Standard, section 4.1).
-use Rattle.std.specs.Prelude.{◌≡◌, ℕ, ◌==◌, nat_lt, Bool, List, Option, Some, None, is_some, codes, Result, Ok, Err, ⊤, if◌then◌else◌}
+use Rattle.std.specs.Prelude.{◌≡◌, ℕ, ◌==◌, nat_lt, List, Option, Some, None, is_some, codes, Result, Ok, Err, ⊤, if◌then◌else◌}
 use Rattle.std.specs.Str.{bytes_eq}
 use Rattle.csp_model.specs.Schemes.{scheme_named, default_port}
-use Rattle.csp_model.specs.Validity.{is_domain, is_address, is_lower_scheme}
+use Rattle.csp_model.specs.Validity.{is_domain, is_lower_scheme}
 use Rattle.csp_model.specs.declared.url.Scheme.{Scheme}
 use Rattle.csp_model.specs.declared.url.Host.{Host}
 use Rattle.csp_model.specs.declared.url.Host.TheVariants as host
