@@ -1,4 +1,5 @@
 pub mod Ascii
+pub mod Ends
 pub mod Fetch
 pub mod Governing
 pub mod Grammar
@@ -8,6 +9,7 @@ pub mod Laws
 pub mod Matching
 pub mod Names
 pub mod Navigation
+pub mod Parts
 pub mod Policies
 pub mod Reading
 pub mod Schemes

@@ -91,11 +91,15 @@ IsValidOrigin (origin.Tuple scheme name port) = ((scheme ≡ Http) ⊎ (scheme �
 abbrev pub IsIntegrityValue : List ℕ → Type 0
 IsIntegrityValue value = IsUtf8 value × IsTrue (list_all (λ b. not (is_ascii_whitespace b) && not (b == 63)) value)
 
+-- so many bytes
+abbrev pub IsOfSize : ℕ → List ℕ → Type 0
+IsOfSize size text = (length text ≡ size) × IsTrue (are_bytes text)
+
 -- 32, 48 and 64 bytes
 pub record IsValidDigests (digests : Digests) : Type 0 where
-  pub sha256 : (length digests.sha256 ≡ 32) × IsTrue (are_bytes digests.sha256)
-  pub sha384 : (length digests.sha384 ≡ 48) × IsTrue (are_bytes digests.sha384)
-  pub sha512 : (length digests.sha512 ≡ 64) × IsTrue (are_bytes digests.sha512)
+  pub sha256 : IsOfSize 32 digests.sha256
+  pub sha384 : IsOfSize 48 digests.sha384
+  pub sha512 : IsOfSize 64 digests.sha512
 
 -- an ancestor is known by its origin: its path is one empty piece
 abbrev pub IsOriginUrl : Url → Type 0

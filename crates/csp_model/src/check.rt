@@ -1,6 +1,7 @@
 //! What a policy is asked: one check of one request.
-ghost use Rattle.std.specs.Prelude.{◌≡◌};
+ghost use Rattle.std.specs.Prelude.{◌≡◌, option_copied};
 ghost use Rattle.csp_model.specs.Names as names;
+ghost use Rattle.csp_model.specs.Parts as parts;
 
 use crate::list::List;
 use crate::name::Name;
@@ -170,4 +171,49 @@ pub enum Check {
     },
     /// The start of a worker, which a sandbox could refuse.
     WorkerStart,
+}
+
+impl Check {
+    /// The URL that the check is about. None where its kind has none.
+    pub fn url(&self) -> Option<&Url>
+        ensures { option_copied result ≡ parts.checked_url self.now }
+    {
+        match self {
+            Check::Fetch { url, .. }
+            | Check::Base { url }
+            | Check::Form { url, .. }
+            | Check::Ancestor { url } => Some(url),
+            _ => None,
+        }
+    }
+
+    /// The nonce of a fetch, or of inline code or style. None for the other kinds.
+    pub fn nonce(&self) -> Option<&Text>
+        ensures { option_copied result ≡ parts.checked_nonce self.now }
+    {
+        match self {
+            Check::Fetch { nonce, .. } | Check::Inline { nonce, .. } => Some(nonce),
+            _ => None,
+        }
+    }
+
+    /// The integrity metadata of a fetch. None for the other kinds.
+    pub fn integrity(&self) -> Option<&List<Hash>>
+        ensures { option_copied result ≡ parts.checked_integrity self.now }
+    {
+        match self {
+            Check::Fetch { integrity, .. } => Some(integrity),
+            _ => None,
+        }
+    }
+
+    /// The digests of inline code or style. None for the other kinds.
+    pub fn digests(&self) -> Option<&Digests>
+        ensures { option_copied result ≡ parts.checked_digests self.now }
+    {
+        match self {
+            Check::Inline { digests, .. } => Some(digests),
+            _ => None,
+        }
+    }
 }

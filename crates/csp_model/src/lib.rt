@@ -3,6 +3,7 @@
 
 mod check;
 mod copies;
+mod ends;
 pub mod laws;
 mod list;
 mod memory;
@@ -15,6 +16,7 @@ mod verdict;
 
 pub use check::{Capability, Check, Digest, Digests, Group, InlineKind};
 pub use copies::Duplicate;
+pub use ends::{begins_with, goes_beyond, is_subdomain};
 pub use list::List;
 pub use memory::Memory;
 pub use name::{Name, name_text};

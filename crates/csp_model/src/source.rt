@@ -6,7 +6,7 @@ use crate::list::List;
 use crate::text::{Bytes, Text};
 
 /// A digest's algorithm.
-#[derive(Clone, Copy, Debug, PartialEq, Eq)]
+#[derive(Clone, Copy, Debug, PartialEq, Eq, PartialOrd, Ord)]
 pub enum Algorithm {
     Sha256,
     Sha384,
@@ -39,7 +39,7 @@ impl Algorithm {
 }
 
 /// An algorithm and a base64-value, as in a hash-source or in integrity metadata.
-#[derive(Debug, PartialEq, Eq, Drop)]
+#[derive(Debug, PartialEq, Eq, PartialOrd, Ord, Drop)]
 pub struct Hash {
     pub algorithm: Algorithm,
     pub value: Text,

@@ -2,9 +2,11 @@
 use crate::{
     Algorithm, Bytes, Capability, Check, Digests, Directive, Disposition, Duplicate, Group, Hash,
     Host, HostPart, InlineKind, Keyword, List, Memory, Name, Origin, PathPart, Policy, PolicyList,
-    PortPart, Scheme, Source, Text, Url, Violation, name_text,
+    PortPart, Scheme, Source, Text, Url, Violation, begins_with, goes_beyond, is_subdomain,
+    name_text,
 };
 use std::alloc::Global;
+use std::cmp::Ordering;
 use std::test::Fail;
 
 #[test]
@@ -156,6 +158,57 @@ fn copies_of_checks(rt: HostRuntime) -> Result<(), Fail> {
     let alloc = rt.alloc();
     assert!(rt; is_copied(alloc, &inline_script(alloc)?)?);
     assert!(rt; is_copied(alloc, &image_fetch(alloc)?)?);
+    Ok(())
+}
+
+#[test]
+fn parts_of_checks(rt: HostRuntime) -> Result<(), Fail> {
+    let alloc = rt.alloc();
+    let inline = inline_script(alloc)?;
+    assert!(rt; inline.url().is_none());
+    assert!(rt; inline.integrity().is_none());
+    assert_eq!(rt; inline.nonce().map(|nonce| nonce.as_str()), Some("abc"));
+    assert_eq!(rt;
+        inline.digests().map(|digests| digests.sha384),
+        Some([2u8; 48])
+    );
+    let fetch = image_fetch(alloc)?;
+    assert!(rt; fetch.url() == Some(&address_url(alloc)?));
+    assert_eq!(rt; fetch.integrity().map(|pairs| pairs.len()), Some(0));
+    assert!(rt; fetch.digests().is_none());
+    Ok(())
+}
+
+#[test]
+fn ends_of_domains_and_paths(rt: HostRuntime) -> Result<(), Fail> {
+    let alloc = rt.alloc();
+    assert!(rt; is_subdomain("x.a.example", "a.example"));
+    assert!(rt; !is_subdomain("xa.example", "a.example"));
+    assert!(rt; !is_subdomain("a.example", "a.example"));
+    let path = one(alloc, Bytes::new(alloc, b"x")?)?;
+    let path = path.as_slice();
+    assert!(rt; begins_with(path, path) && !goes_beyond(path, path));
+    assert!(rt; goes_beyond(path, &path[..0]));
+    Ok(())
+}
+
+// SHA-256 comes before SHA-384, and texts are ordered by their bytes.
+#[test]
+fn order_of_hashes(rt: HostRuntime) -> Result<(), Fail> {
+    let alloc = rt.alloc();
+    let first = Hash {
+        algorithm: Algorithm::Sha256,
+        value: Text::new(alloc, "b")?,
+    };
+    let second = Hash {
+        algorithm: Algorithm::Sha384,
+        value: Text::new(alloc, "a")?,
+    };
+    assert_eq!(rt; first.cmp(&second), Ordering::Less);
+    assert_eq!(rt;
+        first.value.partial_cmp(&second.value),
+        Some(Ordering::Greater)
+    );
     Ok(())
 }
 
