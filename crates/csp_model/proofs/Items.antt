@@ -1,9 +1,9 @@
 -- A verdict is blocked exactly where the list doesn't allow the request.
 use Rattle.std.proofs.Common.{◌≡◌, ◌+◌, ℕ, Bool, true, false, ◌||◌, List, [], ◌∷◌, ◌++◌, All, refl, sym, ap, ◌∙◌, inl, inr, arith}
 use Rattle.std.specs.List.{list_any}
-use Rattle.std.proofs.lemmas.Bool.{false≢true}
+use Rattle.std.proofs.lemmas.Bool.{false≢true, or_parts}
 use Rattle.std.proofs.lemmas.Grind.{common_steps}
-use Rattle.std.proofs.lemmas.List.Elements.{All-cons, All-tail}
+use Rattle.std.proofs.lemmas.List.Elements.{All-nil, All-cons, All-head, All-tail}
 use Rattle.std.proofs.lemmas.List.Folds.{list_any-append}
 use Rattle.csp_model.specs.Verdict.{Allows, ListAllows, AllowsAll, AreItems, is_enforced, is_enforce, through_enforced, shown_items, Finding, findings, AreFindings}
 use Rattle.csp_model.specs.declared.check.Check.{Check}
@@ -18,17 +18,7 @@ use Rattle.csp_model.specs.declared.verdict.Item.{Item}
 abbrev pub EnforcedAllows : Check → Policy → Type 0
 EnforcedAllows asked p = p.disposition ≡ Enforce → Allows p asked
 
-pub All-none : {X : Type 0} (P : X → Type 0) → All P []
-All-none P = λ k d within. absurd (omega (arith, within))
-
-pub All-head : {X : Type 0} (P : X → Type 0) (x : X) (xs : List X) → All P (x ∷ xs) → P x
-All-head P x xs all = all 0 x (omega arith)
-
-pub or_false : (a b : Bool) → (a || b) ≡ false → (a ≡ false) × (b ≡ false)
-or_false false b h = (refl, h)
-or_false true b h = absurd (false≢true (sym h))
-
-pub or_true : (a b : Bool) → (a || b) ≡ true → a ≡ false → b ≡ true
+or_true : (a b : Bool) → (a || b) ≡ true → a ≡ false → b ≡ true
 or_true false b h none = h
 or_true true b h none = absurd (false≢true (sym none))
 
@@ -39,12 +29,12 @@ enforce_is Report h = absurd (false≢true h)
 -- with no enforced item each enforced policy allows
 pub none_enforced : (n : ℕ) (ps : List Policy) (asked : Check) (items : List Item) → AreItems n ps asked items
     → list_any is_enforced items ≡ false → All (EnforcedAllows asked) ps
-none_enforced n [] asked items are none = All-none (EnforcedAllows asked)
+none_enforced n [] asked items are none = All-nil (EnforcedAllows asked)
 none_enforced n (p ∷ ps) asked items are none =
     elim are [
       | inl kept ↦ All-cons (EnforcedAllows asked) p ps (λ _. kept.0) (none_enforced (n + 1) ps asked items kept.1 none)
       | inr more ↦
-          let parts = or_false (is_enforced more.0) (list_any is_enforced more.1) (sym (ap (list_any is_enforced) more.2) ∙ none) in
+          let parts = or_parts (is_enforced more.0) (list_any is_enforced more.1) (sym (ap (list_any is_enforced) more.2) ∙ none) in
           All-cons (EnforcedAllows asked) p ps
           (λ enforce. absurd (false≢true (sym parts.0 ∙ ap is_enforce (more.3.disposition ∙ enforce))))
           (none_enforced (n + 1) ps asked more.1 more.4 parts.1)
@@ -91,10 +81,10 @@ first_and_later asked items all found later shown e =
 -- with no enforced item the list allows each check
 pub not_blocked : (list : PolicyList) (checks : List Check) (found : List Finding) → AreFindings list checks found
     → is_blocked found ≡ false → AllowsAll list checks
-not_blocked list [] found are none = All-none (ListAllows list)
+not_blocked list [] found are none = All-nil (ListAllows list)
 not_blocked list (asked ∷ rest) found are none =
     let all = are.3.0 in
-    let parts = or_false (list_any is_enforced all) (is_blocked are.1) (sym (first_and_later asked are.0 all found are.1 are.3.2 are.2) ∙ none) in
+    let parts = or_parts (list_any is_enforced all) (is_blocked are.1) (sym (first_and_later asked are.0 all found are.1 are.3.2 are.2) ∙ none) in
     let allowed : ListAllows list asked = none_enforced 0 list.policies asked all are.3.1 parts.0 in
     elim are.4 [
       | inl more ↦ All-cons (ListAllows list) asked rest allowed (not_blocked list rest are.1 more.1 parts.1)

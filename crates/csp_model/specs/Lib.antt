@@ -10,6 +10,7 @@ pub mod Matching
 pub mod Names
 pub mod Navigation
 pub mod Parts
+pub mod Paths
 pub mod Policies
 pub mod Reading
 pub mod Schemes

@@ -9,6 +9,8 @@ use Rattle.csp_model.specs.declared.source.Hash.{Hash}
 use Rattle.csp_model.specs.declared.source.Keyword.{Keyword}
 use Rattle.csp_model.specs.declared.source.Source.{Source}
 use Rattle.csp_model.specs.declared.source.Source.TheVariants as source
+use Rattle.csp_model.specs.declared.check.Digest.{Digest}
+use Rattle.csp_model.specs.declared.check.Digest.TheVariants as one
 use Rattle.csp_model.specs.declared.check.Digests.{Digests}
 
 abbrev pub HasKeyword : Keyword → List Source → Type 0
@@ -27,6 +29,22 @@ abbrev pub digest_by : Algorithm → Digests → List ℕ
 digest_by Sha256 digests = digests.sha256
 digest_by Sha384 digests = digests.sha384
 digest_by Sha512 digests = digests.sha512
+
+abbrev pub algorithm_of : Digest → Algorithm
+algorithm_of (one.Sha256 d) = Sha256
+algorithm_of (one.Sha384 d) = Sha384
+algorithm_of (one.Sha512 d) = Sha512
+
+abbrev pub bytes_of : Digest → List ℕ
+bytes_of (one.Sha256 d) = d
+bytes_of (one.Sha384 d) = d
+bytes_of (one.Sha512 d) = d
+
+-- how many bytes a digest of the algorithm has (FIPS 180-4)
+abbrev pub size_of : Algorithm → ℕ
+size_of Sha256 = 32
+size_of Sha384 = 48
+size_of Sha512 = 64
 
 -- a base64-value in the standard alphabet: "-" read as "+", and "_" as "/"
 abbrev pub plain_value : List ℕ → List ℕ

@@ -3,7 +3,7 @@ use crate::{
     Algorithm, Bytes, Capability, Check, Digests, Directive, Disposition, Duplicate, Group, Hash,
     Host, HostPart, InlineKind, Keyword, List, Memory, Name, Origin, PathPart, Policy, PolicyList,
     PortPart, Scheme, Source, Text, Url, Violation, begins_with, goes_beyond, is_subdomain,
-    name_text,
+    name_text, push_path,
 };
 use std::alloc::Global;
 use std::cmp::Ordering;
@@ -15,6 +15,8 @@ fn texts_and_bytes(rt: HostRuntime) -> Result<(), Fail> {
     let text = Text::new(alloc, "é")?;
     assert_eq!(rt; text.as_str(), "é");
     assert!(rt; text == Text::from_string(text.copy(alloc)?.into_string()));
+    assert_eq!(rt; Text::from_ascii(alloc, b"A-z")?.as_str(), "A-z");
+    assert_eq!(rt; Text::from_ascii_lowercase(alloc, b"A-z")?.as_str(), "a-z");
     let bytes = Bytes::new(alloc, &[0, 255])?;
     assert_eq!(rt; bytes.as_slice(), [0u8, 255].as_slice());
     assert!(rt; bytes == Bytes::from_vec(bytes.copy(alloc)?.into_vec()));
@@ -112,6 +114,17 @@ fn copies_of_policies(rt: HostRuntime) -> Result<(), Fail> {
         policies: one(alloc, policy(alloc)?)?,
     };
     assert!(rt; list.copy(alloc)? == list);
+    Ok(())
+}
+
+#[test]
+fn texts_of_paths(rt: HostRuntime) -> Result<(), Fail> {
+    let alloc = rt.alloc();
+    let mut pieces = one(alloc, Bytes::new(alloc, b"a/~")?)?;
+    pieces.push(Bytes::new(alloc, &[255])?)?;
+    let mut text = String::from_str(alloc, "x")?;
+    push_path(&mut text, pieces.as_slice())?;
+    assert_eq!(rt; text.as_str(), "x/a%2F~/%FF");
     Ok(())
 }
 

@@ -1,13 +1,14 @@
 //! Texts and byte strings, which contracts see as lists of bytes.
-ghost use Rattle.std.specs.Prelude.{◌≡◌, ◌==◌, IfOk, Some, refl, string_bytes};
+ghost use Rattle.std.specs.Prelude.{◌≡◌, ◌==◌, IfOk, IsTrue, Some, refl, string_bytes};
 ghost use Rattle.std.specs.Str.{IsUtf8};
 ghost use Rattle.std.specs.Cmp.Lexicographic.{pointwise, slice_cmp, nat_list_cmp_total, texts_po, texts_ties};
 ghost use Rattle.std.specs.Cmp.Rules.{comparing};
 ghost use Rattle.std.specs.Ordering.{nat_cmp};
 ghost use Rattle.std.proofs.Common.{rules};
+ghost use Rattle.csp_model.specs.Ascii.{lower, is_ascii_text};
 
 use crate::memory::Memory;
-use std::alloc::Global;
+use std::alloc::{AllocError, Global};
 use std::cmp::Ordering;
 use std::marker::Model;
 
@@ -35,6 +36,28 @@ impl Text {
         })
     }
 
+    /// A copy of ASCII bytes as a text.
+    pub fn from_ascii(alloc: Global, ascii: &[u8]) -> Result<Text, Memory>
+        requires { IsTrue (is_ascii_text ascii.now) }
+        ensures { IfOk result (λ made. made ≡ ascii.now) }
+    {
+        match str::from_utf8(ascii) {
+            Ok(text) => Text::new(alloc, text),
+            Err(_) => unreachable!(),
+        }
+    }
+
+    /// The text of ASCII bytes, in lower case.
+    pub fn from_ascii_lowercase(alloc: Global, ascii: &[u8]) -> Result<Text, Memory>
+        requires { IsTrue (is_ascii_text ascii.now) }
+        ensures { IfOk result (λ made. made ≡ lower ascii.now) }
+    {
+        match String::from_utf8(lower_bytes(alloc, ascii)?) {
+            Ok(text) => Ok(Text { text }),
+            Err(_) => unreachable!(),
+        }
+    }
+
     /// The text of `text` itself. Nothing is copied.
     pub fn from_string(text: String) -> Text
         ensures { result ≡ string_bytes text }
@@ -57,6 +80,12 @@ impl Text {
     {
         self.text.as_str()
     }
+}
+
+fn lower_bytes(alloc: Global, ascii: &[u8]) -> Result<Vec<u8>, AllocError>
+    ensures { IfOk result (λ made. made.items ≡ lower ascii.now) }
+{
+    ascii.iter().map(|b| b.to_ascii_lowercase()).collect(alloc)
 }
 
 /// Bytes of any kind.

@@ -1,20 +1,18 @@
 -- The first word of a text.
-use Rattle.std.proofs.Common.{arith, refl, sym, ap, ◌∙◌, ◌≡◌, ◌≢◌, ◌<◌, ◌+◌, ◌==◌, ℕ, Bool, true, false, cond, List, [], ◌∷◌, take, drop, length, position, Some, None, nat_lt, drop-cons, add-one, get_or, subst, zero, suc, ◌≤◌}
+use Rattle.std.proofs.Common.{arith, refl, sym, ap, ◌∙◌, ◌≡◌, ◌≢◌, ◌<◌, ◌+◌, ◌==◌, ℕ, Bool, true, false, cond, List, [], ◌∷◌, take, drop, length, position, Some, None, nat_lt, get_or, subst, zero, suc, ◌≤◌}
 use Rattle.std.specs.Char.{is_ascii_whitespace}
-use Rattle.std.specs.List.{slice_split, filter, position_or_len}
+use Rattle.std.specs.List.{position_or_len}
 use Rattle.std.proofs.lemmas.Grind.{common_steps}
-use Rattle.std.proofs.lemmas.List.Splits.{slice_split-cons_yes, slice_split_none, slice_split_first}
-use Rattle.std.proofs.lemmas.List.Sums.{passes_at_first, fails_before_first}
-use Rattle.csp_model.specs.Ascii.{is_ascii_text, is_nonempty, words}
+use Rattle.std.proofs.lemmas.List.{drop_more}
+use Rattle.std.proofs.lemmas.List.Sums.{passes_at_first, fails_before_first, split_at_first}
+use Rattle.csp_model.specs.Ascii.{is_ascii_text, words}
 use Rattle.csp_model.specs.Reading.{back}
-
-space_first : (b : ℕ) (s : List ℕ) → is_ascii_whitespace b ≡ true → words (b ∷ s) ≡ words s
-space_first b s h = ap (filter is_nonempty) (slice_split-cons_yes is_ascii_whitespace b s h)
+use Rattle.csp_model.proofs.WordLaws.{IsSolid, words-space, one_word, word_before}
 
 pub words_back : (s : List ℕ) → words (back is_ascii_whitespace s) ≡ words s
 words_back [] = refl
 words_back (b ∷ s) = elim (is_ascii_whitespace b) as (λ t. is_ascii_whitespace b ≡ t → words (cond t (back is_ascii_whitespace s) (b ∷ s)) ≡ words (b ∷ s)) [
-  | true ↦ λ h. words_back s ∙ sym (space_first b s h)
+  | true ↦ λ h. words_back s ∙ sym (words-space b s h)
   | false ↦ λ h. refl
 ] refl
 
@@ -39,20 +37,17 @@ back_begins (b ∷ s) h = elim (is_ascii_whitespace b) as (λ t. is_ascii_whites
   | false ↦ λ k. begins_solid b s k
 ] refl h
 
-kept_first : (x : List ℕ) (ps : List (List ℕ)) → length x ≢ 0 → filter is_nonempty (x ∷ ps) ≡ x ∷ filter is_nonempty ps
-kept_first [] ps some = absurd (some refl)
-kept_first (b ∷ x) ps some = grind (arith, common_steps)
-
 abbrev first_space : List ℕ → ℕ
 first_space s = position_or_len is_ascii_whitespace s
 
 before_space : (s : List ℕ) → first_space s < length s → first_space s ≢ 0 → words s ≡ take (first_space s) s ∷ words (drop (first_space s) s)
 before_space s within some =
-    let long : length (take (first_space s) s) ≢ 0 = grind (arith, common_steps) in
-    let rest : words (drop (first_space s) s) ≡ words (drop (suc (first_space s)) s) =
-    ap words (drop-cons s (first_space s) 0 within) ∙ space_first (get_or s (first_space s) 0) (drop (suc (first_space s)) s) (passes_at_first is_ascii_whitespace s 0 within) in
-    ap (filter is_nonempty) (slice_split_first is_ascii_whitespace s 0 within) ∙ kept_first (take (first_space s) s) (slice_split is_ascii_whitespace (drop (first_space s + 1) s)) long
-    ∙ ap (λ ws. take (first_space s) s ∷ ws) (ap (λ n. words (drop n s)) (add-one (first_space s)) ∙ sym rest)
+    let long : 0 < length (take (first_space s) s) = grind (arith, common_steps) in
+    let solid : IsSolid (take (first_space s) s) = λ k d below. let fails = fails_before_first is_ascii_whitespace s k d (grind (arith, common_steps)) in grind (arith, common_steps) in
+    let space = passes_at_first is_ascii_whitespace s 0 within in
+    let rest = words-space (get_or s (first_space s) 0) (drop (first_space s + 1) s) space in
+    ap words (split_at_first is_ascii_whitespace s 0 within) ∙ word_before (take (first_space s) s) (get_or s (first_space s) 0) (drop (first_space s + 1) s) long solid space
+    ∙ ap (λ ws. take (first_space s) s ∷ ws) (sym (ap words (drop_more s (first_space s) 0 within) ∙ rest))
 
 -- the word before the first whitespace
 pub word_at : (s : List ℕ) (at : ℕ) → position is_ascii_whitespace s ≡ Some at → at ≢ 0 → words s ≡ take at s ∷ words (drop at s)
@@ -66,7 +61,7 @@ pub word_alone : (s : List ℕ) → position is_ascii_whitespace s ≡ None → 
 word_alone s h k =
     let none = not_found (nat_lt (first_space s) (length s)) (first_space s) h in
     let past : length s ≤ first_space s = grind (arith, none) in
-    ap (filter is_nonempty) (slice_split_none is_ascii_whitespace s (λ i d lt. fails_before_first is_ascii_whitespace s i d (omega arith))) ∙ kept_first s [] k
+    one_word s (omega (arith, k)) (λ i d below. fails_before_first is_ascii_whitespace s i d (omega arith))
 
 pub no_words : (s : List ℕ) → (length s == 0) ≡ true → words s ≡ []
 no_words [] h = refl

@@ -1,4 +1,3 @@
-pub mod AsciiLaws
 pub mod FirstWord
 pub mod Firsts
 pub mod Readable

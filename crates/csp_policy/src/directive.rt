@@ -6,7 +6,7 @@ ghost use Rattle.csp_model.specs.Reading.{source_of};
 ghost use Rattle.csp_policy.specs.Reading.{directive_with, shortened, kept_of, AreShortened};
 
 use crate::names::CaselessName;
-use crate::texts::{ascii_text, is_ascii_text, lower_text};
+use crate::texts::is_ascii_text;
 use crate::words::next_word;
 use csp_model::{Directive, List, Memory, Source, Text};
 use csp_source::read_source;
@@ -30,7 +30,7 @@ fn read_tokens(
         let Some((token, after)) = next_word(rest) else {
             break;
         };
-        tokens.push(ascii_text(alloc, token)?)?;
+        tokens.push(Text::from_ascii(alloc, token)?)?;
         sources.push(read_source(alloc, token)?)?;
         rest = after;
     }
@@ -52,7 +52,7 @@ fn read_directive(
     let (tokens, sources) = read_tokens(alloc, text, *room)?;
     *room -= tokens.len();
     Ok(Directive {
-        name: lower_text(alloc, name)?,
+        name: Text::from_ascii_lowercase(alloc, name)?,
         tokens,
         sources,
     })

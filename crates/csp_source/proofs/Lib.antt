@@ -1,4 +1,3 @@
-mod AsciiLaws
 mod EndLaws
 mod HostLaws
 mod KindLaws

@@ -1,5 +1,5 @@
 -- A path's spelling is read as that path.
-use Rattle.std.proofs.Common.{arith, ◌≡◌, ◌∙◌, sym, ap, refl, subst, ℕ, ◌/◌, ◌%◌, ◌<◌, ◌-◌, Bool, true, false, ◌&&◌, ◌||◌, List, [], ◌∷◌, ◌++◌, length, map, get_or, Some, None, Option, cond, inl, inr, zero, suc, append-nil}
+use Rattle.std.proofs.Common.{arith, ◌≡◌, ◌∙◌, sym, ap, refl, subst, ℕ, ◌/◌, ◌%◌, ◌<◌, ◌-◌, Bool, true, false, ◌&&◌, ◌||◌, List, [], ◌∷◌, ◌++◌, length, map, get_or, Some, None, Option, cond, inl, inr, zero, suc}
 use Rattle.std.specs.Prelude.{codes, ◌==◌, not, if◌then◌else◌}
 use Rattle.std.specs.List.{list_all, onto_first, All}
 use Rattle.std.specs.Char.{is_ascii_hexdigit}
@@ -7,17 +7,19 @@ use Rattle.std.specs.Fmt.{digit_glyph}
 use Rattle.std.proofs.lemmas.Bool.{false≢true}
 use Rattle.std.proofs.lemmas.Bool.Decides.{nat_tests, eqb_tells}
 use Rattle.std.proofs.lemmas.List.Concat.{flat_map-append}
-use Rattle.std.proofs.lemmas.List.Elements.{All-nil, All-cons}
-use Rattle.std.proofs.lemmas.List.Splits.{slice_split_none, slice_split_at}
+use Rattle.std.proofs.lemmas.List.Elements.{All-nil, All-cons, All-head, All-tail, All-map, All-weaker}
 use Rattle.percent_encoding.specs.AsciiSet.{should_percent_encode}
 use Rattle.percent_encoding.specs.Percent.{percent_encode, percent_encode_byte, percent_decode}
-use Rattle.percent_encoding.proofs.PercentLemmas.{IsByte, IsEscapeByte, All-percent_encode, All-percent_decode, round_trip, percent_encode-nil, percent_encode_escaped, percent_encode_kept, percent_encode_nonempty, length-percent_decode}
+use Rattle.percent_encoding.proofs.AsciiSetLemmas.{ascii_from_kept}
+use Rattle.percent_encoding.proofs.PercentLemmas.{IsByte, All-percent_decode, percent_encode-nil, percent_encode_escaped, percent_encode_kept, percent_encode_nonempty, length-percent_decode}
 use Rattle.csp_model.specs.Ascii.{split_at, is_nonempty, is_ascii_text, ends_in, without_last}
 use Rattle.csp_model.specs.Grammar.{is_path_char, is_segment, are_segments, path_of}
+use Rattle.csp_model.specs.Paths.{path_text}
 use Rattle.csp_model.specs.declared.source.PathPart.{PathPart}
 use Rattle.csp_model.specs.declared.source.PathPart.TheVariants as path
-use Rattle.csp_source.specs.declared.TheConstants.{ESCAPED}
-use Rattle.csp_source.specs.Spelling.{pieces_spelling, path_spelling}
+use Rattle.csp_model.specs.declared.path.TheConstants.{ESCAPED}
+use Rattle.csp_model.proofs.PathText.{split_at-path_text, decoded_again}
+use Rattle.csp_source.specs.Spelling.{path_spelling}
 use Rattle.csp_source.proofs.EndLaws.{without_last-push}
 use Rattle.csp_source.proofs.HostLaws.{chosen, path_slash}
 use Rattle.csp_source.proofs.PathLaws.{first_part, nonempty}
@@ -51,13 +53,9 @@ glyph_table : below is_glyph_good 16 ≡ true
 unfolding below is_glyph_good is_path_char
 glyph_table = refl
 
-kept_small : (b : ℕ) → should_percent_encode ESCAPED b ≡ false → b < 128
-unfolding should_percent_encode
-kept_small b h = grind (arith, nat_tests)
-
 kept_good : (b : ℕ) → should_percent_encode ESCAPED b ≡ false → (is_path_char b ≡ true) × ((b == 37) ≡ false)
 unfolding is_kept_good
-kept_good b h = let good = from_below is_kept_good 128 kept_table b (kept_small b h) in (grind (arith, good), grind (arith, good))
+kept_good b h = let good = from_below is_kept_good 128 kept_table b (ascii_from_kept ESCAPED b h) in (grind (arith, good), grind (arith, good))
 
 glyph_good : (d : ℕ) → d < 16 → (is_ascii_hexdigit (digit_glyph true d) ≡ true) × (is_path_char (digit_glyph true d) ≡ true) × ((digit_glyph true d == 37) ≡ false)
 unfolding is_glyph_good
@@ -90,28 +88,6 @@ encoded_segments [] = refl
 encoded_segments (piece ∷ pieces) = rw (encoded_segment piece) (encoded_segments pieces)
 
 -- ---- how a path's text splits
-
-kept_no_slash : (b : ℕ) → should_percent_encode ESCAPED b ≡ false → (b == 47) ≡ false
-unfolding should_percent_encode
-kept_no_slash b h = elim (eqb_tells b 47) [
-  | inl e ↦ absurd (let g : should_percent_encode ESCAPED 47 ≡ false = rw e.1 at h in cc g)
-  | inr ne ↦ ne.0
-]
-
-escape_no_slash : (b : ℕ) → IsEscapeByte b → (b == 47) ≡ false
-escape_no_slash b h = elim (eqb_tells b 47) [
-  | inl e ↦ absurd (let f = e.1 in omega (arith, h))
-  | inr ne ↦ ne.0
-]
-
-no_slash_in : (piece : List ℕ) → All (λ b. (b == 47) ≡ false) (percent_encode ESCAPED piece)
-no_slash_in piece = All-percent_encode (λ b. (b == 47) ≡ false) ESCAPED piece kept_no_slash escape_no_slash
-
-cut : (piece : List ℕ) (pieces : List (List ℕ)) → split_at 47 (percent_encode ESCAPED piece ++ pieces_spelling pieces) ≡ percent_encode ESCAPED piece ∷ map (percent_encode ESCAPED) pieces
-cut piece [] = rw append-nil (slice_split_none (λ b. b == 47) (percent_encode ESCAPED piece) (no_slash_in piece))
-cut piece (next ∷ pieces) =
-    slice_split_at (λ b. b == 47) (percent_encode ESCAPED piece) 47 (percent_encode ESCAPED next ++ pieces_spelling pieces) (no_slash_in piece) refl
-    ∙ ap (λ parts. percent_encode ESCAPED piece ∷ parts) (cut next pieces)
 
 -- the last of the parts is empty
 last_empty : List (List ℕ) → Bool
@@ -191,24 +167,17 @@ segments_again (s ∷ t ∷ parts) h =
     let some : is_nonempty (percent_encode ESCAPED (percent_decode s)) ≡ true = encoded_nonempty (percent_decode s) ∙ decoded_nonempty s ∙ first in
     rw some (encoded_segments (map percent_decode (s ∷ t ∷ parts)))
 
--- each part is bytes
-AreBytes : List (List ℕ) → Type 0
-AreBytes [] = Unit {0}
-AreBytes (s ∷ parts) = All IsByte s × AreBytes parts
+decoded_bytes : (parts : List (List ℕ)) → All (All IsByte) parts → All (All IsByte) (map percent_decode parts)
+decoded_bytes parts h = All-map (All IsByte) percent_decode parts (All-weaker (All IsByte) (λ s. All IsByte (percent_decode s)) All-percent_decode parts h)
 
-decoded_again : (parts : List (List ℕ)) → AreBytes parts → map percent_decode (map (percent_encode ESCAPED) (map percent_decode parts)) ≡ map percent_decode parts
-unfolding AreBytes
-decoded_again [] h = refl
-decoded_again (s ∷ parts) h = rw (round_trip ESCAPED (percent_decode s) refl (All-percent_decode s h.0), decoded_again parts h.1) refl
-
-path_again : (parts : List (List ℕ)) (q : PathPart) → AreBytes parts → path_from parts ≡ Some q → path_from (map (percent_encode ESCAPED) (map percent_decode parts)) ≡ Some q
+path_again : (parts : List (List ℕ)) (q : PathPart) → All (All IsByte) parts → path_from parts ≡ Some q → path_from (map (percent_encode ESCAPED) (map percent_decode parts)) ≡ Some q
 unfolding path_from
 path_again parts q bytes e =
     elim (chosen (are_segments parts) (Some (if last_empty parts then path.Prefix (without_last (map percent_decode parts)) else path.Exact (map percent_decode parts))) None q e) [
       | inl one ↦
           let good = segments_again parts one.0 in
           let last = last_by (percent_encode ESCAPED) encoded_nonempty (map percent_decode parts) ∙ last_by percent_decode decoded_nonempty parts in
-          rw (good, last, decoded_again parts bytes) one.1
+          rw (good, last, decoded_again (map percent_decode parts) (decoded_bytes parts bytes)) one.1
       | inr two ↦ cc
     ]
 
@@ -219,21 +188,21 @@ last_of [] [] h = ([], refl)
 last_of (c ∷ piece) [] h = absurd (false≢true (sym (ap not (nonempty c piece)) ∙ h))
 last_of piece (next ∷ pieces) h = let (front, e) = last_of next pieces h in (piece ∷ front, ap (λ x. piece ∷ x) e)
 
-pieces_end : (front : List (List ℕ)) → pieces_spelling (front ++ [] ∷ []) ≡ pieces_spelling front ++ codes "/"
+pieces_end : (front : List (List ℕ)) → path_text (front ++ [] ∷ []) ≡ path_text front ++ codes "/"
 pieces_end front =
     flat_map-append (λ piece. 47 ∷ percent_encode ESCAPED piece) front ([] ∷ [])
-    ∙ ap (λ x. pieces_spelling front ++ ((47 ∷ x) ++ [])) (percent_encode-nil ESCAPED)
+    ∙ ap (λ x. path_text front ++ ((47 ∷ x) ++ [])) (percent_encode-nil ESCAPED)
 
 spelt_by : (b : Bool) (piece : List ℕ) (pieces : List (List ℕ)) → last_empty (piece ∷ pieces) ≡ b
-    → path_spelling (cond b (path.Prefix (without_last (piece ∷ pieces))) (path.Exact (piece ∷ pieces))) ≡ pieces_spelling (piece ∷ pieces)
+    → path_spelling (cond b (path.Prefix (without_last (piece ∷ pieces))) (path.Exact (piece ∷ pieces))) ≡ path_text (piece ∷ pieces)
 spelt_by true piece pieces h =
     let (front, e) = last_of piece pieces h in
-    ap (λ x. pieces_spelling (without_last x) ++ codes "/") e ∙ ap (λ x. pieces_spelling x ++ codes "/") (without_last-push front [])
-    ∙ sym (pieces_end front) ∙ sym (ap pieces_spelling e)
+    ap (λ x. path_text (without_last x) ++ codes "/") e ∙ ap (λ x. path_text x ++ codes "/") (without_last-push front [])
+    ∙ sym (pieces_end front) ∙ sym (ap path_text e)
 spelt_by false piece pieces h = refl
 
 -- the spelling of the path that the parts are
-spelling_is : (s : List ℕ) (parts : List (List ℕ)) (q : PathPart) → path_from (s ∷ parts) ≡ Some q → path_spelling q ≡ pieces_spelling (map percent_decode (s ∷ parts))
+spelling_is : (s : List ℕ) (parts : List (List ℕ)) (q : PathPart) → path_from (s ∷ parts) ≡ Some q → path_spelling q ≡ path_text (map percent_decode (s ∷ parts))
 unfolding path_from
 spelling_is s parts q e =
     elim (chosen (are_segments (s ∷ parts)) (Some (if last_empty (s ∷ parts) then path.Prefix (without_last (map percent_decode (s ∷ parts))) else path.Exact (map percent_decode (s ∷ parts)))) None q e) [
@@ -243,30 +212,28 @@ spelling_is s parts q e =
       | inr two ↦ cc
     ]
 
-spelt_parts : (s : List ℕ) (parts : List (List ℕ)) (q : PathPart) → AreBytes (s ∷ parts) → path_from (s ∷ parts) ≡ Some q → path_of (path_spelling q) ≡ Some q
+spelt_parts : (s : List ℕ) (parts : List (List ℕ)) (q : PathPart) → All (All IsByte) (s ∷ parts) → path_from (s ∷ parts) ≡ Some q → path_of (path_spelling q) ≡ Some q
 spelt_parts s parts q bytes e =
-    ap path_of (spelling_is s parts q e) ∙ path_is (percent_encode ESCAPED (percent_decode s) ++ pieces_spelling (map percent_decode parts))
-    ∙ ap path_from (cut (percent_decode s) (map percent_decode parts)) ∙ path_again (s ∷ parts) q bytes e
+    ap path_of (spelling_is s parts q e) ∙ path_is (percent_encode ESCAPED (percent_decode s) ++ path_text (map percent_decode parts))
+    ∙ ap path_from (split_at-path_text (percent_decode s) (map percent_decode parts)) ∙ path_again (s ∷ parts) q bytes e
 
-onto_bytes : (c : ℕ) (parts : List (List ℕ)) → IsByte c → AreBytes parts → AreBytes (onto_first c parts)
-unfolding AreBytes
-onto_bytes c [] h k = (All-cons IsByte c [] h (All-nil IsByte), tt)
-onto_bytes c (part ∷ parts) h k = (All-cons IsByte c part h k.0, k.1)
+onto_bytes : (c : ℕ) (parts : List (List ℕ)) → IsByte c → All (All IsByte) parts → All (All IsByte) (onto_first c parts)
+onto_bytes c [] h k = All-cons (All IsByte) (c ∷ []) [] (All-cons IsByte c [] h (All-nil IsByte)) k
+onto_bytes c (part ∷ parts) h k =
+    All-cons (All IsByte) (c ∷ part) parts (All-cons IsByte c part h (All-head (All IsByte) part parts k)) (All-tail (All IsByte) part parts k)
 
-bytes_by : (b : Bool) (c : ℕ) (parts : List (List ℕ)) → IsByte c → AreBytes parts → AreBytes (cond b ([] ∷ parts) (onto_first c parts))
-unfolding AreBytes
-bytes_by true c parts h k = (All-nil IsByte, k)
+bytes_by : (b : Bool) (c : ℕ) (parts : List (List ℕ)) → IsByte c → All (All IsByte) parts → All (All IsByte) (cond b ([] ∷ parts) (onto_first c parts))
+bytes_by true c parts h k = All-cons (All IsByte) [] parts (All-nil IsByte) k
 bytes_by false c parts h k = onto_bytes c parts h k
 
-split_bytes : (text : List ℕ) → is_ascii_text text ≡ true → AreBytes (split_at 47 text)
-unfolding AreBytes
-split_bytes [] h = (All-nil IsByte, tt)
+split_bytes : (text : List ℕ) → is_ascii_text text ≡ true → All (All IsByte) (split_at 47 text)
+split_bytes [] h = All-cons (All IsByte) [] [] (All-nil IsByte) (All-nil (All IsByte))
 split_bytes (c ∷ text) h = let small : c < 256 = grind (arith, h) in bytes_by (c == 47) c (split_at 47 text) small (split_bytes text (grind (arith, h)))
 
 behind_slash : (text : List ℕ) (q : PathPart) → is_ascii_text text ≡ true → path_of (47 ∷ text) ≡ Some q → path_of (path_spelling q) ≡ Some q
 behind_slash text q ascii e =
     let (s, parts, is) = first_part (λ b. b == 47) text in
-    spelt_parts s parts q (subst AreBytes is (split_bytes text ascii)) (sym (ap path_from is) ∙ sym (path_is text) ∙ e)
+    spelt_parts s parts q (subst (All (All IsByte)) is (split_bytes text ascii)) (sym (ap path_from is) ∙ sym (path_is text) ∙ e)
 
 absent_spelt : path_of [] ≡ Some path.Absent
 unfolding path_of

@@ -1,10 +1,9 @@
 -- The one spelling of a source (Content Security Policy Level 3, section 2.3.1): letters in lower case where case
 -- doesn't count, ports without leading zeros, pieces of paths percent-encoded (RFC 3986, section 2.1).
 use Rattle.std.specs.Prelude.{◌≡◌, ℕ, List, [], ◌∷◌, ◌++◌, Option, Some, None, IsTrue, codes, decimal}
-use Rattle.std.specs.List.{flat_map}
-use Rattle.percent_encoding.specs.Percent.{percent_encode}
 use Rattle.csp_model.specs.Ascii.{is_ascii_text}
 use Rattle.csp_model.specs.Grammar.{keyword_text, algorithm_text}
+use Rattle.csp_model.specs.Paths.{path_text}
 use Rattle.csp_model.specs.Reading.{source_of}
 use Rattle.csp_model.specs.declared.source.HostPart.{HostPart}
 use Rattle.csp_model.specs.declared.source.HostPart.TheVariants as host
@@ -14,7 +13,6 @@ use Rattle.csp_model.specs.declared.source.PathPart.{PathPart}
 use Rattle.csp_model.specs.declared.source.PathPart.TheVariants as path
 use Rattle.csp_model.specs.declared.source.Source.{Source}
 use Rattle.csp_model.specs.declared.source.Source.TheVariants as source
-use Rattle.csp_source.specs.declared.TheConstants.{ESCAPED}
 
 -- the scheme and "://", where there is one
 abbrev pub scheme_spelling : Option (List ℕ) → List ℕ
@@ -32,16 +30,11 @@ port_spelling port.Any = codes ":*"
 port_spelling (port.Number n) = codes ":" ++ decimal n
 port_spelling port.TooLarge = codes ":65536"
 
--- "/" and the piece for each piece, in which every byte but letters, digits, "-", ".", "_" and "~" is "%" and two
--- upper-case hexadecimal digits
-abbrev pub pieces_spelling : List (List ℕ) → List ℕ
-pieces_spelling pieces = flat_map (λ piece. 47 ∷ percent_encode ESCAPED piece) pieces
-
 -- a path that ends in "/" has one more
 abbrev pub path_spelling : PathPart → List ℕ
 path_spelling path.Absent = []
-path_spelling (path.Exact pieces) = pieces_spelling pieces
-path_spelling (path.Prefix pieces) = pieces_spelling pieces ++ codes "/"
+path_spelling (path.Exact pieces) = path_text pieces
+path_spelling (path.Prefix pieces) = path_text pieces ++ codes "/"
 
 -- what a source is written as
 abbrev pub spelling : Source → List ℕ

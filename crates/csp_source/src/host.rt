@@ -5,8 +5,8 @@ ghost use Rattle.csp_model.specs.Ascii.{is_ascii_text, split_at};
 ghost use Rattle.csp_model.specs.Grammar.{is_label_char, is_label, is_name, host_of};
 ghost use Rattle.csp_model.specs.Reading.{front, back, is_host_char};
 
-use crate::texts::{lower_text, without_final};
-use csp_model::{HostPart, Memory};
+use crate::texts::without_final;
+use csp_model::{HostPart, Memory, Text};
 use std::alloc::Global;
 
 #[tactic(auto, unfolding(csp_model::specs::Grammar::is_label_char))]
@@ -74,11 +74,11 @@ pub(crate) fn host_of(alloc: Global, text: &[u8]) -> Result<Option<HostPart>, Me
     if text.starts_with(b"*.") {
         let (_, suffix) = text.split_at(2);
         if is_name(suffix) {
-            return Ok(Some(HostPart::Under(lower_text(alloc, suffix)?)));
+            return Ok(Some(HostPart::Under(Text::from_ascii_lowercase(alloc, suffix)?)));
         }
     }
     if is_name(text) {
-        Ok(Some(HostPart::Exact(lower_text(alloc, text)?)))
+        Ok(Some(HostPart::Exact(Text::from_ascii_lowercase(alloc, text)?)))
     } else {
         Ok(None)
     }

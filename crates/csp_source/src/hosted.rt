@@ -7,7 +7,6 @@ use crate::host::{host_len, host_of};
 use crate::path::{is_path, path_of};
 use crate::port::port_of;
 use crate::scheme::{is_scheme, scheme_len};
-use crate::texts::lower_text;
 use csp_model::{Memory, Source, Text};
 use std::alloc::Global;
 
@@ -38,7 +37,7 @@ fn lower_scheme(alloc: Global, letters: Option<&[u8]>) -> Result<Option<Text>, M
 {
     match letters {
         None => Ok(None),
-        Some(letters) => Ok(Some(lower_text(alloc, letters)?)),
+        Some(letters) => Ok(Some(Text::from_ascii_lowercase(alloc, letters)?)),
     }
 }
 

@@ -6,8 +6,8 @@ ghost use Rattle.csp_model.specs.Ascii.{is_ascii_text, lower, ends_in, without_l
 ghost use Rattle.csp_model.specs.Grammar.{keyword_text, is_base64_char, is_base64_value, algorithm_text};
 ghost use Rattle.csp_model.specs.Reading.{keywords, keyword_source, quoted_value, nonce_source, hash_source};
 
-use crate::texts::{ascii_text, without_final};
-use csp_model::{Algorithm, Hash, Keyword, Memory, Source};
+use crate::texts::without_final;
+use csp_model::{Algorithm, Hash, Keyword, Memory, Source, Text};
 use std::alloc::Global;
 
 /// The keyword in lower case.
@@ -135,7 +135,7 @@ pub(crate) fn nonce_source(alloc: Global, token: &[u8]) -> Result<Option<Source>
     match quoted_value(b"'nonce-", token) {
         None => Ok(None),
         Some(nonce) => Ok(Some(Source::Nonce {
-            value: ascii_text(alloc, nonce)?,
+            value: Text::from_ascii(alloc, nonce)?,
         })),
     }
 }
@@ -166,7 +166,7 @@ pub(crate) fn hash_source(
         Some(digest) => Ok(Some(Source::Digest {
             hash: Hash {
                 algorithm,
-                value: ascii_text(alloc, digest)?,
+                value: Text::from_ascii(alloc, digest)?,
             },
         })),
     }

@@ -6,8 +6,7 @@ ghost use Rattle.csp_model.specs.Reading.{kind_of, source_of};
 use crate::hosted::host_source;
 use crate::quoted::{hash_source, keyword_source, nonce_source};
 use crate::scheme::scheme_source;
-use crate::texts::ascii_text;
-use csp_model::{Algorithm, Memory, Source};
+use csp_model::{Algorithm, Memory, Source, Text};
 use std::alloc::Global;
 
 /// The source that a token of some kind is.
@@ -51,7 +50,7 @@ pub fn read_source(alloc: Global, token: &[u8]) -> Result<Source, Memory>
     match kind_of(alloc, token)? {
         Some(source) => Ok(source),
         None => Ok(Source::Other {
-            token: ascii_text(alloc, token)?,
+            token: Text::from_ascii(alloc, token)?,
         }),
     }
 }

@@ -5,8 +5,7 @@ ghost use Rattle.csp_model.specs.Ascii.{is_ascii_text};
 ghost use Rattle.csp_model.specs.Grammar.{is_scheme_char, is_scheme};
 ghost use Rattle.csp_model.specs.Reading.{front, back, scheme_source};
 
-use crate::texts::lower_text;
-use csp_model::{Memory, Source};
+use csp_model::{Memory, Source, Text};
 use std::alloc::Global;
 
 #[tactic(auto, unfolding(csp_model::specs::Grammar::is_scheme_char))]
@@ -55,7 +54,7 @@ pub(crate) fn scheme_source(alloc: Global, token: &[u8]) -> Result<Option<Source
         Some((b':', letters)) => {
             if is_scheme(letters) {
                 Ok(Some(Source::SchemeOnly {
-                    scheme: lower_text(alloc, letters)?,
+                    scheme: Text::from_ascii_lowercase(alloc, letters)?,
                 }))
             } else {
                 Ok(None)

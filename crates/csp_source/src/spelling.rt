@@ -1,13 +1,11 @@
 //! Writes a source expression.
 ghost use Rattle.std.specs.Prelude.{◌≡◌, ◌++◌, IfOk, OnOk, string_bytes, codes};
 ghost use Rattle.csp_model.specs.Reading.{source_of};
-ghost use Rattle.csp_source.specs.Spelling.{scheme_spelling, host_spelling, port_spelling, pieces_spelling, path_spelling, spelling, IsRead};
+ghost use Rattle.csp_source.specs.Spelling.{scheme_spelling, host_spelling, port_spelling, path_spelling, spelling, IsRead};
 
-use crate::ESCAPED;
 use crate::quoted::{hash_word, keyword_text};
-use csp_model::{Bytes, HostPart, Memory, PathPart, PortPart, Source, Text};
+use csp_model::{HostPart, Memory, PathPart, PortPart, Source, Text, push_path};
 use itoa::Buffer;
-use percent_encoding::percent_encode;
 use std::alloc::Global;
 
 fn push_scheme(text: &mut String, scheme: &Option<Text>) -> Result<(), Memory>
@@ -55,26 +53,15 @@ fn push_port(text: &mut String, port: PortPart) -> Result<(), Memory>
     Ok(())
 }
 
-fn push_pieces(text: &mut String, pieces: &[Bytes]) -> Result<(), Memory>
-    ensures { OnOk result
-        (string_bytes text.new ≡ string_bytes text.old ++ pieces_spelling pieces.now) }
-{
-    for piece in pieces {
-        text.push('/')?;
-        percent_encode(piece.as_slice(), ESCAPED).append_to(text)?;
-    }
-    Ok(())
-}
-
-fn push_path(text: &mut String, path: &PathPart) -> Result<(), Memory>
+fn push_path_part(text: &mut String, path: &PathPart) -> Result<(), Memory>
     ensures { OnOk result
         (string_bytes text.new ≡ string_bytes text.old ++ path_spelling path.now) }
 {
     match path {
         PathPart::Absent => {}
-        PathPart::Exact(pieces) => push_pieces(text, pieces.as_slice())?,
+        PathPart::Exact(pieces) => push_path(text, pieces.as_slice())?,
         PathPart::Prefix(pieces) => {
-            push_pieces(text, pieces.as_slice())?;
+            push_path(text, pieces.as_slice())?;
             text.push('/')?;
         }
     }
@@ -110,7 +97,7 @@ fn push_source(text: &mut String, source: &Source) -> Result<(), Memory>
             push_scheme(text, scheme)?;
             push_host(text, host)?;
             push_port(text, *port)?;
-            push_path(text, path)?;
+            push_path_part(text, path)?;
         }
         Source::Word { word } => text.push_str(keyword_text(*word))?,
         Source::Nonce { value } => push_quoted(text, "'nonce-", value)?,

@@ -9,8 +9,8 @@ use Rattle.csp_model.specs.Validity.{IsIntegrityValue}
 use Rattle.csp_model.specs.declared.source.Algorithm.{Algorithm}
 use Rattle.csp_model.specs.declared.source.Algorithm.TheVariants.{Sha256, Sha384, Sha512}
 use Rattle.csp_model.specs.declared.source.Hash.{Hash}
+use Rattle.csp_model.proofs.WordLaws.{IsSolid, one_word, word_before}
 use Rattle.csp_token.specs.Integrity.{is_dash, is_question, pair_in, hash_in, hash_text, integrity_of, integrity_text}
-use Rattle.csp_token.proofs.Words.{IsSolid, one_word, word_before}
 
 -- the first pair, and a space and a pair for each other
 pub joined : (x : Hash) (xs : List Hash) → integrity_text (x ∷ xs) ≡ hash_text x ++ flat_map (λ pair. 32 ∷ hash_text pair) xs

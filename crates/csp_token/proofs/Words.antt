@@ -1,6 +1,6 @@
--- The words of a text, one after the other.
+-- What a split at whitespace yields is the words of the text.
 use Rattle.std.proofs.Common.{◌≡◌, ◌<◌, List, [], ◌∷◌, ◌++◌, ℕ, length, get_or, true, false, sym, refl, ap, ◌∙◌, arith, append-nil, inl, inr}
-use Rattle.std.specs.List.{slice_split, filter, All, AllPass}
+use Rattle.std.specs.List.{AllPass}
 use Rattle.std.specs.Char.{is_ascii_whitespace}
 use Rattle.std.specs.Str.{NoCharPasses}
 use Rattle.std.specs.Str.Iter.{split_ascii_whitespace_steps, split_ascii_whitespace_text, IsAsciiSeparator}
@@ -9,43 +9,23 @@ use Rattle.std.proofs.lemmas.Grind.{common_steps}
 use Rattle.std.proofs.lemmas.Iterator.{YieldsList}
 use Rattle.std.proofs.lemmas.Iterator.Consumers.{YieldsList-from_shown}
 use Rattle.std.proofs.lemmas.List.Elements.{All-from_get_or, All-head, All-tail}
-use Rattle.std.proofs.lemmas.List.Splits.{slice_split-cons_yes, slice_split_none, slice_split_at}
 use Rattle.std.proofs.lemmas.Str.{NoCharPasses-byte}
-use Rattle.csp_model.specs.Ascii.{words, is_nonempty}
-
-gap_byte : (b : ℕ) (s : List ℕ) → is_ascii_whitespace b ≡ true → words (b ∷ s) ≡ words s
-gap_byte b s h = ap (filter is_nonempty) (slice_split-cons_yes is_ascii_whitespace b s h)
+use Rattle.csp_model.specs.Ascii.{words}
+use Rattle.csp_model.proofs.WordLaws.{IsSolid, words-space, one_word, word_before}
 
 gap_passed : (gap s : List ℕ) → AllPass is_ascii_whitespace gap → words (gap ++ s) ≡ words s
 gap_passed [] s h = refl
 gap_passed (b ∷ gap) s h =
-    gap_byte b (gap ++ s) (All-head (λ x. is_ascii_whitespace x ≡ true) b gap h) ∙ gap_passed gap s (All-tail (λ x. is_ascii_whitespace x ≡ true) b gap h)
+    words-space b (gap ++ s) (All-head (λ x. is_ascii_whitespace x ≡ true) b gap h) ∙ gap_passed gap s (All-tail (λ x. is_ascii_whitespace x ≡ true) b gap h)
 
 only_gap : (s : List ℕ) → AllPass is_ascii_whitespace s → words s ≡ []
 only_gap s h = ap words (sym (append-nil s)) ∙ gap_passed s [] h
-
-kept_first : (x : List ℕ) (ps : List (List ℕ)) → 0 < length x → filter is_nonempty (x ∷ ps) ≡ x ∷ filter is_nonempty ps
-kept_first [] ps some = absurd (omega arith)
-kept_first (b ∷ x) ps some = grind (arith, common_steps)
-
--- the bytes of a word
-abbrev pub IsSolid : List ℕ → Type 0
-IsSolid x = All (λ b. is_ascii_whitespace b ≡ false) x
 
 solid : (x : List ℕ) → NoCharPasses is_ascii_whitespace x → IsSolid x
 solid x h = All-from_get_or (λ b. is_ascii_whitespace b ≡ false) x 0 (λ i within. elim (cases_lt (get_or x i 0) 128) [
   | inl lt ↦ NoCharPasses-byte is_ascii_whitespace x i h within lt
   | inr ge ↦ grind (arith, common_steps)
 ])
-
--- a text without whitespace is one word
-pub one_word : (x : List ℕ) → 0 < length x → IsSolid x → words x ≡ x ∷ []
-one_word x some all = ap (filter is_nonempty) (slice_split_none is_ascii_whitespace x all) ∙ kept_first x [] some
-
--- a word ends at whitespace
-pub word_before : (x : List ℕ) (y : ℕ) (rest : List ℕ) → 0 < length x → IsSolid x → is_ascii_whitespace y ≡ true → words (x ++ y ∷ rest) ≡ x ∷ words rest
-word_before x y rest some all gap =
-    ap (filter is_nonempty) (slice_split_at is_ascii_whitespace x y rest all gap) ∙ kept_first x (slice_split is_ascii_whitespace rest) some
 
 first_word : (x sep rest : List ℕ) → 0 < length x → NoCharPasses is_ascii_whitespace x → IsAsciiSeparator sep rest → words (x ++ (sep ++ rest)) ≡ x ∷ words rest
 first_word x [] [] some h is = rw append-nil (one_word x some (solid x h))

@@ -3,12 +3,9 @@ use Rattle.std.specs.Prelude.{◌≡◌, ℕ, ◌==◌, List, length, if◌then�
 use Rattle.sha2.specs.Sha256.{sha256}
 use Rattle.sha2.specs.Sha512.{sha384, sha512}
 use Rattle.base64.specs.GeneralPurpose.{IsBytes}
-use Rattle.csp_model.specs.Tokens.{StandsFor}
+use Rattle.csp_model.specs.Tokens.{StandsFor, algorithm_of, bytes_of, size_of}
 use Rattle.csp_model.specs.declared.check.Digests.{Digests}
 use Rattle.csp_model.specs.declared.check.Digest.{Digest}
-use Rattle.csp_model.specs.declared.check.Digest.TheVariants.{Sha256, Sha384, Sha512}
-use Rattle.csp_model.specs.declared.source.Algorithm.{Algorithm}
-use Rattle.csp_model.specs.declared.source.Algorithm.TheVariants as algorithm
 use Rattle.csp_model.specs.declared.source.Hash.{Hash}
 
 -- the three digests of the bytes
@@ -18,22 +15,6 @@ digests_of source = record { sha256 = sha256 source; sha384 = sha384 source; sha
 -- "-" is read as "+", and "_" as "/"
 abbrev pub plain_symbol : ℕ → ℕ
 plain_symbol c = if c == 45 then 43 else if c == 95 then 47 else c
-
-abbrev pub algorithm_of : Digest → Algorithm
-algorithm_of (Sha256 d) = algorithm.Sha256
-algorithm_of (Sha384 d) = algorithm.Sha384
-algorithm_of (Sha512 d) = algorithm.Sha512
-
-abbrev pub bytes_of : Digest → List ℕ
-bytes_of (Sha256 d) = d
-bytes_of (Sha384 d) = d
-bytes_of (Sha512 d) = d
-
--- how many bytes a digest of the algorithm has
-abbrev pub size_of : Algorithm → ℕ
-size_of algorithm.Sha256 = 32
-size_of algorithm.Sha384 = 48
-size_of algorithm.Sha512 = 64
 
 -- a digest has as many bytes as its algorithm gives
 abbrev pub IsDigest : Digest → Type 0

@@ -1,13 +1,11 @@
 -- Tests on bytes, as the code makes them.
-use Rattle.std.proofs.Common.{arith, ◌≡◌, ◌∙◌, sym, ap, refl, ℕ, ◌<◌, Bool, true, false, ◌&&◌, ◌||◌, not, suc, List, [], ◌∷◌, get_or, All}
+use Rattle.std.proofs.Common.{arith, ◌≡◌, ◌∙◌, sym, ap, refl, ℕ, ◌<◌, Bool, true, false, ◌&&◌, ◌||◌, not, suc, List, [], ◌∷◌, get_or}
 use Rattle.std.specs.Prelude.{codes}
 use Rattle.std.specs.List.{list_all}
 use Rattle.std.specs.Str.{bytes_eq}
 use Rattle.std.specs.Char.{is_ascii_uppercase}
 use Rattle.std.proofs.lemmas.Grind.{common_steps}
 use Rattle.std.proofs.lemmas.Bool.Decides.{nat_tests}
-use Rattle.std.proofs.lemmas.List.Elements.{All-nil, All-cons}
-use Rattle.percent_encoding.proofs.PercentLemmas.{IsByte}
 use Rattle.csp_model.specs.Ascii.{lower}
 use Rattle.csp_model.specs.Grammar.{is_scheme}
 use Rattle.csp_model.specs.Validity.{are_bytes, is_piece, is_lower_scheme}
@@ -29,21 +27,6 @@ unfolding is_piece
 piece_is p dots small is = by (are_bytes p) (bytes_eq p (codes ".")) (bytes_eq p (codes "..")) (bytes_are p small) is where
   by : (a b d : Bool) → a ≡ true → dots ≡ (b || d) → not dots ≡ (a && not b && not d)
   by a b d k e = rw (k, e) (turned b d)
-
--- a piece's bytes
-pub piece_bytes : (p : List ℕ) → is_piece p ≡ true → are_bytes p ≡ true
-unfolding is_piece
-piece_bytes p h = first (are_bytes p) (not (bytes_eq p (codes "."))) (first (are_bytes p && not (bytes_eq p (codes "."))) (not (bytes_eq p (codes ".."))) h) where
-  first : (a b : Bool) → (a && b) ≡ true → a ≡ true
-  first true b k = refl
-  first false b k = cc
-
-pub All-IsByte : (p : List ℕ) → are_bytes p ≡ true → All IsByte p
-All-IsByte [] h = All-nil IsByte
-All-IsByte (b ∷ p) h =
-    let first : b < 256 = grind (arith, nat_tests, h) in
-    let rest : are_bytes p ≡ true = grind (arith, nat_tests, h) in
-    All-cons IsByte b p first (All-IsByte p rest)
 
 lower_same : (text : List ℕ) → list_all (λ b. not (is_ascii_uppercase b)) text ≡ bytes_eq (lower text) text
 lower_same [] = refl

@@ -1,30 +1,17 @@
 -- The texts of URLs (URL Standard, section 4.5), and what a report shows of one (Content Security Policy Level 3, section 5.4).
-use Rattle.std.specs.Prelude.{◌≡◌, ⊤, ℕ, ◌||◌, Bool, List, [], ◌∷◌, ◌++◌, Option, Some, None, codes, decimal, option_map, if◌then◌else◌}
-use Rattle.std.specs.List.{flat_map}
+use Rattle.std.specs.Prelude.{◌≡◌, ⊤, ℕ, ◌||◌, Bool, List, [], ◌++◌, Option, Some, None, codes, decimal, option_map, if◌then◌else◌}
 use Rattle.std.specs.Str.{bytes_eq}
-use Rattle.percent_encoding.specs.Percent.{percent_encode}
 use Rattle.url.specs.Parser.{parse_url}
 use Rattle.url.specs.Parts.{Parts, serialize}
+use Rattle.csp_model.specs.Paths.{host_text, path_text}
 use Rattle.csp_model.specs.Schemes.{scheme_text}
-use Rattle.csp_model.specs.declared.url.Host.{Host}
-use Rattle.csp_model.specs.declared.url.Host.TheVariants as host
 use Rattle.csp_model.specs.declared.url.Url.{Url}
 use Rattle.csp_model.specs.declared.url.Url.TheVariants as url
 use Rattle.csp_url.specs.Reading.{path_of, from_parsed, url_from}
-use Rattle.csp_url.specs.declared.TheConstants.{ESCAPED}
-
-abbrev pub host_text : Host → List ℕ
-host_text (host.Domain text) = text
-host_text (host.Address text) = text
 
 abbrev pub port_text : Option ℕ → List ℕ
 port_text None = []
 port_text (Some n) = codes ":" ++ decimal n
-
--- "/" and the piece for each piece, in which every byte but letters, digits, "-", ".", "_" and "~" is "%" and two
--- upper-case hexadecimal digits
-abbrev pub path_text : List (List ℕ) → List ℕ
-path_text pieces = flat_map (λ piece. 47 ∷ percent_encode ESCAPED piece) pieces
 
 abbrev pub url_text : Url → List ℕ
 url_text (url.Plain scheme) = scheme ++ codes ":"

@@ -1,8 +1,6 @@
 //! URLs and origins: reads them, makes them of parts, and writes them (URL Standard).
 #![tactic(auto)]
 
-use percent_encoding::{AsciiSet, NON_ALPHANUMERIC, ascii_set};
-
 mod address;
 mod digits;
 mod domain;
@@ -24,13 +22,3 @@ pub use parts::url_from_parts;
 pub use read::read_url;
 pub use strip::strip_url;
 pub use text::{path_reads_back, url_text};
-
-/// What a piece of a path is written with escapes for: every byte but letters, digits, `-`, `.`, `_` and `~`, the
-/// unreserved characters of RFC 3986, section 2.3.
-pub const ESCAPED: AsciiSet = ascii_set!(
-    NON_ALPHANUMERIC
-        .remove(b'-')
-        .remove(b'.')
-        .remove(b'_')
-        .remove(b'~')
-);

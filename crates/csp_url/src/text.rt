@@ -1,18 +1,17 @@
 //! Writes URLs.
 ghost use Rattle.std.specs.Prelude.{◌≡◌, ◌++◌, ℕ, List, Option, Some, IfOk, OnOk, string_bytes};
+ghost use Rattle.csp_model.specs.Paths.{host_text};
 ghost use Rattle.csp_model.specs.Validity.{IsValidUrl};
 ghost use Rattle.csp_model.specs.declared.url.Url.TheVariants.{Hosted};
 ghost use Rattle.csp_url.specs.Reading.{path_of};
 ghost use Rattle.csp_url.specs.Texts as spec;
 
-use crate::ESCAPED;
-use csp_model::{Bytes, Host, Memory, Scheme, Text, Url};
+use csp_model::{Host, Memory, Scheme, Text, Url, push_path};
 use itoa::Buffer;
-use percent_encoding::percent_encode;
 use std::alloc::Global;
 
 fn host_str(host: &Host) -> &str
-    ensures { result.now ≡ spec.host_text host.now }
+    ensures { result.now ≡ host_text host.now }
 {
     match host {
         Host::Domain(text) => text.as_str(),
@@ -26,16 +25,6 @@ fn push_port(text: &mut String, port: Option<u16>) -> Result<(), Memory>
     if let Some(number) = port {
         text.push(':')?;
         text.push_str(Buffer::new().format(number))?;
-    }
-    Ok(())
-}
-
-fn push_path(text: &mut String, pieces: &[Bytes]) -> Result<(), Memory>
-    ensures { OnOk result (string_bytes text.new ≡ string_bytes text.old ++ spec.path_text pieces.now) }
-{
-    for piece in pieces {
-        text.push('/')?;
-        percent_encode(piece.as_slice(), ESCAPED).append_to(text)?;
     }
     Ok(())
 }

@@ -16,7 +16,7 @@ one_more room tokens ws rest w h is =
 
 pub loop-rest-preserved : goal.loop-rest-preserved
 loop-rest-preserved c =
-    let pushed = c.in_ok-push.ensures.ok ∙ ap (λ t. c.loop-rest.tokens ++ t ∷ []) c.in_ok-ascii_text.ensures in
+    let pushed = c.in_ok-push.ensures.ok ∙ ap (λ t. c.loop-rest.tokens ++ t ∷ []) c.in_ok-from_ascii.ensures in
     let below : length c.loop-rest.tokens < c.args.room = omega (arith, c.loop-rest-test.true, c.len.ensures) in
     record {
       tokens = rw pushed (one_more c.args.room c.loop-rest.tokens (words c.loop-rest.rest.now) (words c.in-Some.after.now) c.in-Some.token.now below c.in-Some.ensures.word

@@ -1,7 +1,7 @@
 use Rattle.std.proofs.Common.{sym, subst}
 use Rattle.std.specs.Str.{IsUtf8}
-use Rattle.csp_source.proofs.AsciiLaws.{IsUtf8-lower}
-use Rattle.csp_source.proofs.texts.lower_text.Goals as goal
+use Rattle.csp_model.proofs.AsciiLaws.{IsUtf8-lower}
+use Rattle.csp_model.proofs.text.Text.from_ascii_lowercase.Goals as goal
 
 pub unreachable-requires : goal.unreachable-requires
 unreachable-requires c =
