@@ -1,0 +1,17 @@
+pub mod Holding
+pub mod Own
+pub mod Refutes
+pub mod Sound
+pub mod SoundAnswers
+pub mod SoundNesting
+pub mod SpelledDigests
+pub mod SpelledHosts
+pub mod SpelledPaths
+pub mod SpelledWords
+pub mod Spelling
+pub mod TableTests
+pub mod VocabularyDistinct
+pub mod VocabularyHashes
+pub mod VocabularySeen
+pub mod VocabularySoFar
+pub mod VocabularySources
