@@ -4,6 +4,7 @@
 mod check;
 mod copies;
 mod ends;
+mod grammar;
 pub mod laws;
 mod list;
 mod memory;
@@ -18,13 +19,14 @@ mod verdict;
 pub use check::{Capability, Check, Digest, Digests, Group, InlineKind};
 pub use copies::Duplicate;
 pub use ends::{begins_with, goes_beyond, is_subdomain};
+pub use grammar::{are_digits, is_scheme, is_scheme_char, number};
 pub use list::List;
 pub use memory::Memory;
 pub use name::{Name, name_text};
-pub use path::{ESCAPED, push_path};
+pub use path::{ESCAPED, pieces_of, push_path};
 pub use policy::{Directive, Disposition, Policy, PolicyList};
 pub use source::{Algorithm, Hash, HostPart, Keyword, PathPart, PortPart, Source};
-pub use text::{Bytes, Text};
+pub use text::{Bytes, Text, is_ascii_text};
 pub use url::{Host, Origin, Scheme, Url};
 pub use verdict::{Described, Item, Verdict, Violation};
 

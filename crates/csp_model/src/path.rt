@@ -1,10 +1,14 @@
-//! Writes the pieces of a path.
-ghost use Rattle.std.specs.Prelude.{◌≡◌, ◌++◌, OnOk, string_bytes};
+//! Reads and writes the pieces of a path.
+ghost use Rattle.std.specs.Prelude.{◌≡◌, ◌++◌, IfOk, OnOk, string_bytes};
+ghost use Rattle.percent_encoding.specs.Percent.{percent_decode};
+ghost use Rattle.csp_model.specs.Grammar.{pieces_of};
 ghost use Rattle.csp_model.specs.Paths.{path_text};
 
+use crate::list::List;
 use crate::memory::Memory;
 use crate::text::Bytes;
-use percent_encoding::{AsciiSet, NON_ALPHANUMERIC, ascii_set, percent_encode};
+use percent_encoding::{AsciiSet, NON_ALPHANUMERIC, ascii_set, percent_decode, percent_encode};
+use std::alloc::Global;
 
 /// What a piece of a path is written with escapes for: every byte but letters, digits, `-`, `.`, `_` and `~`, the
 /// unreserved characters of RFC 3986, section 2.3.
@@ -26,4 +30,24 @@ pub fn push_path(text: &mut String, pieces: &[Bytes]) -> Result<(), Memory>
         percent_encode(piece.as_slice(), ESCAPED).append_to(text)?;
     }
     Ok(())
+}
+
+fn decoded(alloc: Global, piece: &[u8]) -> Result<Bytes, Memory>
+    ensures { IfOk result (λ made. made ≡ percent_decode piece.now) }
+{
+    let mut bytes = Vec::new(alloc);
+    percent_decode(piece).append_to(&mut bytes)?;
+    Ok(Bytes::from_vec(bytes))
+}
+
+/// The pieces of a path whose text behind its first `/` is this, which stand between slashes. In a piece `%` and two
+/// hexadecimal digits are read as the byte that they spell (RFC 3986, section 2.1). The empty text is one empty piece.
+pub fn pieces_of(alloc: Global, text: &[u8]) -> Result<List<Bytes>, Memory>
+    ensures { IfOk result (λ made. made ≡ pieces_of text.now) }
+{
+    let mut pieces = List::new(alloc);
+    for piece in text.split(|b| *b == b'/') {
+        pieces.push(decoded(alloc, piece)?)?;
+    }
+    Ok(pieces)
 }

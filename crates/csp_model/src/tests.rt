@@ -2,8 +2,9 @@
 use crate::{
     Algorithm, Bytes, Capability, Check, Digests, Directive, Disposition, Duplicate, Group, Hash,
     Host, HostPart, InlineKind, Keyword, List, Memory, Name, Origin, PathPart, Policy, PolicyList,
-    PortPart, Scheme, Source, Text, Url, Violation, begins_with, goes_beyond, is_subdomain,
-    name_text, push_path,
+    PortPart, Scheme, Source, Text, Url, Violation, are_digits, begins_with, goes_beyond,
+    is_ascii_text, is_scheme, is_scheme_char, is_subdomain, name_text, number, pieces_of,
+    push_path,
 };
 use std::alloc::Global;
 use std::cmp::Ordering;
@@ -125,6 +126,21 @@ fn texts_of_paths(rt: HostRuntime) -> Result<(), Fail> {
     let mut text = String::from_str(alloc, "x")?;
     push_path(&mut text, pieces.as_slice())?;
     assert_eq!(rt; text.as_str(), "x/a%2F~/%FF");
+    assert!(rt; pieces_of(alloc, b"a%2f~/%FF")? == pieces);
+    Ok(())
+}
+
+#[test]
+fn parts_of_the_grammar(rt: HostRuntime) -> Result<(), Fail> {
+    let alloc = rt.alloc();
+    assert!(rt; is_scheme_char(b'+') && !is_scheme_char(b':'));
+    assert!(rt; is_scheme(b"Web+a1") && !is_scheme(b"1a"));
+    assert!(rt; are_digits(b"080") && !are_digits(b""));
+    assert_eq!(rt; number(b"080"), 80);
+    assert_eq!(rt; number(b"65537"), 65536);
+    assert!(rt; is_ascii_text(b"A~") && !is_ascii_text("é".as_bytes()));
+    let host = Host::Address(Text::new(alloc, "[::1]")?);
+    assert_eq!(rt; host.as_str(), "[::1]");
     Ok(())
 }
 

@@ -82,6 +82,13 @@ impl Text {
     }
 }
 
+/// Whether each byte is below 128, as in a text of ASCII (Infra Standard, section 4.6).
+pub fn is_ascii_text(text: &[u8]) -> bool
+    ensures { result ≡ is_ascii_text text.now }
+{
+    text.iter().all(|b| *b < 128)
+}
+
 fn lower_bytes(alloc: Global, ascii: &[u8]) -> Result<Vec<u8>, AllocError>
     ensures { IfOk result (λ made. made.items ≡ lower ascii.now) }
 {

@@ -1,5 +1,6 @@
 //! URLs and origins, as far as a policy looks at them (URL Standard, sections 4.1 and 4.7).
 ghost use Rattle.std.specs.Prelude.{◌≡◌};
+ghost use Rattle.csp_model.specs.Paths.{host_text};
 ghost use Rattle.csp_model.specs.Schemes as schemes;
 
 use crate::list::List;
@@ -62,6 +63,17 @@ pub enum Host {
     Domain(Text),
     /// An address: `10.0.0.1`, or `[::1]` with its brackets.
     Address(Text),
+}
+
+impl Host {
+    /// The host as the URL Standard prints it, an address of version 6 with its brackets.
+    pub fn as_str(&self) -> &str
+        ensures { result.now ≡ host_text self.now }
+    {
+        match self {
+            Host::Domain(text) | Host::Address(text) => text.as_str(),
+        }
+    }
 }
 
 /// Where a policy comes from (HTML Standard, section 7.1.1).

@@ -6,9 +6,8 @@ ghost use Rattle.csp_model.specs.Reading.{source_of};
 ghost use Rattle.csp_policy.specs.Reading.{directive_with, shortened, kept_of, AreShortened};
 
 use crate::names::CaselessName;
-use crate::texts::is_ascii_text;
 use crate::words::next_word;
-use csp_model::{Directive, List, Memory, Source, Text};
+use csp_model::{Directive, List, Memory, Source, Text, is_ascii_text};
 use csp_source::read_source;
 use std::alloc::Global;
 use std::collections::BTreeSet;

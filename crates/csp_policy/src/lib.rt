@@ -11,7 +11,6 @@ mod policy;
 mod print;
 #[cfg(test)]
 mod tests;
-mod texts;
 mod words;
 
 pub use block::read_block;

@@ -1,13 +1,9 @@
 //! The words of a command.
-ghost use Rattle.std.specs.Prelude.{◌≡◌, ◌≤◌, ◌∷◌, [], IsTrue, IfOk, None, Some, Option, MatchOption, length, min};
-ghost use Rattle.std.specs.List.{list_all};
-ghost use Rattle.std.specs.Char.{is_ascii_digit, is_ascii_lowercase};
-ghost use Rattle.csp_model.specs.Grammar.{number, are_digits};
+ghost use Rattle.std.specs.Prelude.{◌≡◌, ◌∷◌, [], None, Some, Option, MatchOption};
 ghost use Rattle.csp_run.specs.Commands as commands;
 ghost use Rattle.csp_run.specs.Shown.{shown};
 
-use csp_model::{Host, Memory, Origin, Scheme, Text};
-use std::alloc::Global;
+use csp_model::{Text, are_digits, number};
 
 /// A command, and its words.
 #[derive(Clone, Copy)]
@@ -68,30 +64,6 @@ fn with_two_files<'a>(
         "report" | "compare" => Some(Command::Unbuilt),
         _ => None,
     }
-}
-
-// The number that digits spell, or 65536 where it is greater.
-fn number(digits: &[u8]) -> u32
-    requires { IsTrue (list_all is_ascii_digit digits.now) }
-    ensures { result ≡ min (number digits.now) 65536 }
-{
-    let mut n = 0;
-    for digit in digits {
-        n = (10 * n + (*digit - b'0') as u32).min(65536);
-    }
-    n
-}
-
-fn are_digits(text: &[u8]) -> bool
-    ensures { result ≡ are_digits text.now }
-{
-    !text.is_empty() && all_digits(text)
-}
-
-fn all_digits(text: &[u8]) -> bool
-    ensures { result ≡ list_all is_ascii_digit text.now }
-{
-    text.iter().all(|b| b.is_ascii_digit())
 }
 
 #[tactic(auto, unfolding(crate::specs::Commands::is_drill_number))]

@@ -6,8 +6,8 @@ ghost use Rattle.csp_model.specs.Reading.{front, back, is_no_slash, authority, h
 use crate::host::{host_len, host_of};
 use crate::path::{is_path, path_of};
 use crate::port::port_of;
-use crate::scheme::{is_scheme, scheme_len};
-use csp_model::{Memory, Source, Text};
+use crate::scheme::scheme_len;
+use csp_model::{Memory, Source, Text, is_scheme};
 use std::alloc::Global;
 
 #[tactic(auto, unfolding(csp_model::specs::Reading::is_no_slash))]

@@ -1,12 +1,10 @@
 //! The path of a host-source.
 ghost use Rattle.std.specs.Prelude.{◌≡◌, Some, IfOk, IsTrue, is_some};
 ghost use Rattle.std.specs.List.{list_all};
-ghost use Rattle.percent_encoding.specs.Percent.{percent_decode};
 ghost use Rattle.csp_model.specs.Ascii.{split_at};
-ghost use Rattle.csp_model.specs.Grammar.{is_path_char, begins_hex_pair, is_segment, are_segments, pieces_of, path_of};
+ghost use Rattle.csp_model.specs.Grammar.{is_path_char, begins_hex_pair, is_segment, are_segments, path_of};
 
-use csp_model::{Bytes, List, Memory, PathPart};
-use percent_encoding::percent_decode;
+use csp_model::{List, Memory, PathPart, pieces_of};
 use std::alloc::Global;
 
 #[tactic(auto, unfolding(csp_model::specs::Grammar::is_path_char))]
@@ -70,24 +68,6 @@ pub(crate) fn is_path(text: &[u8]) -> bool
         Some((b'/', rest)) => are_segments(rest),
         Some(_) => false,
     }
-}
-
-fn decoded(alloc: Global, piece: &[u8]) -> Result<Bytes, Memory>
-    ensures { IfOk result (λ made. made ≡ percent_decode piece.now) }
-{
-    let mut bytes = Vec::new(alloc);
-    percent_decode(piece).append_to(&mut bytes)?;
-    Ok(Bytes::from_vec(bytes))
-}
-
-fn pieces_of(alloc: Global, text: &[u8]) -> Result<List<Bytes>, Memory>
-    ensures { IfOk result (λ made. made ≡ pieces_of text.now) }
-{
-    let mut pieces = List::new(alloc);
-    for piece in text.split(|b| *b == b'/') {
-        pieces.push(decoded(alloc, piece)?)?;
-    }
-    Ok(pieces)
 }
 
 /// The path that the text is. The empty piece behind a last slash is left out.

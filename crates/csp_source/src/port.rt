@@ -1,34 +1,8 @@
 //! The port of a host-source.
-ghost use Rattle.std.specs.Prelude.{◌≡◌, min, IsTrue};
-ghost use Rattle.std.specs.List.{list_all};
-ghost use Rattle.std.specs.Char.{is_ascii_digit};
+ghost use Rattle.std.specs.Prelude.{◌≡◌, IsTrue};
 ghost use Rattle.csp_model.specs.Grammar.{are_digits, number, port_numbered, port_of};
 
-use csp_model::PortPart;
-
-fn all_digits(text: &[u8]) -> bool
-    ensures { result ≡ list_all is_ascii_digit text.now }
-{
-    text.iter().all(|b| b.is_ascii_digit())
-}
-
-fn are_digits(text: &[u8]) -> bool
-    ensures { result ≡ are_digits text.now }
-{
-    !text.is_empty() && all_digits(text)
-}
-
-/// The number that digits spell, or 65,536 where it is greater.
-fn number(digits: &[u8]) -> u32
-    requires { IsTrue (list_all is_ascii_digit digits.now) }
-    ensures { result ≡ min (number digits.now) 65536 }
-{
-    let mut n: u32 = 0;
-    for digit in digits {
-        n = (10 * n + (digit.saturating_sub(b'0') as u32)).min(65536);
-    }
-    n
-}
+use csp_model::{PortPart, are_digits, number};
 
 fn port_numbered(digits: &[u8]) -> PortPart
     requires { IsTrue (are_digits digits.now) }

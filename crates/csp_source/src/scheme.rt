@@ -1,34 +1,11 @@
 //! Schemes, and sources that are a scheme alone.
 ghost use Rattle.std.specs.Prelude.{◌≡◌, ◌≤◌, length, take, drop, IfOk, IsTrue};
-ghost use Rattle.std.specs.List.{list_all};
 ghost use Rattle.csp_model.specs.Ascii.{is_ascii_text};
-ghost use Rattle.csp_model.specs.Grammar.{is_scheme_char, is_scheme};
+ghost use Rattle.csp_model.specs.Grammar.{is_scheme_char};
 ghost use Rattle.csp_model.specs.Reading.{front, back, scheme_source};
 
-use csp_model::{Memory, Source, Text};
+use csp_model::{Memory, Source, Text, is_scheme, is_scheme_char};
 use std::alloc::Global;
-
-#[tactic(auto, unfolding(csp_model::specs::Grammar::is_scheme_char))]
-fn is_scheme_char(b: u8) -> bool
-    ensures { result ≡ is_scheme_char b }
-{
-    b.is_ascii_alphanumeric() || b == b'+' || b == b'-' || b == b'.'
-}
-
-fn all_scheme_chars(text: &[u8]) -> bool
-    ensures { result ≡ list_all is_scheme_char text.now }
-{
-    text.iter().all(|b| is_scheme_char(*b))
-}
-
-pub(crate) fn is_scheme(text: &[u8]) -> bool
-    ensures { result ≡ is_scheme text.now }
-{
-    match text.split_first() {
-        None => false,
-        Some((first, rest)) => first.is_ascii_alphabetic() && all_scheme_chars(rest),
-    }
-}
 
 /// How many bytes of a scheme the text begins with.
 pub(crate) fn scheme_len(text: &[u8]) -> usize

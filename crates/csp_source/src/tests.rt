@@ -1,31 +1,23 @@
-ghost use Rattle.std.specs.Prelude.{◌≡◌};
-ghost use Rattle.csp_model.specs.Ascii.{is_ascii_text};
-
 use crate::{each_token_has_one_source, read_source, source_text};
 use csp_model::{
     Algorithm, Bytes, Hash, HostPart, Keyword, List, Memory, PathPart, PortPart, Source, Text,
+    is_ascii_text,
 };
 use std::alloc::Global;
 use std::process::Abort;
 use std::test::Fail;
 
-fn is_ascii(text: &[u8]) -> bool
-    ensures { result ≡ is_ascii_text text.now }
-{
-    text.iter().all(|b| *b < 128)
-}
-
 // The source of a token, which has to be ASCII.
 fn read(alloc: Global, rt: &impl Abort, token: &str) -> Result<Source, Memory> {
     let bytes = token.as_bytes();
-    assert!(rt; is_ascii(bytes), "{token}");
+    assert!(rt; is_ascii_text(bytes), "{token}");
     read_source(alloc, bytes)
 }
 
 // The text of a token's source.
 fn spelt(alloc: Global, rt: &impl Abort, token: &str) -> Result<Text, Memory> {
     let bytes = token.as_bytes();
-    assert!(rt; is_ascii(bytes), "{token}");
+    assert!(rt; is_ascii_text(bytes), "{token}");
     let source = read_source(alloc, bytes)?;
     source_text(alloc, &source)
 }

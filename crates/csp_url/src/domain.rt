@@ -5,7 +5,7 @@ ghost use Rattle.std.specs.Char.{is_ascii_hexdigit};
 ghost use Rattle.csp_model.specs.Ascii.{without_final, split_at};
 ghost use Rattle.csp_model.specs.Validity as validity;
 
-use crate::digits::are_digits;
+use csp_model::are_digits;
 
 #[tactic(auto, unfolding(csp_model::specs::Validity::is_domain_byte))]
 fn is_domain_byte(b: u8) -> bool

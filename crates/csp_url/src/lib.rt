@@ -2,7 +2,6 @@
 #![tactic(auto)]
 
 mod address;
-mod digits;
 mod domain;
 mod error;
 mod host;

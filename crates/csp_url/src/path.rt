@@ -2,32 +2,11 @@
 ghost use Rattle.std.specs.Prelude.{◌≡◌, ◌||◌, codes, IfOk};
 ghost use Rattle.std.specs.List.{list_all};
 ghost use Rattle.std.specs.Str.{bytes_eq};
-ghost use Rattle.percent_encoding.specs.Percent.{percent_decode};
-ghost use Rattle.csp_model.specs.Grammar.{pieces_of};
 ghost use Rattle.csp_model.specs.Validity as validity;
 ghost use Rattle.csp_url.specs.Reading.{path_of};
 
-use csp_model::{Bytes, List, Memory};
-use percent_encoding::percent_decode;
+use csp_model::{Bytes, List, Memory, pieces_of};
 use std::alloc::Global;
-
-fn decoded(alloc: Global, piece: &[u8]) -> Result<Bytes, Memory>
-    ensures { IfOk result (λ made. made ≡ percent_decode piece.now) }
-{
-    let mut bytes = Vec::new(alloc);
-    percent_decode(piece).append_to(&mut bytes)?;
-    Ok(Bytes::from_vec(bytes))
-}
-
-fn pieces_of(alloc: Global, text: &[u8]) -> Result<List<Bytes>, Memory>
-    ensures { IfOk result (λ made. made ≡ pieces_of text.now) }
-{
-    let mut pieces = List::new(alloc);
-    for piece in text.split(|b| *b == b'/') {
-        pieces.push(decoded(alloc, piece)?)?;
-    }
-    Ok(pieces)
-}
 
 fn is_dots(piece: &[u8]) -> bool
     ensures { result ≡ (bytes_eq piece.now (codes ".") || bytes_eq piece.now (codes "..")) }

@@ -2,30 +2,9 @@
 ghost use Rattle.std.specs.Prelude.{◌≡◌, not};
 ghost use Rattle.std.specs.List.{list_all};
 ghost use Rattle.std.specs.Char.{is_ascii_uppercase};
-ghost use Rattle.csp_model.specs.Grammar as grammar;
 ghost use Rattle.csp_model.specs.Validity as validity;
 
-#[tactic(auto, unfolding(csp_model::specs::Grammar::is_scheme_char))]
-fn is_scheme_char(b: u8) -> bool
-    ensures { result ≡ grammar.is_scheme_char b }
-{
-    b.is_ascii_alphanumeric() || b == b'+' || b == b'-' || b == b'.'
-}
-
-fn all_scheme_chars(text: &[u8]) -> bool
-    ensures { result ≡ list_all grammar.is_scheme_char text.now }
-{
-    text.iter().all(|b| is_scheme_char(*b))
-}
-
-fn is_scheme(text: &[u8]) -> bool
-    ensures { result ≡ grammar.is_scheme text.now }
-{
-    match text.split_first() {
-        None => false,
-        Some((first, rest)) => first.is_ascii_alphabetic() && all_scheme_chars(rest),
-    }
-}
+use csp_model::is_scheme;
 
 fn has_no_upper_case(text: &[u8]) -> bool
     ensures { result ≡ list_all (λ b. not (is_ascii_uppercase b)) text.now }

@@ -1,23 +1,13 @@
 //! Writes URLs.
 ghost use Rattle.std.specs.Prelude.{◌≡◌, ◌++◌, ℕ, List, Option, Some, IfOk, OnOk, string_bytes};
-ghost use Rattle.csp_model.specs.Paths.{host_text};
 ghost use Rattle.csp_model.specs.Validity.{IsValidUrl};
 ghost use Rattle.csp_model.specs.declared.url.Url.TheVariants.{Hosted};
 ghost use Rattle.csp_url.specs.Reading.{path_of};
 ghost use Rattle.csp_url.specs.Texts as spec;
 
-use csp_model::{Host, Memory, Scheme, Text, Url, push_path};
+use csp_model::{Memory, Scheme, Text, Url, push_path};
 use itoa::Buffer;
 use std::alloc::Global;
-
-fn host_str(host: &Host) -> &str
-    ensures { result.now ≡ host_text host.now }
-{
-    match host {
-        Host::Domain(text) => text.as_str(),
-        Host::Address(text) => text.as_str(),
-    }
-}
 
 fn push_port(text: &mut String, port: Option<u16>) -> Result<(), Memory>
     ensures { OnOk result (string_bytes text.new ≡ string_bytes text.old ++ spec.port_text port) }
@@ -45,7 +35,7 @@ fn push_url(text: &mut String, url: &Url) -> Result<(), Memory>
         } => {
             text.push_str(scheme.as_str())?;
             text.push_str("://")?;
-            text.push_str(host_str(host))?;
+            text.push_str(host.as_str())?;
             push_port(text, *port)?;
             push_path(text, path.as_slice())?;
         }

@@ -1,6 +1,6 @@
 use Rattle.std.proofs.Common.{◌≡◌, map}
 use Rattle.percent_encoding.specs.Percent.{percent_decode}
-use Rattle.csp_url.proofs.path.pieces_of.Given as goal
+use Rattle.csp_model.proofs.path.pieces_of.Given as goal
 
 -- the pieces so far
 abbrev pub invariant-loop-piece : goal.invariant-loop-piece
