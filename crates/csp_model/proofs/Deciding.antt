@@ -1,9 +1,9 @@
 -- Tests that decide relations, made of the tests of their parts.
-use Rattle.std.proofs.Common.{◌≡◌, ◌≢◌, ℕ, Bool, true, false, not, ◌&&◌, ◌||◌, ◌==◌, List, [], ◌∷◌, length, slice_index_or, Option, Some, None, Any, All, Contains, refl, sym, ap, ◌∙◌, inl, inr, ◌⊎◌, subst, is_none, arith}
+use Rattle.std.proofs.Common.{◌≡◌, ◌≢◌, Bool, true, false, not, ◌&&◌, ◌||◌, List, [], ◌∷◌, length, slice_index_or, Option, Some, None, Any, All, Contains, refl, sym, ◌∙◌, inl, inr, ◌⊎◌, subst, is_none, arith}
 use Rattle.std.specs.Bool.{Decides}
 use Rattle.std.specs.List.{list_any, list_all}
 use Rattle.std.proofs.lemmas.Bool.{false≢true, lt-ltb}
-use Rattle.std.proofs.lemmas.Bool.Decides.{Decides-and, Decides-or, Decides-like, Decides-by_and, Decides-eqb}
+use Rattle.std.proofs.lemmas.Bool.Decides.{Decides-and, Decides-or, Decides-like, Decides-by_and}
 use Rattle.csp_model.specs.Ascii.{is_nonempty}
 use Rattle.csp_model.proofs.AnyCases.{Any-none, Any-here, Any-later, first_or_later}
 
@@ -20,6 +20,10 @@ holds decided e = decided.0 e
 pub fails : {P : Type 0} {b : Bool} → Decides b P → b ≡ false → ¬ P
 fails {b = b} decided e p = false≢true (sym e ∙ decided.1 p)
 
+pub implies_decides : {P Q : Type 0} (x y : Bool) → Decides x P → Decides y Q → Decides (not x || y) (P → Q)
+implies_decides true y p q = Decides-like y (λ h _. h) (λ f. f (p.0 refl)) q
+implies_decides false y p q = yes (λ h. absurd (false≢true (p.1 h)))
+
 pub itself : (b : Bool) → Decides b (b ≡ true)
 itself b = (λ h. h, λ h. h)
 
@@ -27,11 +31,13 @@ pub is_false : (b : Bool) → Decides (not b) (b ≡ false)
 is_false true = no (λ h. false≢true (sym h))
 is_false false = yes refl
 
-pub both3 : {P Q R : Type 0} (x y z : Bool) → Decides x P → Decides y Q → Decides z R → Decides (x && (y && z)) (P × Q × R)
+pub both3 : {P Q R : Type 0} (x y z : Bool) → Decides x P → Decides y Q → Decides z R
+    → Decides (x && (y && z)) (P × Q × R)
 both3 {P} {Q} {R} x y z p q r =
     Decides-like (x && (y && z)) (λ (a, b). (a, b.0, b.1)) (λ (a, b, c). (a, (b, c))) (Decides-and x (y && z) p (Decides-and y z q r))
 
-pub both4 : {P Q R S : Type 0} (x y z w : Bool) → Decides x P → Decides y Q → Decides z R → Decides w S → Decides (x && (y && (z && w))) (P × Q × R × S)
+pub both4 : {P Q R S : Type 0} (x y z w : Bool) → Decides x P → Decides y Q → Decides z R → Decides w S
+    → Decides (x && (y && (z && w))) (P × Q × R × S)
 both4 x y z w p q r s =
     Decides-like (x && (y && (z && w))) (λ (a, b). (a, b.0, b.1, b.2)) (λ (a, b, c, d). (a, (b, c, d))) (Decides-and x (y && (z && w)) p (both3 y z w q r s))
 
@@ -53,11 +59,6 @@ module _ {X : Type 0} where
       (λ (h : Contains xs x). (h.0, x, h.1, h.2, refl))
       (any_decides p (λ y. y ≡ x) each xs)
 
-  -- items with numbers of their own
-  pub coded : (code : X → ℕ) (item : ℕ → X) → ((x : X) → item (code x) ≡ x) → (x y : X) → Decides (code x == code y) (x ≡ y)
-  coded code item back x y =
-      Decides-like (code x == code y) (λ h. sym (back x) ∙ ap item h ∙ back y) (ap code) (Decides-eqb (code x) (code y))
-
   pub nonempty_decides : (xs : List X) → Decides (is_nonempty xs) (xs ≢ [])
   nonempty_decides [] = no (λ h. h refl)
   nonempty_decides (x ∷ xs) = (λ _ (h : x ∷ xs ≡ []). cc, λ _. lt-ltb 0 (length (x ∷ xs)) (omega arith))
@@ -66,16 +67,8 @@ module _ {X : Type 0} where
   none_decides None = yes refl
   none_decides (Some x) = no (λ (h : Some x ≡ None). cc)
 
-  abbrev pub lists_eq : (X → X → Bool) → List X → List X → Bool
-  lists_eq same [] [] = true
-  lists_eq same (x ∷ xs) (y ∷ ys) = same x y && lists_eq same xs ys
-  lists_eq same xs ys = false
-
-  pub lists_decides : (same : X → X → Bool) → ((x y : X) → Decides (same x y) (x ≡ y)) → (xs ys : List X) → Decides (lists_eq same xs ys) (xs ≡ ys)
-  lists_decides same each [] [] = yes refl
-  lists_decides same each [] (y ∷ ys) = no (λ (h : [] ≡ y ∷ ys). cc)
-  lists_decides same each (x ∷ xs) [] = no (λ (h : x ∷ xs ≡ []). cc)
-  lists_decides same each (x ∷ xs) (y ∷ ys) =
-      Decides-like (same x y && lists_eq same xs ys) (λ ((e, f) : (x ≡ y) × (xs ≡ ys)). cc)
-      (λ (h : x ∷ xs ≡ y ∷ ys). let e : x ≡ y = cc in let f : xs ≡ ys = cc in (e, f))
-      (Decides-and (same x y) (lists_eq same xs ys) (each x y) (lists_decides same each xs ys))
+-- two tests that follow from each other are one
+pub same_bool : (a b : Bool) → (a ≡ true → b ≡ true) → (b ≡ true → a ≡ true) → a ≡ b
+same_bool true b ab ba = sym (ab refl)
+same_bool false true ab ba = ba refl
+same_bool false false ab ba = refl

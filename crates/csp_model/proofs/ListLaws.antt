@@ -1,70 +1,66 @@
 -- What is allowed by lists of policies that are made of others.
-use Rattle.std.proofs.Common.{◌≡◌, Bool, true, false, List, [], ◌∷◌, ◌++◌, All, refl, sym, ap, ◌∙◌, ◌↔◌, IsTrue, IsFalse, IsPermutation}
-use Rattle.std.proofs.lemmas.Bool.{false≢true}
-use Rattle.std.proofs.lemmas.List.Elements.{All-cons, All-head, All-tail, All-append, All-nil}
+use Rattle.std.proofs.Common.{◌≡◌, Bool, true, not, ◌&&◌, ◌||◌, List, ◌∷◌, ◌++◌, All, refl, sym, ap, ◌∙◌, IsPermutation, IsTrue, []}
+use Rattle.std.specs.List.{list_all}
+use Rattle.std.proofs.lemmas.List.Folds.{list_all-append}
 use Rattle.std.proofs.lemmas.List.Sorted.{All-permutation, IsPermutation-sym}
+use Rattle.std.proofs.lemmas.Bool.{and_parts}
+use Rattle.std.proofs.lemmas.List.Elements.{All-head, All-tail}
+use Rattle.csp_model.specs.Inclusion.{Subsumes}
+use Rattle.csp_model.specs.Validity.{IsValidCheck}
 use Rattle.csp_model.specs.Laws.{joined, AllowSame}
-use Rattle.csp_model.specs.Verdict.{ListAllows, AllowsAll, IsVerdict}
-use Rattle.csp_model.proofs.Items.{EnforcedAllows, not_blocked, blocked}
+use Rattle.csp_model.specs.Verdict.{allows, is_enforce, list_allows, allows_all}
+use Rattle.csp_model.proofs.Deciding.{all_decides, itself, same_bool}
 use Rattle.csp_model.specs.declared.check.Check.{Check}
 use Rattle.csp_model.specs.declared.policy.Disposition.{Disposition}
-use Rattle.csp_model.specs.declared.policy.Disposition.TheVariants.{Enforce, Report}
+use Rattle.csp_model.specs.declared.policy.Disposition.TheVariants.{Report}
 use Rattle.csp_model.specs.declared.policy.Policy.{Policy}
 use Rattle.csp_model.specs.declared.policy.PolicyList.{PolicyList}
-use Rattle.csp_model.specs.declared.verdict.Verdict.{Verdict}
 
--- Verdicts
+abbrev enforced_allows : Check → Policy → Bool
+enforced_allows asked p = not (is_enforce p.disposition) || allows p asked
 
-pub blocked_where_refused : (list : PolicyList) (checks : List Check) (verdict : Verdict) → IsVerdict list checks verdict
-    → (IsTrue verdict.blocked ↔ (¬ AllowsAll list checks))
-blocked_where_refused list checks verdict is = (
-  λ yes. blocked list checks is.0 is.1 (sym is.3 ∙ yes),
-  λ refused. elim verdict.blocked as (λ b. verdict.blocked ≡ b → IsTrue b) [
-    | true ↦ λ _. refl
-    | false ↦ λ e. absurd (refused (not_blocked list checks is.0 is.1 (sym is.3 ∙ e)))
-  ] refl,
-)
+pub joined_allows : (first second : PolicyList) (asked : Check)
+    → list_allows (joined first second) asked ≡ (list_allows first asked && list_allows second asked)
+joined_allows first second asked = list_all-append (enforced_allows asked) first.policies second.policies
 
-pub free_where_allowed : (list : PolicyList) (checks : List Check) (verdict : Verdict) → IsVerdict list checks verdict
-    → (IsFalse verdict.blocked ↔ AllowsAll list checks)
-free_where_allowed list checks verdict is = (
-  λ no. not_blocked list checks is.0 is.1 (sym is.3 ∙ no),
-  λ allowed. elim verdict.blocked as (λ b. verdict.blocked ≡ b → IsFalse b) [
-    | true ↦ λ e. absurd (blocked list checks is.0 is.1 (sym is.3 ∙ e) allowed)
-    | false ↦ λ _. refl
-  ] refl,
-)
-
--- Lists of policies
-
-All-parts : {X : Type 0} (P : X → Type 0) (xs ys : List X) → All P (xs ++ ys) → All P xs × All P ys
-All-parts P [] ys all = (All-nil P, all)
-All-parts P (x ∷ xs) ys all =
-    let parts = All-parts P xs ys (All-tail P x (xs ++ ys) all) in
-    (All-cons P x xs (All-head P x (xs ++ ys) all) parts.0, parts.1)
-
-pub joined_allows : (first second : PolicyList) (asked : Check) → (ListAllows (joined first second) asked ↔ (ListAllows first asked × ListAllows second asked))
-joined_allows first second asked = (
-  λ all. All-parts (EnforcedAllows asked) first.policies second.policies all,
-  λ both. All-append (EnforcedAllows asked) first.policies second.policies both.0 both.1,
-)
-
-Report≢Enforce : (d : Disposition) → d ≡ Report → d ≡ Enforce → ⊥
-Report≢Enforce d report enforce =
-    let is : Report ≡ Enforce = sym report ∙ enforce in
-    false≢true (ap (λ (e : Disposition). elim e as (λ _. Bool) [ Enforce ↦ true | Report ↦ false ]) is)
+report_allows : (asked : Check) (p : Policy) → p.disposition ≡ Report → enforced_allows asked p ≡ true
+report_allows asked p report = ap (λ (d : Disposition). not (is_enforce d) || allows p asked) report
 
 pub report_forbids_nothing : (front back : List Policy) (p : Policy) → p.disposition ≡ Report
     → AllowSame (record { policies = front ++ p ∷ back }) (record { policies = front ++ back })
 report_forbids_nothing front back p report asked =
-    let P = EnforcedAllows asked in (
-      λ all. let parts = All-parts P front (p ∷ back) all in All-append P front back parts.0 (All-tail P p back parts.1),
-      λ all. let parts = All-parts P front back all in
-          All-append P front (p ∷ back) parts.0 (All-cons P p back (λ enforce. absurd (Report≢Enforce p.disposition report enforce)) parts.1),
-    )
+    let test = enforced_allows asked in
+    list_all-append test front (p ∷ back)
+    ∙ ap (λ (b : Bool). list_all test front && (b && list_all test back)) (report_allows asked p report)
+    ∙ sym (list_all-append test front back)
+
+shuffled_allows : (asked : Check) (ps qs : List Policy) → IsPermutation ps qs
+    → list_all (enforced_allows asked) ps ≡ true → list_all (enforced_allows asked) qs ≡ true
+shuffled_allows asked ps qs shuffled h =
+    let P = λ (p : Policy). enforced_allows asked p ≡ true in
+    let decides = all_decides (enforced_allows asked) P (λ p. itself (enforced_allows asked p)) in
+    (decides qs).1 (All-permutation P ps qs shuffled ((decides ps).0 h))
 
 pub order_is_free : (first second : PolicyList) → IsPermutation first.policies second.policies → AllowSame first second
-order_is_free first second shuffled asked = (
-  λ all. All-permutation (EnforcedAllows asked) first.policies second.policies shuffled all,
-  λ all. All-permutation (EnforcedAllows asked) second.policies first.policies (IsPermutation-sym first.policies second.policies shuffled) all,
-)
+order_is_free first second shuffled asked =
+    same_bool (list_allows first asked) (list_allows second asked)
+    (shuffled_allows asked first.policies second.policies shuffled)
+    (shuffled_allows asked second.policies first.policies (IsPermutation-sym first.policies second.policies shuffled))
+
+-- Requests
+
+and_true : (a b : Bool) → a ≡ true → b ≡ true → (a && b) ≡ true
+and_true a b p q = ap (λ (x : Bool). x && b) p ∙ q
+
+requests_hold : (first second : PolicyList) → Subsumes first second → (checks : List Check) → All IsValidCheck checks
+    → allows_all first checks ≡ true → allows_all second checks ≡ true
+requests_hold first second subsumes [] valid all = refl
+requests_hold first second subsumes (asked ∷ rest) valid all =
+    let parts = and_parts (list_allows first asked) (allows_all first rest) all in
+    and_true (list_allows second asked) (allows_all second rest)
+    (subsumes asked (All-head IsValidCheck asked rest valid) parts.0)
+    (requests_hold first second subsumes rest (All-tail IsValidCheck asked rest valid) parts.1)
+
+pub requests_follow : (first second : PolicyList) → Subsumes first second → (checks : List Check) → All IsValidCheck checks
+    → IsTrue (allows_all first checks) → IsTrue (allows_all second checks)
+requests_follow first second subsumes checks valid all = requests_hold first second subsumes checks valid all

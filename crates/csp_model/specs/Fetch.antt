@@ -1,10 +1,11 @@
 -- When a policy allows a fetch (Content Security Policy Level 3, sections 4.1.2, 6.1 and 6.7.1).
-use Rattle.std.specs.Prelude.{◌≡◌, ◌≢◌, ℕ, Bool, false, not, ◌==◌, List, Some, ◌⊎◌}
+use Rattle.std.specs.Prelude.{◌≡◌, ℕ, Bool, false, not, ◌==◌, List, ◌⊎◌}
 use Rattle.csp_model.specs.Names.{group_directive}
-use Rattle.csp_model.specs.Governing.{governing_name, WhereGoverned}
+use Rattle.csp_model.specs.Governing.{WhereGoverned}
 use Rattle.csp_model.specs.Matching.{ListMatches}
 use Rattle.csp_model.specs.Tokens.{HasKeyword, NonceMatches, IntegrityMatches}
-use Rattle.csp_model.specs.declared.name.Name.TheVariants.{ScriptSrc, WorkerSrc}
+use Rattle.csp_model.specs.declared.name.Name.{Name}
+use Rattle.csp_model.specs.declared.name.Name.TheVariants.{ScriptSrc}
 use Rattle.csp_model.specs.declared.check.Group.{Group}
 use Rattle.csp_model.specs.declared.check.Group.TheVariants as group
 use Rattle.csp_model.specs.declared.source.Hash.{Hash}
@@ -16,31 +17,48 @@ use Rattle.csp_model.specs.declared.url.Url.{Url}
 abbrev pub is_redirected : ℕ → Bool
 is_redirected redirects = not (redirects == 0)
 
+-- how a directive decides on a fetch: as on a script, as on a style, or by its list alone
+pub data Rule : Type 0 where
+  ScriptRule : Rule
+  StyleRule : Rule
+  ListRule : Rule
+
+-- a worker is decided on as a script where script-src governs it
+abbrev pub worker_rule : Name → Rule
+worker_rule ScriptSrc = ScriptRule
+worker_rule governing = ListRule
+
+-- the rule for a fetch that a directive of this name governs
+abbrev pub fetch_rule : Group → Name → Rule
+fetch_rule group.Connect governing = ListRule
+fetch_rule group.Font governing = ListRule
+fetch_rule group.Frame governing = ListRule
+fetch_rule group.Img governing = ListRule
+fetch_rule group.Manifest governing = ListRule
+fetch_rule group.Media governing = ListRule
+fetch_rule group.Object governing = ListRule
+fetch_rule group.StyleElem governing = StyleRule
+fetch_rule group.ScriptElem governing = ScriptRule
+fetch_rule group.Worker governing = worker_rule governing
+
 -- what the list decides, or 'strict-dynamic' in its place
 abbrev pub DynamicOrListed : List Source → Bool → Type 0 → Type 0
 DynamicOrListed sources parser_inserted Listed =
-    (HasKeyword keyword.StrictDynamic sources × (parser_inserted ≡ false)) ⊎ ((¬ HasKeyword keyword.StrictDynamic sources) × Listed)
+    (HasKeyword keyword.StrictDynamic sources × (parser_inserted ≡ false))
+    ⊎ ((¬ HasKeyword keyword.StrictDynamic sources) × Listed)
 
--- the script check (6.7.1.1): a nonce allows, or integrity, or else 'strict-dynamic' or the list decides
-abbrev pub ScriptAllows : List Source → List ℕ → List Hash → Bool → Type 0 → Type 0
-ScriptAllows sources nonce integrity parser_inserted Listed =
-    NonceMatches nonce sources ⊎ (IntegrityMatches integrity sources ⊎ DynamicOrListed sources parser_inserted Listed)
-
--- a worker takes the script check where script-src governs it
-abbrev pub WorkerAllows : Policy → List Source → List ℕ → List Hash → Bool → Type 0 → Type 0
-WorkerAllows policy sources nonce integrity parser_inserted Listed =
-    ((governing_name policy.directives WorkerSrc ≡ Some ScriptSrc) × ScriptAllows sources nonce integrity parser_inserted Listed)
-    ⊎ ((governing_name policy.directives WorkerSrc ≢ Some ScriptSrc) × Listed)
-
--- a governing list allows the fetch, where Listed says that the list matches its URL
-abbrev pub SourcesAllow : Policy → Group → List Source → List ℕ → List Hash → Bool → Type 0 → Type 0
-SourcesAllow policy group.ScriptElem sources nonce integrity parser_inserted Listed = ScriptAllows sources nonce integrity parser_inserted Listed
-SourcesAllow policy group.Worker sources nonce integrity parser_inserted Listed = WorkerAllows policy sources nonce integrity parser_inserted Listed
-SourcesAllow policy group.StyleElem sources nonce integrity parser_inserted Listed = NonceMatches nonce sources ⊎ Listed
-SourcesAllow policy kind sources nonce integrity parser_inserted Listed = Listed
+-- a governing list allows the fetch, where Listed says that the list matches its URL; the script check is 6.7.1.1: a
+-- nonce allows, or integrity, or else 'strict-dynamic' or the list decides
+abbrev pub SourcesAllow : Rule → List Source → List ℕ → List Hash → Bool → Type 0 → Type 0
+SourcesAllow ScriptRule sources nonce integrity parser_inserted Listed =
+    NonceMatches nonce sources
+    ⊎ (IntegrityMatches integrity sources ⊎ DynamicOrListed sources parser_inserted Listed)
+SourcesAllow StyleRule sources nonce integrity parser_inserted Listed = NonceMatches nonce sources ⊎ Listed
+SourcesAllow ListRule sources nonce integrity parser_inserted Listed = Listed
 
 -- the policy allows the fetch
 abbrev pub FetchAllows : Policy → Group → Url → ℕ → List ℕ → List Hash → Bool → Type 0
 FetchAllows policy kind there redirects nonce integrity parser_inserted =
-    WhereGoverned policy (group_directive kind) (λ d. SourcesAllow policy kind d.sources nonce integrity parser_inserted
-    (ListMatches d.sources policy.origin there (is_redirected redirects)))
+    WhereGoverned policy (group_directive kind) (λ g.
+    SourcesAllow (fetch_rule kind g.name) g.directive.sources nonce integrity parser_inserted
+    (ListMatches g.directive.sources policy.origin there (is_redirected redirects)))

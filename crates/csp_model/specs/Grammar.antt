@@ -5,6 +5,7 @@ use Rattle.std.specs.List.{list_all, list_any, fold, starts_with}
 use Rattle.std.specs.Str.{bytes_eq}
 use Rattle.std.specs.Char.{is_ascii_alphabetic, is_ascii_alphanumeric, is_ascii_digit, is_ascii_hexdigit}
 use Rattle.percent_encoding.specs.Percent.{percent_decode}
+use Rattle.csp_model.specs.Bytes.{percent, quote, plus, hyphen, dot, slash, colon, equals_sign}
 use Rattle.csp_model.specs.Ascii.{lower, is_nonempty, without_last, without_final, ends_in, split_at}
 use Rattle.csp_model.specs.declared.source.Algorithm.{Algorithm}
 use Rattle.csp_model.specs.declared.source.Algorithm.TheVariants.{Sha256, Sha384, Sha512}
@@ -21,7 +22,7 @@ use Rattle.csp_model.specs.declared.source.Source.TheVariants as source
 
 -- scheme = ALPHA *( ALPHA / DIGIT / "+" / "-" / "." )
 unfoldable pub is_scheme_char : ℕ → Bool
-is_scheme_char c = is_ascii_alphanumeric c || c == 43 || c == 45 || c == 46
+is_scheme_char c = is_ascii_alphanumeric c || c == plus || c == hyphen || c == dot
 
 abbrev pub is_scheme : List ℕ → Bool
 is_scheme [] = false
@@ -29,26 +30,26 @@ is_scheme (c ∷ cs) = is_ascii_alphabetic c && list_all is_scheme_char cs
 
 -- host-char = ALPHA / DIGIT / "-"; a label is one or more of them
 unfoldable pub is_label_char : ℕ → Bool
-is_label_char c = is_ascii_alphanumeric c || c == 45
+is_label_char c = is_ascii_alphanumeric c || c == hyphen
 
 abbrev pub is_label : List ℕ → Bool
 is_label text = is_nonempty text && list_all is_label_char text
 
 -- labels joined by ".", with or without one more "." at the end
 unfoldable pub is_name : List ℕ → Bool
-is_name text = list_all is_label (split_at 46 (without_final 46 text))
+is_name text = list_all is_label (split_at dot (without_final dot text))
 
 -- host-part = "*" / [ "*." ] name
-unfoldable pub host_of : List ℕ → Option HostPart
-host_of text =
+unfoldable pub host_part_of : List ℕ → Option HostPart
+host_part_of text =
     if bytes_eq text (codes "*") then Some host.Any
     else if starts_with nat_eq text (codes "*.") && is_name (drop 2 text) then Some (host.Under (lower (drop 2 text)))
     else if is_name text then Some (host.Exact (lower text))
     else None
 
 -- the number that decimal digits spell
-abbrev pub number : List ℕ → ℕ
-number digits = fold (λ n d. 10 * n + (d - 48)) 0 digits
+abbrev pub decimal_value : List ℕ → ℕ
+decimal_value digits = fold (λ n d. 10 * n + (d - 48)) 0 digits
 
 abbrev pub are_digits : List ℕ → Bool
 are_digits text = is_nonempty text && list_all is_ascii_digit text
@@ -56,12 +57,18 @@ are_digits text = is_nonempty text && list_all is_ascii_digit text
 abbrev pub port_numbered : ℕ → PortPart
 port_numbered n = if nat_lt n 65536 then port.Number n else port.TooLarge
 
--- nothing, or ":" port-part, where port-part = 1*DIGIT / "*"
-unfoldable pub port_of : List ℕ → Option PortPart
-port_of [] = Some port.Absent
-port_of (c ∷ text) =
-    if c == 58 then (if bytes_eq text (codes "*") then Some port.Any else if are_digits text then Some (port_numbered (number text)) else None)
+-- port-part = 1*DIGIT / "*"
+abbrev pub port_behind_colon : List ℕ → Option PortPart
+port_behind_colon text =
+    if bytes_eq text (codes "*") then Some port.Any
+    else if are_digits text then Some (port_numbered (decimal_value text))
     else None
+
+-- nothing, or ":" port-part
+unfoldable pub port_part_of : List ℕ → Option PortPart
+port_part_of [] = Some port.Absent
+port_part_of (c ∷ text) =
+    if c == colon then port_behind_colon text else None
 
 -- pchar without ";" and ",", its "%" apart
 unfoldable pub is_path_char : ℕ → Bool
@@ -75,7 +82,7 @@ begins_hex_pair text = false
 -- segment = *pchar: path characters, and "%" before two hexadecimal digits
 abbrev pub is_segment : List ℕ → Bool
 is_segment [] = true
-is_segment (c ∷ cs) = (if c == 37 then begins_hex_pair cs else is_path_char c) && is_segment cs
+is_segment (c ∷ cs) = (if c == percent then begins_hex_pair cs else is_path_char c) && is_segment cs
 
 -- segments after "/" that make a path-absolute: the first is empty only where it stands alone
 abbrev pub are_segments : List (List ℕ) → Bool
@@ -85,14 +92,14 @@ are_segments (s ∷ t ∷ rest) = is_nonempty s && list_all is_segment (s ∷ t 
 
 -- the pieces of a path behind its first "/", percent-decoded
 abbrev pub pieces_of : List ℕ → List (List ℕ)
-pieces_of text = map percent_decode (split_at 47 text)
+pieces_of text = map percent_decode (split_at slash text)
 
 -- nothing, or path-part = path-absolute without ";" and ",": "/" [ segment-nz *( "/" segment ) ]
-unfoldable pub path_of : List ℕ → Option PathPart
-path_of [] = Some path.Absent
-path_of (c ∷ text) =
-    if (c == 47) && are_segments (split_at 47 text)
-    then Some (if ends_in 47 (c ∷ text) then path.Prefix (without_last (pieces_of text)) else path.Exact (pieces_of text))
+unfoldable pub path_part_of : List ℕ → Option PathPart
+path_part_of [] = Some path.Absent
+path_part_of (c ∷ text) =
+    if (c == slash) && are_segments (split_at slash text)
+    then Some (if ends_in slash (c ∷ text) then path.Prefix (without_last (pieces_of text)) else path.Exact (pieces_of text))
     else None
 
 -- nothing, or a scheme and "://"
@@ -102,8 +109,9 @@ IsSchemePart text (Some scheme) = (letters : List ℕ) × (text ≡ letters ++ c
 
 -- host-source = [ scheme-part "://" ] host-part [ ":" port-part ] [ path-part ]
 abbrev pub IsHostSource : List ℕ → Option (List ℕ) → HostPart → PortPart → PathPart → Type 0
-IsHostSource token scheme name number pieces = (a b c d : List ℕ) × (token ≡ a ++ (b ++ (c ++ d)))
-    × IsSchemePart a scheme × (host_of b ≡ Some name) × (port_of c ≡ Some number) × (path_of d ≡ Some pieces)
+IsHostSource token scheme_part host_part port_part path_part = (a b c d : List ℕ) × (token ≡ a ++ (b ++ (c ++ d)))
+    × IsSchemePart a scheme_part × (host_part_of b ≡ Some host_part) × (port_part_of c ≡ Some port_part)
+    × (path_part_of d ≡ Some path_part)
 
 -- scheme-source = scheme-part ":"
 abbrev pub IsSchemeSource : List ℕ → List ℕ → Type 0
@@ -123,8 +131,11 @@ keyword_text keyword.ReportSample = codes "'report-sample'"
 unfoldable pub is_base64_char : ℕ → Bool
 is_base64_char c = is_ascii_alphanumeric c || list_any (λ d. d == c) (codes "+/-_")
 
+abbrev pub without_padding : List ℕ → List ℕ
+without_padding text = without_final equals_sign (without_final equals_sign text)
+
 unfoldable pub is_base64_value : List ℕ → Bool
-is_base64_value text = is_nonempty (without_final 61 (without_final 61 text)) && list_all is_base64_char (without_final 61 (without_final 61 text))
+is_base64_value text = is_nonempty (without_padding text) && list_all is_base64_char (without_padding text)
 
 -- a word, whose letters may be of either case, a base64-value and "'"
 abbrev pub IsQuoted : List ℕ → List ℕ → List ℕ → Type 0
@@ -148,12 +159,13 @@ algorithm_named name =
 abbrev pub IsKind : List ℕ → Source → Type 0
 IsKind token source.Star = token ≡ codes "*"
 IsKind token (source.SchemeOnly scheme) = IsSchemeSource token scheme
-IsKind token (source.Hosted scheme name number pieces) = (token ≢ codes "*") × IsHostSource token scheme name number pieces
+IsKind token (source.Hosted scheme_part host_part port_part path_part) =
+    (token ≢ codes "*") × IsHostSource token scheme_part host_part port_part path_part
 IsKind token (source.Word word) = lower token ≡ keyword_text word
 -- nonce-source = "'nonce-" base64-value "'"
 IsKind token (source.Nonce value) = IsQuoted (codes "'nonce-") token value
 -- hash-source = "'" hash-algorithm "-" base64-value "'"
-IsKind token (source.Digest hash) = IsQuoted (39 ∷ algorithm_text hash.algorithm ++ codes "-") token hash.value
+IsKind token (source.Digest hash) = IsQuoted (quote ∷ algorithm_text hash.algorithm ++ codes "-") token hash.value
 IsKind token (source.Other text) = ⊥
 
 -- what a token is: of a kind, or else nothing that matches

@@ -1,6 +1,7 @@
 -- When a policy allows inline code and style, string compilation and WebAssembly (Content Security Policy Level 3,
 -- sections 4.2.3, 4.3, 4.4 and 6.7.3).
-use Rattle.std.specs.Prelude.{◌≡◌, ◌≢◌, ℕ, Bool, false, List, [], ◌++◌, Option, None, Some, find, Any, codes, ◌⊎◌, ⊤}
+use Rattle.std.specs.Prelude.{◌≡◌, ◌≢◌, ℕ, Bool, true, false, List, [], ◌++◌, Option, None, Some, find, Any, IsTrue, codes, ◌⊎◌}
+use Rattle.std.specs.List.{list_any}
 use Rattle.std.specs.Option.{option_map}
 use Rattle.std.specs.Str.{bytes_eq}
 use Rattle.csp_model.specs.Ascii.{lower}
@@ -17,47 +18,59 @@ use Rattle.csp_model.specs.declared.source.Source.TheVariants as source
 use Rattle.csp_model.specs.declared.policy.Policy.{Policy}
 
 -- the text of a script or a style element
-abbrev pub IsElementKind : InlineKind → Type 0
-IsElementKind kind.Script = ⊤
-IsElementKind kind.Style = ⊤
-IsElementKind other = ⊥
+abbrev pub is_element_kind : InlineKind → Bool
+is_element_kind kind.Script = true
+is_element_kind kind.ScriptAttribute = false
+is_element_kind kind.Style = true
+is_element_kind kind.StyleAttribute = false
+is_element_kind kind.Navigation = false
 
 -- code, and no style
-abbrev pub IsScriptKind : InlineKind → Type 0
-IsScriptKind kind.Style = ⊥
-IsScriptKind kind.StyleAttribute = ⊥
-IsScriptKind other = ⊤
+abbrev pub is_script_kind : InlineKind → Bool
+is_script_kind kind.Script = true
+is_script_kind kind.ScriptAttribute = true
+is_script_kind kind.Style = false
+is_script_kind kind.StyleAttribute = false
+is_script_kind kind.Navigation = true
 
-abbrev pub IsNonceOrHash : Source → Type 0
-IsNonceOrHash (source.Nonce value) = ⊤
-IsNonceOrHash (source.Digest hash) = ⊤
-IsNonceOrHash other = ⊥
+abbrev pub is_nonce_or_hash : Source → Bool
+is_nonce_or_hash source.Star = false
+is_nonce_or_hash (source.SchemeOnly scheme) = false
+is_nonce_or_hash (source.Hosted scheme host port path) = false
+is_nonce_or_hash (source.Word word) = false
+is_nonce_or_hash (source.Nonce value) = true
+is_nonce_or_hash (source.Digest hash) = true
+is_nonce_or_hash (source.Other token) = false
 
 -- all inline of the kind is allowed (6.7.3.2): 'unsafe-inline' acts where no nonce, hash or 'strict-dynamic' takes its place
 abbrev pub AllowsAllInline : InlineKind → List Source → Type 0
-AllowsAllInline which sources = HasKeyword keyword.UnsafeInline sources × (¬ Any IsNonceOrHash sources)
-    × (IsScriptKind which → ¬ HasKeyword keyword.StrictDynamic sources)
+AllowsAllInline which sources = HasKeyword keyword.UnsafeInline sources × (list_any is_nonce_or_hash sources ≡ false)
+    × (IsTrue (is_script_kind which) → ¬ HasKeyword keyword.StrictDynamic sources)
 
 -- a hash counts for elements, and with 'unsafe-hashes' for attributes and navigations too
 abbrev pub HashCounts : InlineKind → List Source → Type 0
-HashCounts which sources = IsElementKind which ⊎ HasKeyword keyword.UnsafeHashes sources
+HashCounts which sources = IsTrue (is_element_kind which) ⊎ HasKeyword keyword.UnsafeHashes sources
 
 -- a governing list allows the inline source (6.7.3.3)
 abbrev pub SourcesAllowInline : InlineKind → List ℕ → Digests → List Source → Type 0
 SourcesAllowInline which nonce digests sources =
-    AllowsAllInline which sources ⊎ ((IsElementKind which × NonceMatches nonce sources) ⊎ (DigestsMatch digests sources × HashCounts which sources))
+    AllowsAllInline which sources
+    ⊎ ((IsTrue (is_element_kind which) × NonceMatches nonce sources)
+    ⊎ (DigestsMatch digests sources × HashCounts which sources))
 
 -- the policy allows the inline source
 abbrev pub InlineAllows : Policy → InlineKind → List ℕ → Digests → Type 0
-InlineAllows policy which nonce digests = WhereGoverned policy (inline_directive which) (λ d. SourcesAllowInline which nonce digests d.sources)
+InlineAllows policy which nonce digests =
+    WhereGoverned policy (inline_directive which) (λ g. SourcesAllowInline which nonce digests g.directive.sources)
 
 -- the policy allows string compilation (4.3)
 abbrev pub EvalAllows : Policy → Type 0
-EvalAllows policy = WhereGoverned policy ScriptSrc (λ d. HasKeyword keyword.UnsafeEval d.sources)
+EvalAllows policy = WhereGoverned policy ScriptSrc (λ g. HasKeyword keyword.UnsafeEval g.directive.sources)
 
 -- the policy allows compilation of WebAssembly (4.4)
 abbrev pub WasmAllows : Policy → Type 0
-WasmAllows policy = WhereGoverned policy ScriptSrc (λ d. HasKeyword keyword.UnsafeEval d.sources ⊎ HasKeyword keyword.WasmUnsafeEval d.sources)
+WasmAllows policy = WhereGoverned policy ScriptSrc (λ g.
+    HasKeyword keyword.UnsafeEval g.directive.sources ⊎ HasKeyword keyword.WasmUnsafeEval g.directive.sources)
 
 -- Elements and their nonces (6.7.3.1)
 
@@ -72,7 +85,8 @@ IsSuspect attribute = (Mentions (codes "<script") attribute.0 ⊎ Mentions (code
 
 -- the value of an element's first attribute "nonce"
 abbrev pub nonce_attribute : List (List ℕ × List ℕ) → Option (List ℕ)
-nonce_attribute attributes = option_map (λ (a : List ℕ × List ℕ). a.1) (find (λ (a : List ℕ × List ℕ). bytes_eq a.0 (codes "nonce")) attributes)
+nonce_attribute attributes =
+    option_map (λ (a : List ℕ × List ℕ). a.1) (find (λ (a : List ℕ × List ℕ). bytes_eq a.0 (codes "nonce")) attributes)
 
 -- an element of this tag, with these attributes, and with or without a duplicate one, is nonceable
 abbrev pub IsNonceable : List ℕ → List (List ℕ × List ℕ) → Bool → Type 0
@@ -82,4 +96,5 @@ IsNonceable tag attributes duplicate = (nonce_attribute attributes ≢ None) × 
 -- an element's nonce, which is empty where it isn't nonceable
 abbrev pub IsElementNonce : List ℕ → List (List ℕ × List ℕ) → Bool → List ℕ → Type 0
 IsElementNonce tag attributes duplicate nonce =
-    (IsNonceable tag attributes duplicate × (nonce_attribute attributes ≡ Some nonce)) ⊎ ((¬ IsNonceable tag attributes duplicate) × (nonce ≡ []))
+    (IsNonceable tag attributes duplicate × (nonce_attribute attributes ≡ Some nonce))
+    ⊎ ((¬ IsNonceable tag attributes duplicate) × (nonce ≡ []))

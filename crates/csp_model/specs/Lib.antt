@@ -1,4 +1,12 @@
+pub mod Answers
 pub mod Ascii
+pub mod Bytes
+pub mod DecideFetch
+pub mod DecideInline
+pub mod DecideMatching
+pub mod DecideNavigation
+pub mod DecideNonces
+pub mod DecideTokens
 pub mod Ends
 pub mod Fetch
 pub mod Governing
@@ -13,6 +21,7 @@ pub mod Parts
 pub mod Paths
 pub mod Policies
 pub mod Reading
+pub mod Same
 pub mod Schemes
 pub mod Tokens
 pub mod Validity

@@ -1,11 +1,13 @@
 -- When a source expression matches a URL (Content Security Policy Level 3, section 6.7.2, "URL Matching"; each
 -- definition bears the name of its algorithm there).
-use Rattle.std.specs.Prelude.{◌≡◌, ◌≢◌, ℕ, List, [], ◌∷◌, ◌++◌, Option, Some, None, ◌⊎◌, IsTrue, codes, Bool, Any, ⊤, unwrap_or}
+use Rattle.std.specs.Prelude.{◌≡◌, ◌≢◌, ℕ, List, [], ◌∷◌, ◌++◌, Option, Some, None, ◌⊎◌, IsTrue, codes, Bool, Any, Contains, ⊤, unwrap_or}
+use Rattle.csp_model.specs.Bytes.{dot}
+use Rattle.csp_model.specs.Paths.{host_text}
 use Rattle.csp_model.specs.Schemes.{scheme_text, default_port}
 use Rattle.csp_model.specs.declared.url.Scheme.{Scheme}
-use Rattle.csp_model.specs.declared.url.Scheme.TheVariants.{Http, Https, Ws, Wss, Ftp}
+use Rattle.csp_model.specs.declared.url.Scheme.TheVariants.{Http, Https, Ws, Wss}
 use Rattle.csp_model.specs.declared.url.Host.{Host}
-use Rattle.csp_model.specs.declared.url.Host.TheVariants as host
+use Rattle.csp_model.specs.declared.url.Host.TheVariants.{Domain, Address}
 use Rattle.csp_model.specs.declared.url.Origin.{Origin}
 use Rattle.csp_model.specs.declared.url.Origin.TheVariants as origin
 use Rattle.csp_model.specs.declared.url.Url.{Url}
@@ -26,21 +28,27 @@ upgrades = (codes "http", codes "https") ∷ (codes "ws", codes "wss") ∷ (code
     ∷ (codes "ws", codes "https") ∷ (codes "wss", codes "https") ∷ []
 
 abbrev pub SchemeMatches : List ℕ → List ℕ → Type 0
-SchemeMatches part scheme = (part ≡ scheme) ⊎ Any (λ (pair : List ℕ × List ℕ). (pair.0 ≡ part) × (pair.1 ≡ scheme)) upgrades
+SchemeMatches part scheme =
+    (part ≡ scheme) ⊎ Any (λ (pair : List ℕ × List ℕ). (pair.0 ≡ part) × (pair.1 ≡ scheme)) upgrades
 
 abbrev pub url_scheme : Url → List ℕ
 url_scheme (url.Plain scheme) = scheme
-url_scheme (url.Hosted scheme name port path) = scheme_text scheme
+url_scheme (url.Hosted scheme host port path) = scheme_text scheme
 
--- host-part matches: a suffix needs a "." before it, and an address matches nothing
-abbrev pub DomainMatches : HostPart → List ℕ → Type 0
-DomainMatches host_part.Any domain = ⊤
-DomainMatches (host_part.Under suffix) domain = (front : List ℕ) × (domain ≡ front ++ 46 ∷ suffix)
-DomainMatches (host_part.Exact text) domain = text ≡ domain
+-- host-part matches: "*" any domain, a suffix the domains that end in "." and it, and an exact host the one that is
+-- printed so, be it a domain or an address
+abbrev pub IsDomainHost : Host → Type 0
+IsDomainHost (Domain text) = ⊤
+IsDomainHost (Address text) = ⊥
+
+abbrev pub IsHostUnder : Host → List ℕ → Type 0
+IsHostUnder (Domain text) suffix = (front : List ℕ) × (text ≡ front ++ dot ∷ suffix)
+IsHostUnder (Address text) suffix = ⊥
 
 abbrev pub HostMatches : HostPart → Host → Type 0
-HostMatches part (host.Domain domain) = DomainMatches part domain
-HostMatches part (host.Address address) = ⊥
+HostMatches host_part.Any host = IsDomainHost host
+HostMatches (host_part.Under suffix) host = IsHostUnder host suffix
+HostMatches (host_part.Exact text) host = text ≡ host_text host
 
 -- port-part matches
 abbrev pub PortMatches : PortPart → Option ℕ → Scheme → Type 0
@@ -58,7 +66,7 @@ PathMatches (path_part.Prefix pieces) path = (rest : List (List ℕ)) × (rest �
 -- P of the scheme that a host-source asks for: its own, or else the origin's
 abbrev pub SchemeOrOwn : Option (List ℕ) → Origin → (List ℕ → Type 0) → Type 0
 SchemeOrOwn (Some scheme) self P = P scheme
-SchemeOrOwn None (origin.Tuple scheme name port) P = P (scheme_text scheme)
+SchemeOrOwn None (origin.Tuple scheme host port) P = P (scheme_text scheme)
 SchemeOrOwn None origin.Opaque P = ⊥
 
 -- 'self' matches the origin's scheme, the secure ones, and ws from http
@@ -67,26 +75,27 @@ SelfScheme own scheme = (own ≡ scheme) ⊎ ((scheme ≡ Https) ⊎ ((scheme �
 
 -- 'self' matches
 abbrev pub SelfMatches : Origin → Url → Type 0
-SelfMatches (origin.Tuple own name port) (url.Hosted scheme url_name url_port path) = (name ≡ url_name) × (port ≡ url_port) × SelfScheme own scheme
+SelfMatches (origin.Tuple own own_host own_port) (url.Hosted scheme host port path) =
+    (own_host ≡ host) × (own_port ≡ port) × SelfScheme own scheme
 SelfMatches self there = ⊥
 
 -- a host-source matches; after a redirect its path is not looked at
 abbrev pub HostSourceMatches : Option (List ℕ) → HostPart → PortPart → PathPart → Origin → Url → Bool → Type 0
-HostSourceMatches scheme name port path self (url.Plain there) redirected = ⊥
-HostSourceMatches scheme name port path self (url.Hosted there url_name url_port url_path) redirected =
-    SchemeOrOwn scheme self (λ part. SchemeMatches part (scheme_text there)) × HostMatches name url_name
-    × PortMatches port url_port there × (IsTrue redirected ⊎ PathMatches path url_path)
+HostSourceMatches scheme_part host_part port_part path_part self (url.Plain scheme) redirected = ⊥
+HostSourceMatches scheme_part host_part port_part path_part self (url.Hosted scheme host port path) redirected =
+    SchemeOrOwn scheme_part self (λ part. SchemeMatches part (scheme_text scheme)) × HostMatches host_part host
+    × PortMatches port_part port scheme × (IsTrue redirected ⊎ PathMatches path_part path)
 
--- "*" matches the URLs of http, https, ws and wss
-abbrev pub IsNetworkUrl : Url → Type 0
-IsNetworkUrl (url.Plain scheme) = ⊥
-IsNetworkUrl (url.Hosted scheme name port path) = scheme ≢ Ftp
+-- "*" matches by the scheme alone
+abbrev pub network_schemes : List (List ℕ)
+network_schemes = codes "http" ∷ codes "https" ∷ codes "ws" ∷ codes "wss" ∷ []
 
 -- a source expression matches a URL
 abbrev pub Matches : Source → Origin → Url → Bool → Type 0
-Matches source.Star self there redirected = IsNetworkUrl there
+Matches source.Star self there redirected = Contains network_schemes (url_scheme there)
 Matches (source.SchemeOnly scheme) self there redirected = SchemeMatches scheme (url_scheme there)
-Matches (source.Hosted scheme name port path) self there redirected = HostSourceMatches scheme name port path self there redirected
+Matches (source.Hosted scheme host port path) self there redirected =
+    HostSourceMatches scheme host port path self there redirected
 Matches (source.Word word) self there redirected = (word ≡ keyword.SelfOrigin) × SelfMatches self there
 Matches (source.Nonce value) self there redirected = ⊥
 Matches (source.Digest hash) self there redirected = ⊥

@@ -1,6 +1,8 @@
 -- The names of directives, and what asks for which (Content Security Policy Level 3, sections 6.1 to 6.4,
 -- 6.8.1 and 6.8.2).
-use Rattle.std.specs.Prelude.{ℕ, List, codes}
+use Rattle.std.specs.Prelude.{ℕ, List, [], ◌∷◌, Option, codes}
+use Rattle.std.specs.List.{find}
+use Rattle.std.specs.Str.{bytes_eq}
 use Rattle.csp_model.specs.declared.name.Name.{Name}
 use Rattle.csp_model.specs.declared.name.Name.TheVariants.{ConnectSrc, FontSrc, FrameSrc, ImgSrc, ManifestSrc, MediaSrc, ObjectSrc, StyleSrcElem, ScriptSrcElem, WorkerSrc, ScriptSrcAttr, StyleSrcAttr, ScriptSrc, StyleSrc, ChildSrc, DefaultSrc, BaseUri, FormAction, FrameAncestors, Sandbox}
 use Rattle.csp_model.specs.declared.check.Group.{Group}
@@ -9,6 +11,8 @@ use Rattle.csp_model.specs.declared.check.InlineKind.{InlineKind}
 use Rattle.csp_model.specs.declared.check.InlineKind.TheVariants as kind
 use Rattle.csp_model.specs.declared.check.Capability.{Capability}
 use Rattle.csp_model.specs.declared.check.Capability.TheVariants as capability
+use Rattle.csp_model.specs.declared.policy.Disposition.{Disposition}
+use Rattle.csp_model.specs.declared.policy.Disposition.TheVariants.{Enforce, Report}
 
 -- a name as it is written
 abbrev pub name_text : Name → List ℕ
@@ -68,3 +72,18 @@ capability_text capability.PointerLock = codes "pointer-lock"
 capability_text capability.OrientationLock = codes "orientation-lock"
 capability_text capability.Presentation = codes "presentation"
 capability_text capability.Downloads = codes "downloads"
+
+abbrev pub capabilities : List Capability
+capabilities = capability.Forms ∷ capability.Scripts ∷ capability.SameOrigin ∷ capability.Popups
+    ∷ capability.PopupsToEscapeSandbox ∷ capability.TopNavigation ∷ capability.TopNavigationByUserActivation
+    ∷ capability.Modals ∷ capability.PointerLock ∷ capability.OrientationLock ∷ capability.Presentation
+    ∷ capability.Downloads ∷ []
+
+-- the capability that is so written
+abbrev pub capability_named : List ℕ → Option Capability
+capability_named name = find (λ c. bytes_eq name (capability_text c)) capabilities
+
+-- a disposition as it is written
+abbrev pub disposition_text : Disposition → List ℕ
+disposition_text Enforce = codes "enforce"
+disposition_text Report = codes "report"

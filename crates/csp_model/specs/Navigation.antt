@@ -15,33 +15,38 @@ use Rattle.csp_model.specs.declared.url.Url.{Url}
 
 -- base-uri (6.3.1)
 abbrev pub BaseAllows : Policy → Url → Type 0
-BaseAllows policy there = WhereGoverned policy BaseUri (λ d. ListMatches d.sources policy.origin there false)
+BaseAllows policy there =
+    WhereGoverned policy BaseUri (λ g. ListMatches g.directive.sources policy.origin there false)
 
 -- form-action (6.4.1), for each hop with its count of redirects
 abbrev pub FormAllows : Policy → Url → ℕ → Type 0
-FormAllows policy there redirects = WhereGoverned policy FormAction (λ d. ListMatches d.sources policy.origin there (is_redirected redirects))
+FormAllows policy there redirects =
+    WhereGoverned policy FormAction (λ g. ListMatches g.directive.sources policy.origin there (is_redirected redirects))
 
 -- frame-ancestors (6.4.2), for one ancestor
 abbrev pub AncestorAllows : Policy → Url → Type 0
-AncestorAllows policy there = WhereGoverned policy FrameAncestors (λ d. ListMatches d.sources policy.origin there false)
+AncestorAllows policy there =
+    WhereGoverned policy FrameAncestors (λ g. ListMatches g.directive.sources policy.origin there false)
 
 -- nothing matches an ancestor whose origin is opaque
 abbrev pub OpaqueAncestorAllows : Policy → Type 0
-OpaqueAncestorAllows policy = WhereGoverned policy FrameAncestors (λ d. ⊥)
+OpaqueAncestorAllows policy = WhereGoverned policy FrameAncestors (λ g. ⊥)
 
--- the sandbox tokens that give a capability
+-- the sandbox tokens that grant a capability
 abbrev pub capability_tokens : Capability → List (List ℕ)
 capability_tokens TopNavigationByUserActivation = codes "allow-top-navigation-by-user-activation" ∷ codes "allow-top-navigation" ∷ []
 capability_tokens capability = (codes "allow-" ++ capability_text capability) ∷ []
 
--- one of these tokens gives the capability, in letters of either case
-abbrev pub Gives : List (List ℕ) → Capability → Type 0
-Gives tokens capability = Any (λ token. Contains (capability_tokens capability) (lower token)) tokens
+-- one of these tokens grants the capability, in letters of either case
+abbrev pub Grants : List (List ℕ) → Capability → Type 0
+Grants tokens capability = Any (λ token. Contains (capability_tokens capability) (lower token)) tokens
 
--- sandbox (6.3.2): it takes each capability that no token gives, where the policy is enforced
+-- sandbox (6.3.2): it takes each capability that no token grants, where the policy is enforced
 abbrev pub CapabilityAllows : Policy → Capability → Type 0
-CapabilityAllows policy capability = (policy.disposition ≡ Report) ⊎ WhereGoverned policy Sandbox (λ d. Gives d.tokens capability)
+CapabilityAllows policy capability =
+    (policy.disposition ≡ Report) ⊎ WhereGoverned policy Sandbox (λ g. Grants g.directive.tokens capability)
 
 -- a worker starts only with scripts and same-origin
 abbrev pub WorkerStartAllows : Policy → Type 0
-WorkerStartAllows policy = (policy.disposition ≡ Report) ⊎ WhereGoverned policy Sandbox (λ d. Gives d.tokens Scripts × Gives d.tokens SameOrigin)
+WorkerStartAllows policy = (policy.disposition ≡ Report)
+    ⊎ WhereGoverned policy Sandbox (λ g. Grants g.directive.tokens Scripts × Grants g.directive.tokens SameOrigin)

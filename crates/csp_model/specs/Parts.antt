@@ -4,19 +4,11 @@ use Rattle.std.specs.Prelude.{ℕ, Bool, true, false, List, Option, Some, None, 
 use Rattle.csp_model.specs.declared.check.Check.{Check}
 use Rattle.csp_model.specs.declared.check.Check.TheVariants as check
 use Rattle.csp_model.specs.declared.check.Digests.{Digests}
-use Rattle.csp_model.specs.declared.source.Algorithm.{Algorithm}
+use Rattle.csp_model.specs.declared.check.CheckPart.{CheckPart}
+use Rattle.csp_model.specs.declared.check.CheckPart.TheVariants.{Host, Port, Path, PlainScheme, Nonce, Integrity, Digest}
 use Rattle.csp_model.specs.declared.source.Hash.{Hash}
 use Rattle.csp_model.specs.declared.url.Url.{Url}
 use Rattle.csp_model.specs.declared.url.Url.TheVariants as url
-
-pub data Part : Type 0 where
-  Host : Part
-  Port : Part
-  Path : Part
-  PlainScheme : Part
-  Nonce : Part
-  Integrity : Part
-  Digest : Algorithm → Part
 
 -- the URL that a check is about
 abbrev pub checked_url : Check → Option Url
@@ -43,7 +35,7 @@ checked_digests (check.Inline kind nonce digests) = Some digests
 checked_digests asked = None
 
 abbrev pub is_hosted : Option Url → Bool
-is_hosted (Some (url.Hosted scheme name port path)) = true
+is_hosted (Some (url.Hosted scheme host port path)) = true
 is_hosted there = false
 
 abbrev pub is_plain : Option Url → Bool
@@ -51,7 +43,7 @@ is_plain (Some (url.Plain scheme)) = true
 is_plain there = false
 
 -- the check has the part
-abbrev pub has_part : Check → Part → Bool
+abbrev pub has_part : Check → CheckPart → Bool
 has_part asked Host = is_hosted (checked_url asked)
 has_part asked Port = is_hosted (checked_url asked)
 has_part asked Path = is_hosted (checked_url asked)

@@ -5,6 +5,7 @@ use Rattle.std.specs.List.{filter_map, list_any, list_all, flat_map, sum_by, pos
 use Rattle.std.specs.Str.Lines.{strip_carriage_return}
 use Rattle.std.specs.Char.{is_ascii_alphanumeric}
 use Rattle.std.specs.Str.{bytes_eq}
+use Rattle.csp_model.specs.Bytes.{tab, line_feed, space, comma, colon, semicolon, delete}
 use Rattle.csp_model.specs.Ascii.{lower, is_ascii_text, words, split_at}
 use Rattle.csp_model.specs.Reading.{source_of}
 use Rattle.csp_model.specs.Validity.{IsValidOrigin}
@@ -20,7 +21,8 @@ use Rattle.csp_model.specs.declared.url.Origin.{Origin}
 -- a directive of these words, of which the first is its name
 abbrev pub directive_of_words : List (List ℕ) → Option Directive
 directive_of_words [] = None
-directive_of_words (name ∷ tokens) = Some (record { name = lower name; tokens = tokens; sources = map source_of tokens })
+directive_of_words (name ∷ tokens) =
+    Some (record { name = lower name; tokens = tokens; sources = map source_of tokens })
 
 -- the directive of a piece between semicolons; none where the piece has no word, or a byte outside ASCII
 unfoldable pub directive_of : List ℕ → Option Directive
@@ -36,13 +38,13 @@ firsts (d ∷ ds) = d ∷ filter (λ e. not (same_name e d)) (firsts ds)
 
 -- the directives of a serialized policy
 abbrev pub directives_of : List ℕ → List Directive
-directives_of value = firsts (filter_map directive_of (split_at 59 value))
+directives_of value = firsts (filter_map directive_of (split_at semicolon value))
 
 -- Header blocks
 
 -- the lines between line feeds, each without one carriage return at its end
 abbrev pub lines_of : List ℕ → List (List ℕ)
-lines_of bytes = map strip_carriage_return (split_at 10 bytes)
+lines_of bytes = map strip_carriage_return (split_at line_feed bytes)
 
 -- token of RFC 9110, section 5.6.2: a letter, a digit or one of these
 unfoldable pub is_token_char : ℕ → Bool
@@ -53,7 +55,7 @@ is_field_name name = nat_lt 0 (length name) && nat_lt (length name) 65536 && lis
 
 -- a tab, or anything but a control
 abbrev pub is_field_char : ℕ → Bool
-is_field_char c = c == 9 || (nat_le 32 c && not (c == 127))
+is_field_char c = c == tab || (nat_le space c && not (c == delete))
 
 unfoldable pub is_field_value : List ℕ → Bool
 is_field_value value = list_all is_field_char value
@@ -65,13 +67,15 @@ pub data Line : Type 0 where
   Header : List ℕ → List ℕ → Line
 
 abbrev pub is_colon : ℕ → Bool
-is_colon c = c == 58
+is_colon c = c == colon
 
 -- the name before a colon at this place, and the value after it
 abbrev pub header_at : List ℕ → Option ℕ → Line
 header_at text None = Bad
 header_at text (Some place) =
-    if is_field_name (take place text) && is_field_value (drop (place + 1) text) then Header (take place text) (drop (place + 1) text) else Bad
+    if is_field_name (take place text) && is_field_value (drop (place + 1) text)
+    then Header (take place text) (drop (place + 1) text)
+    else Bad
 
 unfoldable pub header_of : List ℕ → Line
 header_of text = header_at text (position is_colon text)
@@ -81,11 +85,12 @@ line_of [] = Skipped
 line_of (c ∷ cs) = header_of (c ∷ cs)
 
 abbrev pub is_newline : ℕ → Bool
-is_newline c = c == 10
+is_newline c = c == line_feed
 
 -- the block with a status line at its front emptied, so that its lines keep their numbers
 abbrev pub without_status : List ℕ → List ℕ
-without_status bytes = if starts_with nat_eq bytes (codes "HTTP/") then drop (position_or_len is_newline bytes) bytes else bytes
+without_status bytes =
+    if starts_with nat_eq bytes (codes "HTTP/") then drop (position_or_len is_newline bytes) bytes else bytes
 
 abbrev pub block_lines : List ℕ → List Line
 block_lines bytes = map line_of (lines_of (without_status bytes))
@@ -108,15 +113,18 @@ first_bad bytes = first_bad_from 1 (block_lines bytes)
 -- a policy, where it has a directive
 abbrev pub policy_with : Origin → Disposition → Bool → List Directive → List Policy
 policy_with origin disposition meta [] = []
-policy_with origin disposition meta (d ∷ ds) = record { disposition = disposition; meta = meta; origin = origin; directives = d ∷ ds } ∷ []
+policy_with origin disposition meta (d ∷ ds) =
+    record { disposition = disposition; meta = meta; origin = origin; directives = d ∷ ds } ∷ []
 
 -- the policies of a header's value, between commas
 abbrev pub policies_in : Origin → Disposition → List ℕ → List Policy
-policies_in origin disposition value = flat_map (λ piece. policy_with origin disposition false (directives_of piece)) (split_at 44 value)
+policies_in origin disposition value =
+    flat_map (λ piece. policy_with origin disposition false (directives_of piece)) (split_at comma value)
 
 -- a meta element may carry the directive
 abbrev pub is_for_meta : Directive → Bool
-is_for_meta d = not (list_any (λ name. bytes_eq d.name name) (codes "report-uri" ∷ codes "frame-ancestors" ∷ codes "sandbox" ∷ []))
+is_for_meta d =
+    not (list_any (λ name. bytes_eq d.name name) (codes "report-uri" ∷ codes "frame-ancestors" ∷ codes "sandbox" ∷ []))
 
 abbrev pub policies_of : Origin → Line → List Policy
 policies_of origin Skipped = []
@@ -124,7 +132,8 @@ policies_of origin Bad = []
 policies_of origin (Header name value) =
     if bytes_eq (lower name) (codes "content-security-policy") then policies_in origin Enforce value
     else if bytes_eq (lower name) (codes "content-security-policy-report-only") then policies_in origin Report value
-    else if bytes_eq (lower name) (codes "meta-content-security-policy") then policy_with origin Enforce true (filter is_for_meta (directives_of value))
+    else if bytes_eq (lower name) (codes "meta-content-security-policy")
+    then policy_with origin Enforce true (filter is_for_meta (directives_of value))
     else []
 
 -- the policies of a header block, in order
@@ -172,7 +181,7 @@ pub record IsReadable (list : PolicyList) : Type 0 where
 
 -- a directive's name and tokens, joined by spaces
 abbrev pub directive_text : Directive → List ℕ
-directive_text d = join_with_byte 32 (d.name ∷ d.tokens)
+directive_text d = join_with_byte space (d.name ∷ d.tokens)
 
 -- the directives, joined by "; "
 abbrev pub policy_text : Policy → List ℕ

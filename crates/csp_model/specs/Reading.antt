@@ -4,8 +4,9 @@ use Rattle.std.specs.Prelude.{ℕ, Bool, ◌&&◌, ◌||◌, not, nat_eq, ◌==�
 use Rattle.std.specs.List.{starts_with, find}
 use Rattle.std.specs.Option.{option_map, option_and_then}
 use Rattle.std.specs.Str.{bytes_eq}
+use Rattle.csp_model.specs.Bytes.{quote, star, dot, slash, colon}
 use Rattle.csp_model.specs.Ascii.{lower, ends_in, without_last}
-use Rattle.csp_model.specs.Grammar.{is_scheme_char, is_scheme, is_label_char, host_of, port_of, path_of, keyword_text, is_base64_value, algorithm_text}
+use Rattle.csp_model.specs.Grammar.{is_scheme_char, is_scheme, is_label_char, host_part_of, port_part_of, path_part_of, keyword_text, is_base64_value, algorithm_text}
 use Rattle.csp_model.specs.declared.source.Algorithm.{Algorithm}
 use Rattle.csp_model.specs.declared.source.Algorithm.TheVariants.{Sha256, Sha384, Sha512}
 use Rattle.csp_model.specs.declared.source.Keyword.{Keyword}
@@ -23,16 +24,18 @@ back p [] = []
 back p (x ∷ xs) = if p x then back p xs else x ∷ xs
 
 unfoldable pub is_host_char : ℕ → Bool
-is_host_char c = is_label_char c || c == 46 || c == 42
+is_host_char c = is_label_char c || c == dot || c == star
 
 unfoldable pub is_no_slash : ℕ → Bool
-is_no_slash c = not (c == 47)
+is_no_slash c = not (c == slash)
 
 -- a host-source behind its scheme-part
 unfoldable pub authority : Option (List ℕ) → List ℕ → Option Source
 authority scheme text =
-    option_and_then (λ name. option_and_then (λ number. option_map (λ pieces. source.Hosted scheme name number pieces)
-    (path_of (back is_no_slash (back is_host_char text)))) (port_of (front is_no_slash (back is_host_char text)))) (host_of (front is_host_char text))
+    option_and_then (λ host. option_and_then (λ port. option_map (λ path. source.Hosted scheme host port path)
+    (path_part_of (back is_no_slash (back is_host_char text))))
+    (port_part_of (front is_no_slash (back is_host_char text))))
+    (host_part_of (front is_host_char text))
 
 unfoldable pub host_source : List ℕ → Option Source
 host_source token =
@@ -41,7 +44,10 @@ host_source token =
     else authority None token
 
 unfoldable pub scheme_source : List ℕ → Option Source
-scheme_source token = if ends_in 58 token && is_scheme (without_last token) then Some (source.SchemeOnly (lower (without_last token))) else None
+scheme_source token =
+    if ends_in colon token && is_scheme (without_last token)
+    then Some (source.SchemeOnly (lower (without_last token)))
+    else None
 
 -- the keywords that act
 abbrev pub keywords : List Keyword
@@ -49,19 +55,24 @@ keywords = keyword.SelfOrigin ∷ keyword.UnsafeInline ∷ keyword.UnsafeEval �
     ∷ keyword.UnsafeHashes ∷ keyword.ReportSample ∷ []
 
 unfoldable pub keyword_source : List ℕ → Option Source
-keyword_source token = option_map (λ word. source.Word word) (find (λ word. bytes_eq (lower token) (keyword_text word)) keywords)
+keyword_source token =
+    option_map (λ word. source.Word word) (find (λ word. bytes_eq (lower token) (keyword_text word)) keywords)
 
 -- the base64-value between a word and "'"
 unfoldable pub quoted_value : List ℕ → List ℕ → Option (List ℕ)
 quoted_value word token =
-    if bytes_eq (lower (take (length word) token)) word && ends_in 39 (drop (length word) token) && is_base64_value (without_last (drop (length word) token))
-    then Some (without_last (drop (length word) token)) else None
+    if bytes_eq (lower (take (length word) token)) word && ends_in quote (drop (length word) token)
+    && is_base64_value (without_last (drop (length word) token))
+    then Some (without_last (drop (length word) token))
+    else None
 
 unfoldable pub nonce_source : List ℕ → Option Source
 nonce_source token = option_map (λ value. source.Nonce value) (quoted_value (codes "'nonce-") token)
 
 unfoldable pub hash_source : Algorithm → List ℕ → Option Source
-hash_source algorithm token = option_map (λ value. source.Digest (record { algorithm = algorithm; value = value })) (quoted_value (39 ∷ algorithm_text algorithm ++ codes "-") token)
+hash_source algorithm token =
+    option_map (λ value. source.Digest (record { algorithm = algorithm; value = value }))
+    (quoted_value (quote ∷ algorithm_text algorithm ++ codes "-") token)
 
 -- the first of some answers that is one
 abbrev pub first_of : {A : Type 0} → List (Option A) → Option A

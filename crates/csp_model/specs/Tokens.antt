@@ -3,6 +3,7 @@
 use Rattle.std.specs.Prelude.{◌≡◌, ◌≢◌, ℕ, ◌==◌, if◌then◌else◌, List, [], map, All, Any, Contains}
 use Rattle.base64.specs.GeneralPurpose.{encode_of}
 use Rattle.base64.specs.Engines.{standard}
+use Rattle.csp_model.specs.Bytes.{hyphen, plus, underscore, slash}
 use Rattle.csp_model.specs.declared.source.Algorithm.{Algorithm}
 use Rattle.csp_model.specs.declared.source.Algorithm.TheVariants.{Sha256, Sha384, Sha512}
 use Rattle.csp_model.specs.declared.source.Hash.{Hash}
@@ -48,7 +49,7 @@ size_of Sha512 = 64
 
 -- a base64-value in the standard alphabet: "-" read as "+", and "_" as "/"
 abbrev pub plain_value : List ℕ → List ℕ
-plain_value value = map (λ c. if c == 45 then 43 else if c == 95 then 47 else c) value
+plain_value value = map (λ c. if c == hyphen then plus else if c == underscore then slash else c) value
 
 -- a hash's value is the standard base64 of this digest
 abbrev pub StandsFor : List ℕ → List ℕ → Type 0

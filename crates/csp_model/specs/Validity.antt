@@ -3,13 +3,14 @@ use Rattle.std.specs.Prelude.{◌≡◌, ◌≢◌, ℕ, ◌<◌, ◌^◌, ◌==
 use Rattle.std.specs.List.{list_all, list_any}
 use Rattle.std.specs.Str.{bytes_eq, IsUtf8}
 use Rattle.std.specs.Char.{is_ascii_uppercase, is_ascii_hexdigit, is_ascii_whitespace}
+use Rattle.csp_model.specs.Bytes.{dot, digit_zero, colon, question_mark, left_bracket, right_bracket, lower_x}
 use Rattle.csp_model.specs.Ascii.{lower, is_nonempty, ends_in, without_last, without_final, split_at}
-use Rattle.csp_model.specs.Grammar.{is_scheme, are_digits, number}
+use Rattle.csp_model.specs.Grammar.{is_scheme, are_digits, decimal_value}
 use Rattle.csp_model.specs.Schemes.{scheme_named, default_port}
 use Rattle.csp_model.specs.declared.url.Scheme.{Scheme}
 use Rattle.csp_model.specs.declared.url.Scheme.TheVariants.{Http, Https}
 use Rattle.csp_model.specs.declared.url.Host.{Host}
-use Rattle.csp_model.specs.declared.url.Host.TheVariants as host
+use Rattle.csp_model.specs.declared.url.Host.TheVariants.{Domain, Address}
 use Rattle.csp_model.specs.declared.url.Origin.{Origin}
 use Rattle.csp_model.specs.declared.url.Origin.TheVariants as origin
 use Rattle.csp_model.specs.declared.url.Url.{Url}
@@ -21,7 +22,8 @@ use Rattle.csp_model.specs.declared.check.Check.TheVariants as check
 
 -- a byte that a domain may hold: no control, space, upper-case letter or forbidden domain code point
 unfoldable pub is_domain_byte : ℕ → Bool
-is_domain_byte b = nat_le 33 b && nat_le b 126 && not (is_ascii_uppercase b) && not (list_any (λ c. c == b) (codes "#/:<>?@[\\]^|%"))
+is_domain_byte b =
+    nat_le 33 b && nat_le b 126 && not (is_ascii_uppercase b) && not (list_any (λ c. c == b) (codes "#/:<>?@[\\]^|%"))
 
 -- the last of some parts
 abbrev pub last_part : List (List ℕ) → List ℕ
@@ -31,36 +33,43 @@ last_part (p ∷ q ∷ ps) = last_part (q ∷ ps)
 
 -- "0x" and hexadecimal digits, perhaps none
 abbrev pub is_hex_number : List ℕ → Bool
-is_hex_number label = (slice_index label 0 == 48) && (slice_index label 1 == 120) && list_all is_ascii_hexdigit (drop 2 label)
+is_hex_number label =
+    (slice_index label 0 == digit_zero) && (slice_index label 1 == lower_x) && list_all is_ascii_hexdigit (drop 2 label)
 
--- the last label, less one "." at the end, is a number (URL Standard, "ends in a number")
+-- the last label, where one "." may stand behind it
+abbrev pub last_label : List ℕ → List ℕ
+last_label text = last_part (split_at dot (without_final dot text))
+
+-- it is a number (URL Standard, "ends in a number")
 unfoldable pub ends_in_number : List ℕ → Bool
-ends_in_number text = are_digits (last_part (split_at 46 (without_final 46 text))) || is_hex_number (last_part (split_at 46 (without_final 46 text)))
+ends_in_number text = are_digits (last_label text) || is_hex_number (last_label text)
 
 unfoldable pub is_domain : List ℕ → Bool
 is_domain text = is_nonempty text && list_all is_domain_byte text && not (ends_in_number text)
 
 -- a decimal number from 0 to 255 without leading zeros
 abbrev pub is_octet : List ℕ → Bool
-is_octet text = are_digits text && nat_lt (number text) 256 && (nat_lt (length text) 2 || not (slice_index text 0 == 48))
+is_octet text = are_digits text && nat_lt (decimal_value text) 256 && (nat_lt (length text) 2 || not (slice_index text 0 == digit_zero))
 
 -- four numbers joined by "."
 unfoldable pub is_four_numbers : List ℕ → Bool
-is_four_numbers text = (length (split_at 46 text) == 4) && list_all is_octet (split_at 46 text)
+is_four_numbers text = (length (split_at dot text) == 4) && list_all is_octet (split_at dot text)
 
 -- an address of six groups or more, loosely: hexadecimal digits in lower case and ":"
 abbrev pub is_group_char : ℕ → Bool
-is_group_char c = (is_ascii_hexdigit c && not (is_ascii_uppercase c)) || c == 58
+is_group_char c = (is_ascii_hexdigit c && not (is_ascii_uppercase c)) || c == colon
 
 unfoldable pub is_bracketed : List ℕ → Bool
-is_bracketed text = (slice_index text 0 == 91) && ends_in 93 text && is_nonempty (without_last (drop 1 text)) && list_all is_group_char (without_last (drop 1 text))
+is_bracketed text =
+    (slice_index text 0 == left_bracket) && ends_in right_bracket text && is_nonempty (without_last (drop 1 text))
+    && list_all is_group_char (without_last (drop 1 text))
 
 unfoldable pub is_address : List ℕ → Bool
 is_address text = is_four_numbers text || is_bracketed text
 
 abbrev pub IsValidHost : Host → Type 0
-IsValidHost (host.Domain text) = IsTrue (is_domain text)
-IsValidHost (host.Address text) = IsTrue (is_address text)
+IsValidHost (Domain text) = IsTrue (is_domain text)
+IsValidHost (Address text) = IsTrue (is_address text)
 
 -- absent, or a number of 16 bits that isn't the scheme's default
 abbrev pub IsValidPort : Scheme → Option ℕ → Type 0
@@ -80,16 +89,18 @@ is_lower_scheme text = is_scheme text && bytes_eq (lower text) text
 
 abbrev pub IsValidUrl : Url → Type 0
 IsValidUrl (url.Plain scheme) = IsTrue (is_lower_scheme scheme) × IsNone (scheme_named scheme)
-IsValidUrl (url.Hosted scheme name port path) = IsValidHost name × IsValidPort scheme port × (path ≢ []) × IsTrue (list_all is_piece path)
+IsValidUrl (url.Hosted scheme host port path) =
+    IsValidHost host × IsValidPort scheme port × (path ≢ []) × IsTrue (list_all is_piece path)
 
 -- an origin that a policy may have: opaque, or of http or https
 abbrev pub IsValidOrigin : Origin → Type 0
 IsValidOrigin origin.Opaque = ⊤
-IsValidOrigin (origin.Tuple scheme name port) = ((scheme ≡ Http) ⊎ (scheme ≡ Https)) × IsValidHost name × IsValidPort scheme port
+IsValidOrigin (origin.Tuple scheme host port) =
+    ((scheme ≡ Http) ⊎ (scheme ≡ Https)) × IsValidHost host × IsValidPort scheme port
 
 -- a value as integrity metadata can hold it: a text without ASCII whitespace and "?"
 abbrev pub IsIntegrityValue : List ℕ → Type 0
-IsIntegrityValue value = IsUtf8 value × IsTrue (list_all (λ b. not (is_ascii_whitespace b) && not (b == 63)) value)
+IsIntegrityValue value = IsUtf8 value × IsTrue (list_all (λ b. not (is_ascii_whitespace b) && not (b == question_mark)) value)
 
 -- so many bytes
 abbrev pub IsOfSize : ℕ → List ℕ → Type 0
@@ -104,7 +115,7 @@ pub record IsValidDigests (digests : Digests) : Type 0 where
 -- an ancestor is known by its origin: its path is one empty piece
 abbrev pub IsOriginUrl : Url → Type 0
 IsOriginUrl (url.Plain scheme) = ⊤
-IsOriginUrl (url.Hosted scheme name port path) = path ≡ [] ∷ []
+IsOriginUrl (url.Hosted scheme host port path) = path ≡ [] ∷ []
 
 -- a check that a page can make
 abbrev pub IsValidCheck : Check → Type 0

@@ -1,13 +1,17 @@
 -- What policies and lists of policies answer (Content Security Policy Level 3, sections 4.1.2, 4.2, 5 and 6.3.1.1).
-use Rattle.std.specs.Prelude.{◌≡◌, ℕ, ◌+◌, Bool, true, false, if◌then◌else◌, List, [], ◌∷◌, ◌++◌, map, filter, slice_get, Option, Some, None, All, ◌⊎◌, ⊤}
-use Rattle.std.specs.List.{list_any}
+use Rattle.std.specs.Prelude.{ℕ, ◌+◌, Bool, true, false, not, ◌&&◌, ◌||◌, if◌then◌else◌, List, [], ◌∷◌, slice_get, Option, Some, None}
+use Rattle.std.specs.List.{list_any, list_all, flat_map, filter_map, cons_option}
+use Rattle.std.specs.Option.{option_map}
 use Rattle.csp_model.specs.Names.{group_directive, inline_directive}
-use Rattle.csp_model.specs.Governing.{governing_name, governing_directive}
+use Rattle.csp_model.specs.Governing.{Governor, governor}
 use Rattle.csp_model.specs.Fetch.{FetchAllows}
 use Rattle.csp_model.specs.Inline.{InlineAllows, EvalAllows, WasmAllows}
 use Rattle.csp_model.specs.Navigation.{BaseAllows, FormAllows, AncestorAllows, OpaqueAncestorAllows, CapabilityAllows, WorkerStartAllows}
+use Rattle.csp_model.specs.DecideFetch.{fetch_allows}
+use Rattle.csp_model.specs.DecideInline.{inline_allows, eval_allows, wasm_allows}
+use Rattle.csp_model.specs.DecideNavigation.{base_allows, form_allows, ancestor_allows, opaque_ancestor_allows, capability_allows, worker_start_allows}
+use Rattle.csp_model.specs.DecideTokens.{has_keyword}
 use Rattle.csp_model.specs.Policies.{policy_text}
-use Rattle.csp_model.specs.Tokens.{HasKeyword}
 use Rattle.csp_model.specs.declared.name.Name.{Name}
 use Rattle.csp_model.specs.declared.name.Name.TheVariants.{ScriptSrc, BaseUri, FormAction, FrameAncestors, Sandbox}
 use Rattle.csp_model.specs.declared.check.Check.{Check}
@@ -17,15 +21,17 @@ use Rattle.csp_model.specs.declared.policy.Disposition.{Disposition}
 use Rattle.csp_model.specs.declared.policy.Disposition.TheVariants.{Enforce, Report}
 use Rattle.csp_model.specs.declared.policy.Policy.{Policy}
 use Rattle.csp_model.specs.declared.policy.PolicyList.{PolicyList}
-use Rattle.csp_model.specs.declared.policy.Directive.{Directive}
 use Rattle.csp_model.specs.declared.verdict.Item.{Item}
 use Rattle.csp_model.specs.declared.verdict.Verdict.{Verdict}
 use Rattle.csp_model.specs.declared.verdict.Described.{Described}
 use Rattle.csp_model.specs.declared.verdict.Violation.{Violation}
 
+-- What is allowed
+
 -- a policy allows a check, whatever its disposition
 abbrev pub Allows : Policy → Check → Type 0
-Allows policy (check.Fetch group there redirects nonce integrity parser_inserted) = FetchAllows policy group there redirects nonce integrity parser_inserted
+Allows policy (check.Fetch group there redirects nonce integrity parser_inserted) =
+    FetchAllows policy group there redirects nonce integrity parser_inserted
 Allows policy (check.Inline kind nonce digests) = InlineAllows policy kind nonce digests
 Allows policy check.Eval = EvalAllows policy
 Allows policy check.Wasm = WasmAllows policy
@@ -36,13 +42,33 @@ Allows policy check.OpaqueAncestor = OpaqueAncestorAllows policy
 Allows policy (check.Capability capability) = CapabilityAllows policy capability
 Allows policy check.WorkerStart = WorkerStartAllows policy
 
+-- the same as a test
+abbrev pub allows : Policy → Check → Bool
+allows policy (check.Fetch group there redirects nonce integrity parser_inserted) =
+    fetch_allows policy group there redirects nonce integrity parser_inserted
+allows policy (check.Inline kind nonce digests) = inline_allows policy kind nonce digests
+allows policy check.Eval = eval_allows policy
+allows policy check.Wasm = wasm_allows policy
+allows policy (check.Base there) = base_allows policy there
+allows policy (check.Form there redirects) = form_allows policy there redirects
+allows policy (check.Ancestor there) = ancestor_allows policy there
+allows policy check.OpaqueAncestor = opaque_ancestor_allows policy
+allows policy (check.Capability capability) = capability_allows policy capability
+allows policy check.WorkerStart = worker_start_allows policy
+
+abbrev pub is_enforce : Disposition → Bool
+is_enforce Enforce = true
+is_enforce Report = false
+
 -- a list allows a check: each enforced policy does
-abbrev pub ListAllows : PolicyList → Check → Type 0
-ListAllows list asked = All (λ (p : Policy). p.disposition ≡ Enforce → Allows p asked) list.policies
+abbrev pub list_allows : PolicyList → Check → Bool
+list_allows list asked = list_all (λ (p : Policy). not (is_enforce p.disposition) || allows p asked) list.policies
 
 -- a list allows a request: it allows each of its checks
-abbrev pub AllowsAll : PolicyList → List Check → Type 0
-AllowsAll list checks = All (ListAllows list) checks
+abbrev pub allows_all : PolicyList → List Check → Bool
+allows_all list checks = list_all (list_allows list) checks
+
+-- The verdict
 
 -- the directive that a check asks for
 abbrev pub effective_name : Check → Name
@@ -57,25 +83,20 @@ effective_name check.OpaqueAncestor = FrameAncestors
 effective_name (check.Capability capability) = Sandbox
 effective_name check.WorkerStart = Sandbox
 
--- One check
+-- the item of the policy of this number, where what governs in it doesn't allow the check
+abbrev pub item_by : ℕ → Policy → Check → Governor → Item
+item_by number policy asked g =
+    record { policy = number; disposition = policy.disposition; effective = effective_name asked; governing = g.name }
 
--- a verdict's item: the policy of this number doesn't allow the check
-pub record IsItem (number : ℕ) (p : Policy) (asked : Check) (item : Item) : Type 0 where
-  pub refused : ¬ Allows p asked
-  pub policy : item.policy ≡ number
-  pub disposition : item.disposition ≡ p.disposition
-  pub effective : item.effective ≡ effective_name asked
-  pub governing : governing_name p.directives (effective_name asked) ≡ Some item.governing
+abbrev pub item_of : ℕ → Policy → Check → Option Item
+item_of number policy asked =
+    if allows policy asked then None else option_map (item_by number policy asked) (governor policy (effective_name asked))
 
--- an item for each policy that doesn't allow the check, in order; the first policy has the number n
-abbrev pub AreItems : ℕ → List Policy → Check → List Item → Type 0
-AreItems n [] asked items = items ≡ []
-AreItems n (p ∷ ps) asked items = (Allows p asked × AreItems (n + 1) ps asked items)
-    ⊎ ((item : Item) × (rest : List Item) × (items ≡ item ∷ rest) × IsItem n p asked item × AreItems (n + 1) ps asked rest)
-
-abbrev pub is_enforce : Disposition → Bool
-is_enforce Enforce = true
-is_enforce Report = false
+-- the items of policies in order, of which the first has this number
+abbrev pub items_from : ℕ → List Policy → Check → List Item
+items_from number [] asked = []
+items_from number (policy ∷ policies) asked =
+    cons_option (item_of number policy asked) (items_from (number + 1) policies asked)
 
 abbrev pub is_enforced : Item → Bool
 is_enforced item = is_enforce item.disposition
@@ -90,70 +111,69 @@ abbrev pub shown_items : Check → List Item → List Item
 shown_items (check.Base there) items = through_enforced items
 shown_items asked items = items
 
-abbrev pub IsCheckVerdict : PolicyList → Check → List Item → Type 0
-IsCheckVerdict list asked items = (all : List Item) × AreItems 0 list.policies asked all × (items ≡ shown_items asked all)
+-- the items of a check
+abbrev pub items_of : PolicyList → Check → List Item
+items_of list asked = shown_items asked (items_from 0 list.policies asked)
 
--- Whole requests
+-- the checks of a request that are judged: up to and with the first that the list blocks
+abbrev pub judged_checks : PolicyList → List Check → List Check
+judged_checks list [] = []
+judged_checks list (asked ∷ rest) = asked ∷ (if list_allows list asked then judged_checks list rest else [])
 
--- an item, with the check that it is about
-pub record Finding : Type 0 where
-  pub asked : Check
-  pub item : Item
-
-abbrev pub findings : Check → List Item → List Finding
-findings asked items = map (λ item. record { asked = asked; item = item }) items
-
--- what is found of the checks in order, up to and with the first that the list blocks
-abbrev pub AreFindings : PolicyList → List Check → List Finding → Type 0
-AreFindings list [] found = found ≡ []
-AreFindings list (asked ∷ rest) found = (items : List Item) × (later : List Finding) × (found ≡ findings asked items ++ later)
-    × IsCheckVerdict list asked items
-    × ((ListAllows list asked × AreFindings list rest later) ⊎ ((¬ ListAllows list asked) × (later ≡ [])))
+abbrev pub verdict_with : List Item → Verdict
+verdict_with items = record { blocked = list_any is_enforced items; items = items }
 
 -- the verdict on a request
-abbrev pub IsVerdict : PolicyList → List Check → Verdict → Type 0
-IsVerdict list checks verdict = (found : List Finding) × AreFindings list checks found
-    × (verdict.items ≡ map (λ (f : Finding). f.item) found) × (verdict.blocked ≡ list_any (λ (f : Finding). is_enforced f.item) found)
+abbrev pub verdict_of : PolicyList → List Check → Verdict
+verdict_of list checks = verdict_with (flat_map (items_of list) (judged_checks list checks))
 
 -- Violations (section 5)
 
--- a report may show a sample of the source
-abbrev pub ShowsSample : Check → Type 0
-ShowsSample (check.Inline kind nonce digests) = ⊤
-ShowsSample check.Eval = ⊤
-ShowsSample asked = ⊥
-
--- the governing list asks for samples, and the check has one
-abbrev pub IsSampled : Check → Option Directive → Type 0
-IsSampled asked None = ⊥
-IsSampled asked (Some d) = ShowsSample asked × HasKeyword keyword.ReportSample d.sources
-
--- the description's sample, where it is asked for
-abbrev pub IsSample : Type 0 → List ℕ → List ℕ → Type 0
-IsSample Asked sample shown = (Asked × (shown ≡ sample)) ⊎ ((¬ Asked) × (shown ≡ []))
-
--- the violation of this policy for a finding
-pub record IsViolationOf (p : Policy) (described : Described) (found : Finding) (violation : Violation) : Type 0 where
-  pub disposition : violation.disposition ≡ found.item.disposition
-  pub effective : violation.effective ≡ found.item.effective
-  pub blocked_uri : violation.blocked_uri ≡ described.blocked_uri
-  pub sample : IsSample (IsSampled found.asked (governing_directive p found.item.effective)) described.sample violation.sample
-  pub policy : violation.policy ≡ policy_text p
-
 -- a sandbox makes no report
 abbrev pub is_reported : Check → Bool
+is_reported (check.Fetch group there redirects nonce integrity parser_inserted) = true
+is_reported (check.Inline kind nonce digests) = true
+is_reported check.Eval = true
+is_reported check.Wasm = true
+is_reported (check.Base there) = true
+is_reported (check.Form there redirects) = true
+is_reported (check.Ancestor there) = true
+is_reported check.OpaqueAncestor = true
 is_reported (check.Capability capability) = false
 is_reported check.WorkerStart = false
-is_reported asked = true
 
--- a violation for each finding, in order
-abbrev pub EachViolation : PolicyList → Described → List Finding → List Violation → Type 0
-EachViolation list described [] violations = violations ≡ []
-EachViolation list described (f ∷ found) violations = (p : Policy) × (first : Violation) × (rest : List Violation)
-    × (slice_get list.policies f.item.policy ≡ Some p) × (violations ≡ first ∷ rest)
-    × IsViolationOf p described f first × EachViolation list described found rest
+-- a report may show a sample of the source
+abbrev pub has_sample : Check → Bool
+has_sample (check.Inline kind nonce digests) = true
+has_sample check.Eval = true
+has_sample asked = false
+
+-- what governs asks for samples
+abbrev pub asks_for_sample : Option Governor → Bool
+asks_for_sample None = false
+asks_for_sample (Some g) = has_keyword keyword.ReportSample g.directive.sources
+
+abbrev pub is_sampled : Policy → Check → Bool
+is_sampled policy asked = has_sample asked && asks_for_sample (governor policy (effective_name asked))
+
+-- the violation of this policy for an item
+abbrev pub violation_of : Described → Check → Item → Policy → Violation
+violation_of described asked item policy = record {
+  disposition = item.disposition;
+  effective = item.effective;
+  blocked_uri = described.blocked_uri;
+  sample = if is_sampled policy asked then described.sample else [];
+  policy = policy_text policy;
+}
+
+-- a violation for each item of a check
+abbrev pub check_violations : PolicyList → Described → Check → List Violation
+check_violations list described asked =
+    if is_reported asked
+    then filter_map (λ (item : Item). option_map (violation_of described asked item) (slice_get list.policies item.policy))
+    (items_of list asked)
+    else []
 
 -- the violations of a request
-abbrev pub AreViolations : PolicyList → Described → List Violation → Type 0
-AreViolations list described violations = (found : List Finding) × AreFindings list described.checks found
-    × EachViolation list described (filter (λ (f : Finding). is_reported f.asked) found) violations
+abbrev pub violations_of : PolicyList → Described → List Violation
+violations_of list described = flat_map (check_violations list described) (judged_checks list described.checks)

@@ -1,11 +1,11 @@
 //! What a policy is asked: one check of one request.
 ghost use Rattle.std.specs.Prelude.{◌≡◌, option_copied};
 ghost use Rattle.csp_model.specs.Names as names;
-ghost use Rattle.csp_model.specs.Parts as parts;
+ghost use Rattle.csp_model.specs.Parts as spec;
 
 use crate::list::List;
 use crate::name::Name;
-use crate::source::Hash;
+use crate::source::{Algorithm, Hash};
 use crate::text::Text;
 use crate::url::Url;
 
@@ -110,6 +110,27 @@ impl Capability {
             Capability::Downloads => "downloads",
         }
     }
+
+    /// The capability that is so written, in lower case and without `allow-`. None where none is.
+    pub fn from_name(name: &str) -> Option<Capability>
+        ensures { result ≡ names.capability_named name.now }
+    {
+        match name {
+            "forms" => Some(Capability::Forms),
+            "scripts" => Some(Capability::Scripts),
+            "same-origin" => Some(Capability::SameOrigin),
+            "popups" => Some(Capability::Popups),
+            "popups-to-escape-sandbox" => Some(Capability::PopupsToEscapeSandbox),
+            "top-navigation" => Some(Capability::TopNavigation),
+            "top-navigation-by-user-activation" => Some(Capability::TopNavigationByUserActivation),
+            "modals" => Some(Capability::Modals),
+            "pointer-lock" => Some(Capability::PointerLock),
+            "orientation-lock" => Some(Capability::OrientationLock),
+            "presentation" => Some(Capability::Presentation),
+            "downloads" => Some(Capability::Downloads),
+            _ => None,
+        }
+    }
 }
 
 /// The digests of a source text, or of nothing known.
@@ -176,7 +197,7 @@ pub enum Check {
 impl Check {
     /// The URL that the check is about. None where its kind has none.
     pub fn url(&self) -> Option<&Url>
-        ensures { option_copied result ≡ parts.checked_url self.now }
+        ensures { option_copied result ≡ spec.checked_url self.now }
     {
         match self {
             Check::Fetch { url, .. }
@@ -189,7 +210,7 @@ impl Check {
 
     /// The nonce of a fetch, or of inline code or style. None for the other kinds.
     pub fn nonce(&self) -> Option<&Text>
-        ensures { option_copied result ≡ parts.checked_nonce self.now }
+        ensures { option_copied result ≡ spec.checked_nonce self.now }
     {
         match self {
             Check::Fetch { nonce, .. } | Check::Inline { nonce, .. } => Some(nonce),
@@ -199,7 +220,7 @@ impl Check {
 
     /// The integrity metadata of a fetch. None for the other kinds.
     pub fn integrity(&self) -> Option<&List<Hash>>
-        ensures { option_copied result ≡ parts.checked_integrity self.now }
+        ensures { option_copied result ≡ spec.checked_integrity self.now }
     {
         match self {
             Check::Fetch { integrity, .. } => Some(integrity),
@@ -209,11 +230,43 @@ impl Check {
 
     /// The digests of inline code or style. None for the other kinds.
     pub fn digests(&self) -> Option<&Digests>
-        ensures { option_copied result ≡ parts.checked_digests self.now }
+        ensures { option_copied result ≡ spec.checked_digests self.now }
     {
         match self {
             Check::Inline { digests, .. } => Some(digests),
             _ => None,
         }
     }
+
+    /// Whether the check has a part: of a URL with a host its host, port and path, of any other URL its scheme.
+    pub fn has(&self, part: CheckPart) -> bool
+        ensures { result ≡ spec.has_part self.now part }
+    {
+        match part {
+            CheckPart::Host | CheckPart::Port | CheckPart::Path => {
+                matches!(self.url(), Some(Url::Hosted { .. }))
+            }
+            CheckPart::PlainScheme => matches!(self.url(), Some(Url::Plain { .. })),
+            CheckPart::Nonce => self.nonce().is_some(),
+            CheckPart::Integrity => self.integrity().is_some(),
+            CheckPart::Digest(_) => self.digests().is_some(),
+        }
+    }
+}
+
+/// A part of a check, as far as a policy looks at it.
+#[derive(Clone, Copy, Debug, PartialEq, Eq)]
+pub enum CheckPart {
+    /// The host of a URL that has one.
+    Host,
+    /// Its port, or its scheme's default.
+    Port,
+    /// The pieces of its path.
+    Path,
+    /// The scheme of a URL without a host.
+    PlainScheme,
+    Nonce,
+    Integrity,
+    /// The digest of one algorithm.
+    Digest(Algorithm),
 }

@@ -2,7 +2,7 @@
 ghost use Rattle.std.specs.Prelude.{◌≡◌, min, IsTrue};
 ghost use Rattle.std.specs.List.{list_all};
 ghost use Rattle.std.specs.Char.{is_ascii_digit};
-ghost use Rattle.csp_model.specs.Grammar.{is_scheme_char, is_scheme, are_digits, number};
+ghost use Rattle.csp_model.specs.Grammar.{is_scheme_char, is_scheme, are_digits, decimal_value};
 
 /// Whether the byte may stand in a scheme behind its first letter: a letter, a digit, `+`, `-` or `.` (RFC 3986,
 /// section 3.1).
@@ -36,7 +36,7 @@ fn all_digits(text: &[u8]) -> bool
     text.iter().all(|b| b.is_ascii_digit())
 }
 
-/// Whether the text is one decimal digit or more, as the number of a port is written (Content Security Policy Level 3,
+/// Whether the text is one decimal digit or more, as the decimal_value of a port is written (Content Security Policy Level 3,
 /// section 2.3.1).
 pub fn are_digits(text: &[u8]) -> bool
     ensures { result ≡ are_digits text.now }
@@ -44,11 +44,11 @@ pub fn are_digits(text: &[u8]) -> bool
     !text.is_empty() && all_digits(text)
 }
 
-/// The number that decimal digits spell, or 65,536 where it is greater: more than any port (Content Security Policy
-/// Level 3, section 2.3.1). The number of no digit is 0.
-pub fn number(digits: &[u8]) -> u32
+/// The decimal_value that decimal digits spell, or 65,536 where it is greater: more than any port (Content Security Policy
+/// Level 3, section 2.3.1). The decimal_value of no digit is 0.
+pub fn decimal_value(digits: &[u8]) -> u32
     requires { IsTrue (list_all is_ascii_digit digits.now) }
-    ensures { result ≡ min (number digits.now) 65536 }
+    ensures { result ≡ min (decimal_value digits.now) 65536 }
 {
     let mut n = 0;
     for digit in digits {

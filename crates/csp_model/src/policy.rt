@@ -1,4 +1,7 @@
 //! Policies (Content Security Policy Level 3, section 2.2).
+ghost use Rattle.std.specs.Prelude.{◌≡◌};
+ghost use Rattle.csp_model.specs.Names as spec;
+
 use crate::list::List;
 use crate::source::Source;
 use crate::text::Text;
@@ -20,6 +23,18 @@ pub struct Directive {
 pub enum Disposition {
     Enforce,
     Report,
+}
+
+impl Disposition {
+    /// The disposition as it is written: `enforce` or `report`.
+    pub fn as_str(self) -> &'static str
+        ensures { result.now ≡ spec.disposition_text self }
+    {
+        match self {
+            Disposition::Enforce => "enforce",
+            Disposition::Report => "report",
+        }
+    }
 }
 
 /// A policy.

@@ -9,7 +9,7 @@ use Rattle.std.proofs.lemmas.Grind.{common_steps}
 use Rattle.std.proofs.lemmas.Slice.Eq.{bytes_eq-Decides}
 use Rattle.std.proofs.lemmas.Bool.{eqb-true}
 use Rattle.csp_model.specs.Ascii.{lower, ends_in, without_last, without_final}
-use Rattle.csp_model.specs.Grammar.{is_scheme_char, is_scheme, is_label_char, is_label, is_name, IsHostSource, host_of, port_of, path_of}
+use Rattle.csp_model.specs.Grammar.{is_scheme_char, is_scheme, is_label_char, is_label, is_name, IsHostSource, host_part_of, port_part_of, path_part_of}
 use Rattle.csp_model.specs.Reading.{front, back, is_host_char, is_no_slash, authority, host_source}
 use Rattle.csp_source.proofs.EndLaws.{ends_in_front}
 use Rattle.csp_model.specs.declared.source.HostPart.{HostPart}
@@ -92,8 +92,8 @@ under_chars : (b : List ℕ) → (starts_with nat_eq b (codes "*.") && is_name (
 unfolding is_label_char is_host_char
 under_chars b t = let e = star_dot b (grind arith) in let k = name_chars (drop 2 b) (grind arith) in rw e (grind arith)
 
-pub host_chars : (b : List ℕ) (h : HostPart) → host_of b ≡ Some h → list_all is_host_char b ≡ true
-unfolding host_of is_host_char
+pub host_chars : (b : List ℕ) (h : HostPart) → host_part_of b ≡ Some h → list_all is_host_char b ≡ true
+unfolding host_part_of is_host_char
 host_chars b h e =
     let plain = if is_name b then Some (host.Exact (lower b)) else None in
     let under = if starts_with nat_eq b (codes "*.") && is_name (drop 2 b) then Some (host.Under (lower (drop 2 b))) else plain in
@@ -107,8 +107,8 @@ host_chars b h e =
           ]
     ]
 
-pub port_stops : (c d : List ℕ) (p : PortPart) → port_of c ≡ Some p → Stops is_host_char d → Stops is_host_char (c ++ d)
-unfolding port_of is_label_char is_host_char
+pub port_stops : (c d : List ℕ) (p : PortPart) → port_part_of c ≡ Some p → Stops is_host_char d → Stops is_host_char (c ++ d)
+unfolding port_part_of is_label_char is_host_char
 port_stops [] d p e s = s
 port_stops (x ∷ c) d p e s = grind (arith, common_steps)
 
@@ -116,11 +116,11 @@ path_slash_by : (b : Bool) (more : Bool) (x : PathPart) (q : PathPart) → cond 
 path_slash_by true more x q e = refl
 path_slash_by false more x q e = cc
 
-pub path_slash : (x : ℕ) (d : List ℕ) (q : PathPart) → path_of (x ∷ d) ≡ Some q → x ≡ 47
-unfolding path_of
+pub path_slash : (x : ℕ) (d : List ℕ) (q : PathPart) → path_part_of (x ∷ d) ≡ Some q → x ≡ 47
+unfolding path_part_of
 path_slash x d q e = eqb-true x 47 (path_slash_by _ _ _ q e)
 
-pub path_stops : (d : List ℕ) (q : PathPart) → path_of d ≡ Some q → Stops is_host_char d × Stops is_no_slash d
+pub path_stops : (d : List ℕ) (q : PathPart) → path_part_of d ≡ Some q → Stops is_host_char d × Stops is_no_slash d
 unfolding is_label_char is_host_char is_no_slash
 path_stops [] q e = (tt, tt)
 path_stops (x ∷ d) q e = let slash = path_slash x d q e in (rw slash refl, rw slash refl)
@@ -129,8 +129,8 @@ digit_no_slash : (c : ℕ) → is_ascii_digit c ≡ true → is_no_slash c ≡ t
 unfolding is_no_slash
 digit_no_slash c h = grind arith
 
-pub port_chars : (c : List ℕ) (p : PortPart) → port_of c ≡ Some p → list_all is_no_slash c ≡ true
-unfolding port_of is_no_slash
+pub port_chars : (c : List ℕ) (p : PortPart) → port_part_of c ≡ Some p → list_all is_no_slash c ≡ true
+unfolding port_part_of is_no_slash
 port_chars [] p e = refl
 port_chars (x ∷ c) p e = grind (arith, common_steps, bytes_eq-Decides c (codes "*"), weaker is_ascii_digit is_no_slash digit_no_slash c)
 
@@ -149,14 +149,14 @@ unfolding is_scheme_char is_label_char is_host_char
 no_scheme_within [] r h e = e
 no_scheme_within (x ∷ b) r h e = grind (arith, common_steps, no_scheme_within b r)
 
-no_scheme_after : (c d : List ℕ) (p : PortPart) (q : PathPart) → port_of c ≡ Some p → path_of d ≡ Some q → starts_with nat_eq (back is_scheme_char (c ++ d)) (codes "://") ≡ false
-unfolding port_of is_scheme_char is_label_char
+no_scheme_after : (c d : List ℕ) (p : PortPart) (q : PathPart) → port_part_of c ≡ Some p → path_part_of d ≡ Some q → starts_with nat_eq (back is_scheme_char (c ++ d)) (codes "://") ≡ false
+unfolding port_part_of is_scheme_char is_label_char
 no_scheme_after [] [] p q e k = refl
 no_scheme_after [] (x ∷ d) p q e k = rw (path_slash x d q k) refl
 no_scheme_after (x ∷ []) d p q e k = grind (arith, common_steps)
 no_scheme_after (x ∷ y ∷ c) d p q e k = grind (arith, common_steps, bytes_eq-Decides (y ∷ c) (codes "*"))
 
-pub authority_again : (scheme : Option (List ℕ)) (b c d : List ℕ) (h : HostPart) (p : PortPart) (q : PathPart) → host_of b ≡ Some h → port_of c ≡ Some p → path_of d ≡ Some q
+pub authority_again : (scheme : Option (List ℕ)) (b c d : List ℕ) (h : HostPart) (p : PortPart) (q : PathPart) → host_part_of b ≡ Some h → port_part_of c ≡ Some p → path_part_of d ≡ Some q
     → authority scheme (b ++ (c ++ d)) ≡ Some (source.Hosted scheme h p q)
 unfolding authority
 authority_again scheme b c d h p q eb ec ed =
@@ -182,10 +182,10 @@ host_again token (Some scheme) h p q (a, b, c, d, e, (letters, ea, good, lowered
 
 -- and back
 pub authority_takes : (scheme : Option (List ℕ)) (text : List ℕ) (s : Source) → authority scheme text ≡ Some s
-    → (h : HostPart) × (p : PortPart) × (q : PathPart) × (s ≡ source.Hosted scheme h p q) × (host_of (front is_host_char text) ≡ Some h)
-    × (port_of (front is_no_slash (back is_host_char text)) ≡ Some p) × (path_of (back is_no_slash (back is_host_char text)) ≡ Some q)
+    → (h : HostPart) × (p : PortPart) × (q : PathPart) × (s ≡ source.Hosted scheme h p q) × (host_part_of (front is_host_char text) ≡ Some h)
+    × (port_part_of (front is_no_slash (back is_host_char text)) ≡ Some p) × (path_part_of (back is_no_slash (back is_host_char text)) ≡ Some q)
 unfolding authority
-authority_takes scheme text s e = go (host_of (front is_host_char text)) (port_of (front is_no_slash (back is_host_char text))) (path_of (back is_no_slash (back is_host_char text))) e where
+authority_takes scheme text s e = go (host_part_of (front is_host_char text)) (port_part_of (front is_no_slash (back is_host_char text))) (path_part_of (back is_no_slash (back is_host_char text))) e where
   go : (h : Option HostPart) (p : Option PortPart) (q : Option PathPart)
       → option_and_then (λ name. option_and_then (λ number_part. option_map (λ path_part. source.Hosted scheme name number_part path_part) q) p) h ≡ Some s
       → (h' : HostPart) × (p' : PortPart) × (q' : PathPart) × (s ≡ source.Hosted scheme h' p' q') × (h ≡ Some h') × (p ≡ Some p') × (q ≡ Some q')

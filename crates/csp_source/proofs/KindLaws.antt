@@ -5,7 +5,7 @@ use Rattle.std.specs.Char.{to_ascii_lowercase}
 use Rattle.std.specs.Option.{option_map}
 use Rattle.std.proofs.lemmas.Grind.{common_steps}
 use Rattle.csp_model.specs.Ascii.{lower}
-use Rattle.csp_model.specs.Grammar.{IsKind, IsQuoted, keyword_text, algorithm_text, is_scheme_char, is_label_char, is_name, host_of}
+use Rattle.csp_model.specs.Grammar.{IsKind, IsQuoted, keyword_text, algorithm_text, is_scheme_char, is_label_char, is_name, host_part_of}
 use Rattle.csp_model.specs.Reading.{first_of, kind_of, scheme_source, host_source, keyword_source, nonce_source, hash_source, quoted_value, authority, is_host_char}
 use Rattle.csp_model.specs.declared.source.Algorithm.{Algorithm}
 use Rattle.csp_model.specs.declared.source.Algorithm.TheVariants.{Sha256, Sha384, Sha512}
@@ -26,7 +26,7 @@ no_scheme_quoted [] = refl
 no_scheme_quoted (c ∷ rest) = grind (arith, common_steps)
 
 no_host_quoted : (rest : List ℕ) → host_source (39 ∷ rest) ≡ None
-unfolding host_source authority is_scheme_char is_label_char is_host_char host_of is_name
+unfolding host_source authority is_scheme_char is_label_char is_host_char host_part_of is_name
 no_host_quoted rest = refl
 
 apostrophe : (c : ℕ) → to_ascii_lowercase c ≡ 39 → c ≡ 39

@@ -10,7 +10,7 @@ use Rattle.std.proofs.lemmas.List.{map-append}
 use Rattle.std.proofs.lemmas.Slice.Eq.{bytes_eq-Decides}
 use Rattle.std.proofs.lemmas.Str.Ascii.{lowercase-lowercase}
 use Rattle.csp_model.specs.Ascii.{lower, split_at, without_final}
-use Rattle.csp_model.specs.Grammar.{is_scheme_char, is_scheme, is_label_char, is_label, is_name, host_of}
+use Rattle.csp_model.specs.Grammar.{is_scheme_char, is_scheme, is_label_char, is_label, is_name, host_part_of}
 use Rattle.csp_model.specs.declared.source.HostPart.{HostPart}
 use Rattle.csp_model.specs.declared.source.HostPart.TheVariants as host
 use Rattle.csp_source.specs.Spelling.{host_spelling}
@@ -126,28 +126,28 @@ no_star_dot s h = elim (bool_view (starts_with nat_eq s (codes "*."))) [
   | inr other ↦ other
 ]
 
-exact_host : (s : List ℕ) → is_name s ≡ true → host_of s ≡ Some (host.Exact (lower s))
-unfolding host_of
+exact_host : (s : List ℕ) → is_name s ≡ true → host_part_of s ≡ Some (host.Exact (lower s))
+unfolding host_part_of
 exact_host s h = rw (no_star s h, no_star_dot s h, h) refl
 
-under_host : (s : List ℕ) → is_name s ≡ true → host_of (codes "*." ++ s) ≡ Some (host.Under (lower s))
-unfolding host_of
+under_host : (s : List ℕ) → is_name s ≡ true → host_part_of (codes "*." ++ s) ≡ Some (host.Under (lower s))
+unfolding host_part_of
 under_host s h = rw h refl
 
-spelt_under : (s : List ℕ) → is_name s ≡ true → host_of (codes "*." ++ lower s) ≡ Some (host.Under (lower s))
+spelt_under : (s : List ℕ) → is_name s ≡ true → host_part_of (codes "*." ++ lower s) ≡ Some (host.Under (lower s))
 spelt_under s h = under_host (lower s) (is_name-lower s h) ∙ ap (λ x. Some (host.Under x)) (lower-lower s)
 
-spelt_exact : (s : List ℕ) → is_name s ≡ true → host_of (lower s) ≡ Some (host.Exact (lower s))
+spelt_exact : (s : List ℕ) → is_name s ≡ true → host_part_of (lower s) ≡ Some (host.Exact (lower s))
 spelt_exact s h = exact_host (lower s) (is_name-lower s h) ∙ ap (λ x. Some (host.Exact x)) (lower-lower s)
 
-any_host : host_of (codes "*") ≡ Some host.Any
-unfolding host_of
+any_host : host_part_of (codes "*") ≡ Some host.Any
+unfolding host_part_of
 any_host = refl
 
-pub host_spelt : (text : List ℕ) (name : HostPart) → host_of text ≡ Some name → host_of (host_spelling name) ≡ Some name
-unfolding host_of
+pub host_spelt : (text : List ℕ) (name : HostPart) → host_part_of text ≡ Some name → host_part_of (host_spelling name) ≡ Some name
+unfolding host_part_of
 host_spelt text name e =
-    let Spelt : HostPart → Type 0 = λ part. host_of (host_spelling part) ≡ Some part in
+    let Spelt : HostPart → Type 0 = λ part. host_part_of (host_spelling part) ≡ Some part in
     let exact = if is_name text then Some (host.Exact (lower text)) else None in
     let under = if starts_with nat_eq text (codes "*.") && is_name (drop 2 text) then Some (host.Under (lower (drop 2 text))) else exact in
     elim (chosen (bytes_eq text (codes "*")) (Some host.Any) under name e) [

@@ -9,7 +9,7 @@ use Rattle.std.proofs.lemmas.Fmt.{decimal_by_steps}
 use Rattle.std.proofs.lemmas.List.Folds.{list_all-append}
 use Rattle.std.proofs.lemmas.List.Sums.{fold_push}
 use Rattle.std.proofs.lemmas.Slice.Eq.{bytes_eq-Decides}
-use Rattle.csp_model.specs.Grammar.{are_digits, number, port_numbered, port_of}
+use Rattle.csp_model.specs.Grammar.{are_digits, decimal_value, port_numbered, port_part_of}
 use Rattle.csp_model.specs.declared.source.PortPart.{PortPart}
 use Rattle.csp_model.specs.declared.source.PortPart.TheVariants as port
 use Rattle.csp_source.specs.Spelling.{port_spelling}
@@ -18,7 +18,7 @@ use Rattle.csp_source.proofs.HostLaws.{chosen}
 -- the digits spell the number
 record Spells (n : ℕ) (digits : List ℕ) : Type 0 where
   good : are_digits digits ≡ true
-  value : number digits ≡ n
+  value : decimal_value digits ≡ n
 
 digit_is : (d : ℕ) → d < 10 → is_ascii_digit (48 + d) ≡ true
 digit_is d h = grind (arith, nat_tests)
@@ -27,7 +27,7 @@ are_digits_push : (digits : List ℕ) (c : ℕ) → are_digits digits ≡ true �
 are_digits_push [] c h k = absurd (false≢true h)
 are_digits_push (d ∷ digits) c h k = grind (arith, common_steps, nat_tests, list_all-append is_ascii_digit digits (c ∷ []))
 
-number_push : (digits : List ℕ) (c : ℕ) → number (digits ++ c ∷ []) ≡ 10 * number digits + (c - 48)
+number_push : (digits : List ℕ) (c : ℕ) → decimal_value (digits ++ c ∷ []) ≡ 10 * decimal_value digits + (c - 48)
 number_push digits c = fold_push (λ n d. 10 * n + (d - 48)) 0 digits c
 
 one_digit : (n : ℕ) → n < 10 → Spells n ((48 + n) ∷ [])
@@ -51,26 +51,26 @@ no_star digits h = go (bytes_eq digits (codes "*")) refl where
   go true is = absurd (false≢true (sym (ap are_digits ((bytes_eq-Decides digits (codes "*")).0 is)) ∙ h))
   go false is = refl
 
-numbered : (digits : List ℕ) → are_digits digits ≡ true → port_of (58 ∷ digits) ≡ Some (port_numbered (number digits))
-unfolding port_of
+numbered : (digits : List ℕ) → are_digits digits ≡ true → port_part_of (58 ∷ digits) ≡ Some (port_numbered (decimal_value digits))
+unfolding port_part_of
 numbered digits h = rw (no_star digits h, h) refl
 
-number_spelt : (n : ℕ) → n < 65536 → port_of (58 ∷ decimal n) ≡ Some (port.Number n)
+number_spelt : (n : ℕ) → n < 65536 → port_part_of (58 ∷ decimal n) ≡ Some (port.Number n)
 number_spelt n h =
     let spells = decimal_spells n (omega arith) in
     let small : nat_lt n 65536 ≡ true = grind (arith, nat_tests) in
     numbered (decimal n) spells.good ∙ ap (λ m. Some (port_numbered m)) spells.value ∙ ap (λ b. Some (cond b (port.Number n) port.TooLarge)) small
 
-large_spelt : port_of (codes ":65536") ≡ Some port.TooLarge
-unfolding port_of
+large_spelt : port_part_of (codes ":65536") ≡ Some port.TooLarge
+unfolding port_part_of
 large_spelt = refl
 
-any_spelt : port_of (codes ":*") ≡ Some port.Any
-unfolding port_of
+any_spelt : port_part_of (codes ":*") ≡ Some port.Any
+unfolding port_part_of
 any_spelt = refl
 
-absent_spelt : port_of [] ≡ Some port.Absent
-unfolding port_of
+absent_spelt : port_part_of [] ≡ Some port.Absent
+unfolding port_part_of
 absent_spelt = refl
 
 -- the number of a port is below 65,536
@@ -80,23 +80,23 @@ small_numbered m n e = go (nat_lt m 65536) refl e where
   go true is e = let same : m ≡ n = cc in let below : m < 65536 = grind (arith, nat_tests) in omega arith
   go false is e = cc
 
-small_port : (text : List ℕ) (n : ℕ) → port_of text ≡ Some (port.Number n) → n < 65536
-unfolding port_of
+small_port : (text : List ℕ) (n : ℕ) → port_part_of text ≡ Some (port.Number n) → n < 65536
+unfolding port_part_of
 small_port [] n e = cc
 small_port (c ∷ text) n e =
-    let behind = if bytes_eq text (codes "*") then Some port.Any else if are_digits text then Some (port_numbered (number text)) else None in
+    let behind = if bytes_eq text (codes "*") then Some port.Any else if are_digits text then Some (port_numbered (decimal_value text)) else None in
     elim (chosen (c == 58) behind None (port.Number n) e) [
-      | inl one ↦ elim (chosen (bytes_eq text (codes "*")) (Some port.Any) (if are_digits text then Some (port_numbered (number text)) else None) (port.Number n) one.1) [
+      | inl one ↦ elim (chosen (bytes_eq text (codes "*")) (Some port.Any) (if are_digits text then Some (port_numbered (decimal_value text)) else None) (port.Number n) one.1) [
         | inl two ↦ cc
-        | inr three ↦ elim (chosen (are_digits text) (Some (port_numbered (number text))) None (port.Number n) three.1) [
-          | inl four ↦ let is : port_numbered (number text) ≡ port.Number n = cc in small_numbered (number text) n is
+        | inr three ↦ elim (chosen (are_digits text) (Some (port_numbered (decimal_value text))) None (port.Number n) three.1) [
+          | inl four ↦ let is : port_numbered (decimal_value text) ≡ port.Number n = cc in small_numbered (decimal_value text) n is
           | inr five ↦ cc
         ]
       ]
       | inr two ↦ cc
     ]
 
-pub port_spelt : (text : List ℕ) (p : PortPart) → port_of text ≡ Some p → port_of (port_spelling p) ≡ Some p
+pub port_spelt : (text : List ℕ) (p : PortPart) → port_part_of text ≡ Some p → port_part_of (port_spelling p) ≡ Some p
 port_spelt text port.Absent e = absent_spelt
 port_spelt text port.Any e = any_spelt
 port_spelt text (port.Number n) e = number_spelt n (small_port text n e)

@@ -5,7 +5,7 @@ use Rattle.std.specs.List.{list_all}
 use Rattle.std.specs.Option.{option_and_then}
 use Rattle.std.proofs.lemmas.Grind.{common_steps}
 use Rattle.csp_model.specs.Ascii.{lower, ends_in, without_last}
-use Rattle.csp_model.specs.Grammar.{is_scheme_char, is_scheme, is_label_char, host_of, port_of, IsSchemeSource}
+use Rattle.csp_model.specs.Grammar.{is_scheme_char, is_scheme, is_label_char, host_part_of, port_part_of, IsSchemeSource}
 use Rattle.csp_model.specs.Reading.{front, back, is_host_char, is_no_slash, authority, host_source, scheme_source}
 use Rattle.csp_model.specs.declared.source.Source.{Source}
 use Rattle.csp_model.specs.declared.source.Source.TheVariants as source
@@ -29,8 +29,8 @@ scheme_takes token s e =
     ]
 
 -- behind a host no port begins in what is left of a scheme and ":"
-no_port : (letters : List ℕ) → list_all is_scheme_char letters ≡ true → port_of (front is_no_slash (back is_host_char (letters ++ codes ":"))) ≡ None
-unfolding is_scheme_char is_label_char is_host_char is_no_slash port_of
+no_port : (letters : List ℕ) → list_all is_scheme_char letters ≡ true → port_part_of (front is_no_slash (back is_host_char (letters ++ codes ":"))) ≡ None
+unfolding is_scheme_char is_label_char is_host_char is_no_slash port_part_of
 no_port [] h = refl
 no_port (x ∷ letters) h = grind (arith, common_steps, no_port letters)
 
@@ -38,9 +38,9 @@ none_then : {A B : Type 0} (f : A → Option B) (o : Option A) → ((a : A) → 
 none_then f None h = refl
 none_then f (Some a) h = h a
 
-pub authority_none : (scheme : Option (List ℕ)) (text : List ℕ) → port_of (front is_no_slash (back is_host_char text)) ≡ None → authority scheme text ≡ None
+pub authority_none : (scheme : Option (List ℕ)) (text : List ℕ) → port_part_of (front is_no_slash (back is_host_char text)) ≡ None → authority scheme text ≡ None
 unfolding authority
-authority_none scheme text e = none_then _ (host_of (front is_host_char text)) (λ name. rw e refl)
+authority_none scheme text e = none_then _ (host_part_of (front is_host_char text)) (λ name. rw e refl)
 
 -- a scheme and ":" is no host-source
 pub no_host : (token scheme : List ℕ) → IsSchemeSource token scheme → host_source token ≡ None

@@ -13,7 +13,7 @@ use Rattle.percent_encoding.specs.Percent.{percent_encode, percent_encode_byte, 
 use Rattle.percent_encoding.proofs.AsciiSetLemmas.{ascii_from_kept}
 use Rattle.percent_encoding.proofs.PercentLemmas.{IsByte, All-percent_decode, percent_encode-nil, percent_encode_escaped, percent_encode_kept, percent_encode_nonempty, length-percent_decode}
 use Rattle.csp_model.specs.Ascii.{split_at, is_nonempty, is_ascii_text, ends_in, without_last}
-use Rattle.csp_model.specs.Grammar.{is_path_char, is_segment, are_segments, path_of}
+use Rattle.csp_model.specs.Grammar.{is_path_char, is_segment, are_segments, path_part_of}
 use Rattle.csp_model.specs.Paths.{path_text}
 use Rattle.csp_model.specs.declared.source.PathPart.{PathPart}
 use Rattle.csp_model.specs.declared.source.PathPart.TheVariants as path
@@ -141,8 +141,8 @@ ends_slash text =
 path_from : List (List ℕ) → Option PathPart
 path_from parts = if are_segments parts then Some (if last_empty parts then path.Prefix (without_last (map percent_decode parts)) else path.Exact (map percent_decode parts)) else None
 
-path_is : (text : List ℕ) → path_of (47 ∷ text) ≡ path_from (split_at 47 text)
-unfolding path_of path_from
+path_is : (text : List ℕ) → path_part_of (47 ∷ text) ≡ path_from (split_at 47 text)
+unfolding path_part_of path_from
 path_is text = rw (ends_slash text) refl
 
 decoded_nonempty : (s : List ℕ) → is_nonempty (percent_decode s) ≡ is_nonempty s
@@ -212,9 +212,9 @@ spelling_is s parts q e =
       | inr two ↦ cc
     ]
 
-spelt_parts : (s : List ℕ) (parts : List (List ℕ)) (q : PathPart) → All (All IsByte) (s ∷ parts) → path_from (s ∷ parts) ≡ Some q → path_of (path_spelling q) ≡ Some q
+spelt_parts : (s : List ℕ) (parts : List (List ℕ)) (q : PathPart) → All (All IsByte) (s ∷ parts) → path_from (s ∷ parts) ≡ Some q → path_part_of (path_spelling q) ≡ Some q
 spelt_parts s parts q bytes e =
-    ap path_of (spelling_is s parts q e) ∙ path_is (percent_encode ESCAPED (percent_decode s) ++ path_text (map percent_decode parts))
+    ap path_part_of (spelling_is s parts q e) ∙ path_is (percent_encode ESCAPED (percent_decode s) ++ path_text (map percent_decode parts))
     ∙ ap path_from (split_at-path_text (percent_decode s) (map percent_decode parts)) ∙ path_again (s ∷ parts) q bytes e
 
 onto_bytes : (c : ℕ) (parts : List (List ℕ)) → IsByte c → All (All IsByte) parts → All (All IsByte) (onto_first c parts)
@@ -230,22 +230,22 @@ split_bytes : (text : List ℕ) → is_ascii_text text ≡ true → All (All IsB
 split_bytes [] h = All-cons (All IsByte) [] [] (All-nil IsByte) (All-nil (All IsByte))
 split_bytes (c ∷ text) h = let small : c < 256 = grind (arith, h) in bytes_by (c == 47) c (split_at 47 text) small (split_bytes text (grind (arith, h)))
 
-behind_slash : (text : List ℕ) (q : PathPart) → is_ascii_text text ≡ true → path_of (47 ∷ text) ≡ Some q → path_of (path_spelling q) ≡ Some q
+behind_slash : (text : List ℕ) (q : PathPart) → is_ascii_text text ≡ true → path_part_of (47 ∷ text) ≡ Some q → path_part_of (path_spelling q) ≡ Some q
 behind_slash text q ascii e =
     let (s, parts, is) = first_part (λ b. b == 47) text in
     spelt_parts s parts q (subst (All (All IsByte)) is (split_bytes text ascii)) (sym (ap path_from is) ∙ sym (path_is text) ∙ e)
 
-absent_spelt : path_of [] ≡ Some path.Absent
-unfolding path_of
+absent_spelt : path_part_of [] ≡ Some path.Absent
+unfolding path_part_of
 absent_spelt = refl
 
-absent_is : (q : PathPart) → path_of [] ≡ Some q → path.Absent ≡ q
-unfolding path_of
+absent_is : (q : PathPart) → path_part_of [] ≡ Some q → path.Absent ≡ q
+unfolding path_part_of
 absent_is q e = cc
 
-pub path_spelt : (text : List ℕ) (q : PathPart) → is_ascii_text text ≡ true → path_of text ≡ Some q → path_of (path_spelling q) ≡ Some q
-path_spelt [] q ascii e = let Spelt : PathPart → Type 0 = λ part. path_of (path_spelling part) ≡ Some part in subst Spelt (absent_is q e) absent_spelt
+pub path_spelt : (text : List ℕ) (q : PathPart) → is_ascii_text text ≡ true → path_part_of text ≡ Some q → path_part_of (path_spelling q) ≡ Some q
+path_spelt [] q ascii e = let Spelt : PathPart → Type 0 = λ part. path_part_of (path_spelling part) ≡ Some part in subst Spelt (absent_is q e) absent_spelt
 path_spelt (c ∷ text) q ascii e =
     let slash = path_slash c text q e in
     let rest : is_ascii_text text ≡ true = grind (arith, ascii) in
-    behind_slash text q rest (sym (ap (λ x. path_of (x ∷ text)) slash) ∙ e)
+    behind_slash text q rest (sym (ap (λ x. path_part_of (x ∷ text)) slash) ∙ e)

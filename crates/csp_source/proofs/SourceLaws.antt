@@ -4,7 +4,7 @@ use Rattle.std.specs.Prelude.{codes, ◌≢◌, bytes_eq, unwrap_or}
 use Rattle.std.proofs.lemmas.Bool.{false≢true}
 use Rattle.std.proofs.lemmas.Slice.Eq.{bytes_eq-Decides}
 use Rattle.csp_model.specs.Grammar.{IsKind, IsSource}
-use Rattle.csp_model.specs.Grammar.{is_scheme_char, is_label_char, host_of, port_of, path_of}
+use Rattle.csp_model.specs.Grammar.{is_scheme_char, is_label_char, host_part_of, port_part_of, path_part_of}
 use Rattle.csp_model.specs.Reading.{kind_of, source_of, scheme_source, host_source, authority, is_host_char, is_no_slash}
 use Rattle.csp_model.specs.declared.source.HostPart.TheVariants as host
 use Rattle.csp_model.specs.declared.source.PortPart.TheVariants as port
@@ -52,7 +52,7 @@ source_found token s apart found = go (bytes_eq token (codes "*")) refl where
   go false is = rw found refl
 
 star_kind : kind_of (codes "*") ≡ Some (source.Hosted None host.Any port.Absent path.Absent)
-unfolding kind_of scheme_source host_source authority is_host_char is_no_slash is_scheme_char is_label_char host_of port_of path_of
+unfolding kind_of scheme_source host_source authority is_host_char is_no_slash is_scheme_char is_label_char host_part_of port_part_of path_part_of
 star_kind = refl
 
 -- a kind that isn't the host-source that "*" would be

@@ -4,7 +4,7 @@ use Rattle.std.specs.Prelude.{codes, ◌≢◌, ◌==◌, bytes_eq, nat_lt, if�
 use Rattle.std.specs.List.{starts_with}
 use Rattle.std.proofs.lemmas.Slice.Eq.{bytes_eq-Decides}
 use Rattle.csp_model.specs.Ascii.{lower, is_ascii_text, ends_in, without_last, split_at}
-use Rattle.csp_model.specs.Grammar.{IsSource, IsHostSource, IsSchemePart, keyword_text, algorithm_text, is_scheme_char, is_label_char, is_name, host_of, are_digits, number, port_numbered, port_of, are_segments, pieces_of, path_of}
+use Rattle.csp_model.specs.Grammar.{IsSource, IsHostSource, IsSchemePart, keyword_text, algorithm_text, is_scheme_char, is_label_char, is_name, host_part_of, are_digits, decimal_value, port_numbered, port_part_of, are_segments, pieces_of, path_part_of}
 use Rattle.csp_model.specs.Reading.{source_of, host_source, authority, is_host_char, is_no_slash}
 use Rattle.csp_model.specs.declared.source.Algorithm.{Algorithm}
 use Rattle.csp_model.specs.declared.source.Algorithm.TheVariants.{Sha256, Sha384, Sha512}
@@ -68,8 +68,8 @@ hash_word_spelt Sha512 = refl
 
 -- ---- "*" alone is no host-source
 
-any_is : (text : List ℕ) → host_of text ≡ Some host.Any → text ≡ codes "*"
-unfolding host_of
+any_is : (text : List ℕ) → host_part_of text ≡ Some host.Any → text ≡ codes "*"
+unfolding host_part_of
 any_is text e =
     let exact = if is_name text then Some (host.Exact (lower text)) else None in
     let under = if starts_with nat_eq text (codes "*.") && is_name (drop 2 text) then Some (host.Under (lower (drop 2 text))) else exact in
@@ -88,16 +88,16 @@ numbered_not_absent n e = go (nat_lt n 65536) e where
   go true e = cc
   go false e = cc
 
-no_port_is : (text : List ℕ) → port_of text ≡ Some port.Absent → text ≡ []
-unfolding port_of
+no_port_is : (text : List ℕ) → port_part_of text ≡ Some port.Absent → text ≡ []
+unfolding port_part_of
 no_port_is [] e = refl
 no_port_is (c ∷ text) e =
-    let numbered = if are_digits text then Some (port_numbered (number text)) else None in
+    let numbered = if are_digits text then Some (port_numbered (decimal_value text)) else None in
     elim (chosen (c == 58) (if bytes_eq text (codes "*") then Some port.Any else numbered) None port.Absent e) [
       | inl one ↦ elim (chosen (bytes_eq text (codes "*")) (Some port.Any) numbered port.Absent one.1) [
         | inl two ↦ cc
-        | inr three ↦ elim (chosen (are_digits text) (Some (port_numbered (number text))) None port.Absent three.1) [
-          | inl four ↦ absurd (numbered_not_absent (number text) (cc four.1))
+        | inr three ↦ elim (chosen (are_digits text) (Some (port_numbered (decimal_value text))) None port.Absent three.1) [
+          | inl four ↦ absurd (numbered_not_absent (decimal_value text) (cc four.1))
           | inr five ↦ cc
         ]
       ]
@@ -108,8 +108,8 @@ path_not_absent : (b : Bool) (x y : List (List ℕ)) → cond b (path.Prefix x) 
 path_not_absent true x y e = cc
 path_not_absent false x y e = cc
 
-no_path_is : (text : List ℕ) → path_of text ≡ Some path.Absent → text ≡ []
-unfolding path_of
+no_path_is : (text : List ℕ) → path_part_of text ≡ Some path.Absent → text ≡ []
+unfolding path_part_of
 no_path_is [] e = refl
 no_path_is (c ∷ text) e =
     let made = if ends_in 47 (c ∷ text) then path.Prefix (without_last (pieces_of text)) else path.Exact (pieces_of text) in
@@ -126,7 +126,7 @@ star_is token (a, b, c, d, e, sa, eb, ec, ed) =
     e ∙ rw (sa, b', c', d') refl
 
 star_source : host_source (codes "*") ≡ Some (source.Hosted None host.Any port.Absent path.Absent)
-unfolding host_source authority is_host_char is_no_slash is_scheme_char is_label_char host_of port_of path_of
+unfolding host_source authority is_host_char is_no_slash is_scheme_char is_label_char host_part_of port_part_of path_part_of
 star_source = refl
 
 -- a spelling is "*" only where the token was

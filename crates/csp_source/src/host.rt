@@ -2,7 +2,7 @@
 ghost use Rattle.std.specs.Prelude.{◌≡◌, ◌≤◌, length, take, drop, IfOk, IsTrue};
 ghost use Rattle.std.specs.List.{list_all};
 ghost use Rattle.csp_model.specs.Ascii.{is_ascii_text, split_at};
-ghost use Rattle.csp_model.specs.Grammar.{is_label_char, is_label, is_name, host_of};
+ghost use Rattle.csp_model.specs.Grammar.{is_label_char, is_label, is_name, host_part_of};
 ghost use Rattle.csp_model.specs.Reading.{front, back, is_host_char};
 
 use crate::texts::without_final;
@@ -63,10 +63,10 @@ pub(crate) fn host_len(text: &[u8]) -> usize
 }
 
 /// The host that the text is.
-#[tactic(auto, unfolding(csp_model::specs::Grammar::host_of))]
-pub(crate) fn host_of(alloc: Global, text: &[u8]) -> Result<Option<HostPart>, Memory>
+#[tactic(auto, unfolding(csp_model::specs::Grammar::host_part_of))]
+pub(crate) fn host_part_of(alloc: Global, text: &[u8]) -> Result<Option<HostPart>, Memory>
     requires { IsTrue (is_ascii_text text.now) }
-    ensures { IfOk result (λ found. found ≡ host_of text.now) }
+    ensures { IfOk result (λ found. found ≡ host_part_of text.now) }
 {
     if text == b"*".as_slice() {
         return Ok(Some(HostPart::Any));

@@ -3,9 +3,9 @@ ghost use Rattle.std.specs.Prelude.{◌≡◌, ◌≤◌, length, take, drop, If
 ghost use Rattle.csp_model.specs.Ascii.{is_ascii_text, lower};
 ghost use Rattle.csp_model.specs.Reading.{front, back, is_no_slash, authority, host_source};
 
-use crate::host::{host_len, host_of};
-use crate::path::{is_path, path_of};
-use crate::port::port_of;
+use crate::host::{host_len, host_part_of};
+use crate::path::{is_path, path_part_of};
+use crate::port::port_part_of;
 use crate::scheme::scheme_len;
 use csp_model::{Memory, Source, Text, is_scheme};
 use std::alloc::Global;
@@ -51,16 +51,16 @@ fn authority(alloc: Global, letters: Option<&[u8]>, text: &[u8]) -> Result<Optio
 {
     let (name, rest) = text.split_at(host_len(text));
     let (number, pieces) = rest.split_at(len_to_slash(rest));
-    let Some(port) = port_of(number) else {
+    let Some(port) = port_part_of(number) else {
         return Ok(None);
     };
     if !is_path(pieces) {
         return Ok(None);
     }
-    let Some(host) = host_of(alloc, name)? else {
+    let Some(host) = host_part_of(alloc, name)? else {
         return Ok(None);
     };
-    let path = path_of(alloc, pieces)?;
+    let path = path_part_of(alloc, pieces)?;
     let scheme = lower_scheme(alloc, letters)?;
     Ok(Some(Source::Hosted {
         scheme,

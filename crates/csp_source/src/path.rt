@@ -2,7 +2,7 @@
 ghost use Rattle.std.specs.Prelude.{◌≡◌, Some, IfOk, IsTrue, is_some};
 ghost use Rattle.std.specs.List.{list_all};
 ghost use Rattle.csp_model.specs.Ascii.{split_at};
-ghost use Rattle.csp_model.specs.Grammar.{is_path_char, begins_hex_pair, is_segment, are_segments, path_of};
+ghost use Rattle.csp_model.specs.Grammar.{is_path_char, begins_hex_pair, is_segment, are_segments, path_part_of};
 
 use csp_model::{List, Memory, PathPart, pieces_of};
 use std::alloc::Global;
@@ -59,9 +59,9 @@ fn are_segments(text: &[u8]) -> bool
 }
 
 /// The text is no path at all, or a good one.
-#[tactic(auto, unfolding(csp_model::specs::Grammar::path_of))]
+#[tactic(auto, unfolding(csp_model::specs::Grammar::path_part_of))]
 pub(crate) fn is_path(text: &[u8]) -> bool
-    ensures { result ≡ is_some (path_of text.now) }
+    ensures { result ≡ is_some (path_part_of text.now) }
 {
     match text.split_first() {
         None => true,
@@ -71,10 +71,10 @@ pub(crate) fn is_path(text: &[u8]) -> bool
 }
 
 /// The path that the text is. The empty piece behind a last slash is left out.
-#[tactic(auto, unfolding(csp_model::specs::Grammar::path_of))]
-pub(crate) fn path_of(alloc: Global, text: &[u8]) -> Result<PathPart, Memory>
-    requires { IsTrue (is_some (path_of text.now)) }
-    ensures { IfOk result (λ made. path_of text.now ≡ Some made) }
+#[tactic(auto, unfolding(csp_model::specs::Grammar::path_part_of))]
+pub(crate) fn path_part_of(alloc: Global, text: &[u8]) -> Result<PathPart, Memory>
+    requires { IsTrue (is_some (path_part_of text.now)) }
+    ensures { IfOk result (λ made. path_part_of text.now ≡ Some made) }
 {
     match text.split_first() {
         None => Ok(PathPart::Absent),

@@ -1,14 +1,14 @@
 //! The port of a host-source.
 ghost use Rattle.std.specs.Prelude.{◌≡◌, IsTrue};
-ghost use Rattle.csp_model.specs.Grammar.{are_digits, number, port_numbered, port_of};
+ghost use Rattle.csp_model.specs.Grammar.{are_digits, decimal_value, port_numbered, port_part_of};
 
-use csp_model::{PortPart, are_digits, number};
+use csp_model::{PortPart, are_digits, decimal_value};
 
 fn port_numbered(digits: &[u8]) -> PortPart
     requires { IsTrue (are_digits digits.now) }
-    ensures { result ≡ port_numbered (number digits.now) }
+    ensures { result ≡ port_numbered (decimal_value digits.now) }
 {
-    let n = number(digits);
+    let n = decimal_value(digits);
     if n < 65536 {
         PortPart::Number(n as u16)
     } else {
@@ -17,9 +17,9 @@ fn port_numbered(digits: &[u8]) -> PortPart
 }
 
 /// The port that the text is: none, or a colon and a number or `*`.
-#[tactic(auto, unfolding(csp_model::specs::Grammar::port_of))]
-pub(crate) fn port_of(text: &[u8]) -> Option<PortPart>
-    ensures { result ≡ port_of text.now }
+#[tactic(auto, unfolding(csp_model::specs::Grammar::port_part_of))]
+pub(crate) fn port_part_of(text: &[u8]) -> Option<PortPart>
+    ensures { result ≡ port_part_of text.now }
 {
     match text.split_first() {
         None => Some(PortPart::Absent),

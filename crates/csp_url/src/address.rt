@@ -4,12 +4,12 @@ ghost use Rattle.std.specs.List.{list_all};
 ghost use Rattle.csp_model.specs.Ascii.{split_at};
 ghost use Rattle.csp_model.specs.Validity as validity;
 
-use csp_model::{are_digits, number};
+use csp_model::{are_digits, decimal_value};
 
 fn is_octet(part: &[u8]) -> bool
     ensures { result ≡ validity.is_octet part.now }
 {
-    are_digits(part) && number(part) < 256 && (part.len() < 2 || part[0] != b'0')
+    are_digits(part) && decimal_value(part) < 256 && (part.len() < 2 || part[0] != b'0')
 }
 
 fn are_octets(text: &[u8]) -> bool

@@ -1,0 +1,39 @@
+-- When two values of the types here are one.
+use Rattle.std.specs.Prelude.{ℕ, ◌==◌, ◌&&◌, Bool, true, false, Option, Some, None}
+use Rattle.std.specs.Str.{bytes_eq}
+use Rattle.csp_model.specs.declared.source.Algorithm.{Algorithm}
+use Rattle.csp_model.specs.declared.source.Algorithm.TheVariants.{Sha256, Sha384, Sha512}
+use Rattle.csp_model.specs.declared.source.Hash.{Hash}
+use Rattle.csp_model.specs.declared.source.Keyword.{Keyword}
+use Rattle.csp_model.specs.declared.source.Keyword.TheVariants as keyword
+use Rattle.csp_model.specs.declared.url.Host.{Host}
+use Rattle.csp_model.specs.declared.url.Host.TheVariants.{Domain, Address}
+
+abbrev pub same_host : Host → Host → Bool
+same_host (Domain a) (Domain b) = bytes_eq a b
+same_host (Address a) (Address b) = bytes_eq a b
+same_host a b = false
+
+abbrev pub same_port : Option ℕ → Option ℕ → Bool
+same_port None None = true
+same_port (Some m) (Some n) = m == n
+same_port m n = false
+
+abbrev pub same_algorithm : Algorithm → Algorithm → Bool
+same_algorithm Sha256 Sha256 = true
+same_algorithm Sha384 Sha384 = true
+same_algorithm Sha512 Sha512 = true
+same_algorithm a b = false
+
+abbrev pub same_hash : Hash → Hash → Bool
+same_hash g h = same_algorithm g.algorithm h.algorithm && bytes_eq g.value h.value
+
+abbrev pub same_keyword : Keyword → Keyword → Bool
+same_keyword keyword.SelfOrigin keyword.SelfOrigin = true
+same_keyword keyword.UnsafeInline keyword.UnsafeInline = true
+same_keyword keyword.UnsafeEval keyword.UnsafeEval = true
+same_keyword keyword.WasmUnsafeEval keyword.WasmUnsafeEval = true
+same_keyword keyword.StrictDynamic keyword.StrictDynamic = true
+same_keyword keyword.UnsafeHashes keyword.UnsafeHashes = true
+same_keyword keyword.ReportSample keyword.ReportSample = true
+same_keyword a b = false
