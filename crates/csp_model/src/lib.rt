@@ -16,7 +16,7 @@ mod text;
 mod url;
 mod verdict;
 
-pub use check::{Capability, Check, CheckPart, Digest, Digests, Group, InlineKind};
+pub use check::{Capability, Check, CheckPart, Digest, Digests, FetchRule, Group, InlineKind};
 pub use copies::Duplicate;
 pub use ends::{begins_with, goes_beyond, is_subdomain};
 pub use grammar::{are_digits, decimal_value, is_scheme, is_scheme_char};
