@@ -1,4 +1,5 @@
--- Whether a policy allows inline code and style, string compilation and WebAssembly, as tests. They say what `Inline` says.
+-- Whether a policy allows inline code and style, string compilation and WebAssembly, as tests. They say what
+-- `Inline` says.
 use Rattle.std.specs.Prelude.{ℕ, Bool, not, ◌&&◌, ◌||◌, List}
 use Rattle.std.specs.List.{list_any}
 use Rattle.csp_model.specs.Names.{inline_directive}
@@ -28,11 +29,13 @@ sources_allow_inline which nonce digests sources =
 
 abbrev pub inline_allows : Policy → InlineKind → List ℕ → Digests → Bool
 inline_allows policy which nonce digests =
-    where_governed policy (inline_directive which) (λ g. sources_allow_inline which nonce digests g.directive.sources)
+    where_governed policy (inline_directive which) (λ g.
+    sources_allow_inline which nonce digests g.directive.sources)
 
 abbrev pub eval_allows : Policy → Bool
 eval_allows policy = where_governed policy ScriptSrc (λ g. has_keyword keyword.UnsafeEval g.directive.sources)
 
 abbrev pub wasm_allows : Policy → Bool
 wasm_allows policy = where_governed policy ScriptSrc (λ g.
-    has_keyword keyword.UnsafeEval g.directive.sources || has_keyword keyword.WasmUnsafeEval g.directive.sources)
+    has_keyword keyword.UnsafeEval g.directive.sources
+    || has_keyword keyword.WasmUnsafeEval g.directive.sources)

@@ -28,7 +28,8 @@ use Rattle.csp_model.specs.declared.source.Keyword.TheVariants as keyword
 
 abbrev pub scheme_matches : List ℕ → List ℕ → Bool
 scheme_matches part scheme =
-    bytes_eq part scheme || list_any (λ (pair : List ℕ × List ℕ). bytes_eq pair.0 part && bytes_eq pair.1 scheme) upgrades
+    bytes_eq part scheme
+    || list_any (λ (pair : List ℕ × List ℕ). bytes_eq pair.0 part && bytes_eq pair.1 scheme) upgrades
 
 abbrev pub is_domain_host : Host → Bool
 is_domain_host (Domain text) = true
@@ -71,7 +72,8 @@ self_matches self there = false
 
 abbrev pub host_source_matches : Option (List ℕ) → HostPart → PortPart → PathPart → Origin → Url → Bool → Bool
 host_source_matches scheme_part host_part port_part path_part self (url.Plain scheme) redirected = false
-host_source_matches scheme_part host_part port_part path_part self (url.Hosted scheme host port path) redirected =
+host_source_matches scheme_part host_part port_part path_part self
+    (url.Hosted scheme host port path) redirected =
     own_scheme_matches scheme_part self (scheme_text scheme) && (host_matches host_part host
     && (port_matches port_part port scheme && (redirected || path_matches path_part path)))
 
@@ -83,7 +85,8 @@ matches source.Star self there redirected = is_network_scheme (url_scheme there)
 matches (source.SchemeOnly scheme) self there redirected = scheme_matches scheme (url_scheme there)
 matches (source.Hosted scheme host port path) self there redirected =
     host_source_matches scheme host port path self there redirected
-matches (source.Word word) self there redirected = same_keyword word keyword.SelfOrigin && self_matches self there
+matches (source.Word word) self there redirected =
+    same_keyword word keyword.SelfOrigin && self_matches self there
 matches (source.Nonce value) self there redirected = false
 matches (source.Digest hash) self there redirected = false
 matches (source.Other token) self there redirected = false

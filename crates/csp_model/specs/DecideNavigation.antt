@@ -1,5 +1,5 @@
--- Whether a policy allows base URLs, forms, ancestors and what a sandbox takes away, as tests. They say what `Navigation`
--- says.
+-- Whether a policy allows base URLs, forms, ancestors and what a sandbox takes away, as tests. They say what
+-- `Navigation` says.
 use Rattle.std.specs.Prelude.{ℕ, Bool, true, false, ◌&&◌, ◌||◌, List}
 use Rattle.std.specs.List.{list_any}
 use Rattle.std.specs.Str.{bytes_eq}
@@ -48,4 +48,5 @@ capability_allows policy capability =
 abbrev pub worker_start_allows : Policy → Bool
 worker_start_allows policy =
     is_report policy.disposition
-    || where_governed policy Sandbox (λ g. grants g.directive.tokens Scripts && grants g.directive.tokens SameOrigin)
+    || where_governed policy Sandbox (λ g.
+    grants g.directive.tokens Scripts && grants g.directive.tokens SameOrigin)

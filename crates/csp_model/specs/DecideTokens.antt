@@ -1,4 +1,5 @@
--- Whether keywords, nonces, integrity metadata and digests match a source list, as tests. They say what `Tokens` says.
+-- Whether keywords, nonces, integrity metadata and digests match a source list, as tests. They say what
+-- `Tokens` says.
 use Rattle.std.specs.Prelude.{ℕ, Bool, false, ◌&&◌, List}
 use Rattle.std.specs.List.{list_any, list_all}
 use Rattle.std.specs.Str.{bytes_eq}
@@ -32,7 +33,8 @@ is_hash hash (source.Digest other) = same_hash other hash
 is_hash hash s = false
 
 abbrev pub integrity_matches : List Hash → List Source → Bool
-integrity_matches integrity sources = is_nonempty integrity && list_all (λ h. list_any (is_hash h) sources) integrity
+integrity_matches integrity sources =
+    is_nonempty integrity && list_all (λ h. list_any (is_hash h) sources) integrity
 
 -- a hash-source that stands for one of these digests
 abbrev pub is_hash_of : Digests → Source → Bool

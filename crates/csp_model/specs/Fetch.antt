@@ -43,8 +43,8 @@ DynamicOrListed sources parser_inserted Listed =
     (HasKeyword keyword.StrictDynamic sources × (parser_inserted ≡ false))
     ⊎ ((¬ HasKeyword keyword.StrictDynamic sources) × Listed)
 
--- a governing list allows the fetch, where Listed says that the list matches its URL; the script check is 6.7.1.1: a
--- nonce allows, or integrity, or else 'strict-dynamic' or the list decides
+-- a governing list allows the fetch, where Listed says that the list matches its URL; the script check is
+-- 6.7.1.1: a nonce allows, or integrity, or else 'strict-dynamic' or the list decides
 abbrev pub SourcesAllow : FetchRule → List Source → List ℕ → List Hash → Bool → Type 0 → Type 0
 SourcesAllow rule.Script sources nonce integrity parser_inserted Listed =
     NonceMatches nonce sources

@@ -64,7 +64,8 @@ is_named name d = bytes_eq d.name (name_text name)
 
 -- the first directive of a name
 unfoldable pub governor_named : List Directive → Name → Option Governor
-governor_named directives name = option_map (λ d. record { name = name; directive = d }) (find (is_named name) directives)
+governor_named directives name =
+    option_map (λ d. record { name = name; directive = d }) (find (is_named name) directives)
 
 -- what governs: of the first name that the policy has the first directive, and no other is looked at
 abbrev pub governor : Policy → Name → Option Governor

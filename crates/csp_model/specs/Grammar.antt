@@ -1,5 +1,5 @@
--- The grammar of source expressions (Content Security Policy Level 3, section 2.3.1; RFC 3986, sections 2 and 3):
--- which texts are a source of which kind, each text built from its parts.
+-- The grammar of source expressions (Content Security Policy Level 3, section 2.3.1; RFC 3986, sections 2 and
+-- 3): which texts are a source of which kind, each text built from its parts.
 use Rattle.std.specs.Prelude.{◌≡◌, ◌≢◌, ℕ, ◌+◌, ◌-◌, ◌*◌, Bool, true, false, ◌&&◌, ◌||◌, nat_lt, nat_eq, ◌==◌, if◌then◌else◌, List, [], ◌∷◌, ◌++◌, map, drop, Option, Some, None, IsTrue, codes}
 use Rattle.std.specs.List.{list_all, list_any, fold, starts_with}
 use Rattle.std.specs.Str.{bytes_eq}
@@ -43,7 +43,8 @@ is_name text = list_all is_label (split_at dot (without_final dot text))
 unfoldable pub host_part_of : List ℕ → Option HostPart
 host_part_of text =
     if bytes_eq text (codes "*") then Some host.Any
-    else if starts_with nat_eq text (codes "*.") && is_name (drop 2 text) then Some (host.Under (lower (drop 2 text)))
+    else if starts_with nat_eq text (codes "*.") && is_name (drop 2 text)
+    then Some (host.Under (lower (drop 2 text)))
     else if is_name text then Some (host.Exact (lower text))
     else None
 
@@ -99,23 +100,27 @@ unfoldable pub path_part_of : List ℕ → Option PathPart
 path_part_of [] = Some path.Absent
 path_part_of (c ∷ text) =
     if (c == slash) && are_segments (split_at slash text)
-    then Some (if ends_in slash (c ∷ text) then path.Prefix (without_last (pieces_of text)) else path.Exact (pieces_of text))
+    then Some (if ends_in slash (c ∷ text) then path.Prefix (without_last (pieces_of text))
+    else path.Exact (pieces_of text))
     else None
 
 -- nothing, or a scheme and "://"
 abbrev pub IsSchemePart : List ℕ → Option (List ℕ) → Type 0
 IsSchemePart text None = text ≡ []
-IsSchemePart text (Some scheme) = (letters : List ℕ) × (text ≡ letters ++ codes "://") × IsTrue (is_scheme letters) × (scheme ≡ lower letters)
+IsSchemePart text (Some scheme) = (letters : List ℕ) × (text ≡ letters ++ codes "://")
+    × IsTrue (is_scheme letters) × (scheme ≡ lower letters)
 
 -- host-source = [ scheme-part "://" ] host-part [ ":" port-part ] [ path-part ]
 abbrev pub IsHostSource : List ℕ → Option (List ℕ) → HostPart → PortPart → PathPart → Type 0
-IsHostSource token scheme_part host_part port_part path_part = (a b c d : List ℕ) × (token ≡ a ++ (b ++ (c ++ d)))
+IsHostSource token scheme_part host_part port_part path_part =
+    (a b c d : List ℕ) × (token ≡ a ++ (b ++ (c ++ d)))
     × IsSchemePart a scheme_part × (host_part_of b ≡ Some host_part) × (port_part_of c ≡ Some port_part)
     × (path_part_of d ≡ Some path_part)
 
 -- scheme-source = scheme-part ":"
 abbrev pub IsSchemeSource : List ℕ → List ℕ → Type 0
-IsSchemeSource token scheme = (letters : List ℕ) × (token ≡ letters ++ codes ":") × IsTrue (is_scheme letters) × (scheme ≡ lower letters)
+IsSchemeSource token scheme = (letters : List ℕ) × (token ≡ letters ++ codes ":")
+    × IsTrue (is_scheme letters) × (scheme ≡ lower letters)
 
 -- keyword-source; its letters may be of either case
 abbrev pub keyword_text : Keyword → List ℕ
@@ -139,7 +144,8 @@ is_base64_value text = is_nonempty (without_padding text) && list_all is_base64_
 
 -- a word, whose letters may be of either case, a base64-value and "'"
 abbrev pub IsQuoted : List ℕ → List ℕ → List ℕ → Type 0
-IsQuoted word token value = (letters : List ℕ) × (token ≡ letters ++ (value ++ codes "'")) × (lower letters ≡ word) × IsTrue (is_base64_value value)
+IsQuoted word token value = (letters : List ℕ) × (token ≡ letters ++ (value ++ codes "'"))
+    × (lower letters ≡ word) × IsTrue (is_base64_value value)
 
 -- an algorithm as it is written
 abbrev pub algorithm_text : Algorithm → List ℕ
@@ -165,7 +171,8 @@ IsKind token (source.Word word) = lower token ≡ keyword_text word
 -- nonce-source = "'nonce-" base64-value "'"
 IsKind token (source.Nonce value) = IsQuoted (codes "'nonce-") token value
 -- hash-source = "'" hash-algorithm "-" base64-value "'"
-IsKind token (source.Digest hash) = IsQuoted (quote ∷ algorithm_text hash.algorithm ++ codes "-") token hash.value
+IsKind token (source.Digest hash) =
+    IsQuoted (quote ∷ algorithm_text hash.algorithm ++ codes "-") token hash.value
 IsKind token (source.Other text) = ⊥
 
 -- what a token is: of a kind, or else nothing that matches

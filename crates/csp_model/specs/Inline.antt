@@ -1,5 +1,5 @@
--- When a policy allows inline code and style, string compilation and WebAssembly (Content Security Policy Level 3,
--- sections 4.2.3, 4.3, 4.4 and 6.7.3).
+-- When a policy allows inline code and style, string compilation and WebAssembly (Content Security Policy
+-- Level 3, sections 4.2.3, 4.3, 4.4 and 6.7.3).
 use Rattle.std.specs.Prelude.{◌≡◌, ◌≢◌, ℕ, Bool, true, false, List, [], ◌++◌, Option, None, Some, find, Any, IsTrue, codes, ◌⊎◌}
 use Rattle.std.specs.List.{list_any}
 use Rattle.std.specs.Option.{option_map}
@@ -42,9 +42,11 @@ is_nonce_or_hash (source.Nonce value) = true
 is_nonce_or_hash (source.Digest hash) = true
 is_nonce_or_hash (source.Other token) = false
 
--- all inline of the kind is allowed (6.7.3.2): 'unsafe-inline' acts where no nonce, hash or 'strict-dynamic' takes its place
+-- all inline of the kind is allowed (6.7.3.2): 'unsafe-inline' acts where no nonce, hash or 'strict-dynamic'
+-- takes its place
 abbrev pub AllowsAllInline : InlineKind → List Source → Type 0
-AllowsAllInline which sources = HasKeyword keyword.UnsafeInline sources × (list_any is_nonce_or_hash sources ≡ false)
+AllowsAllInline which sources =
+    HasKeyword keyword.UnsafeInline sources × (list_any is_nonce_or_hash sources ≡ false)
     × (IsTrue (is_script_kind which) → ¬ HasKeyword keyword.StrictDynamic sources)
 
 -- a hash counts for elements, and with 'unsafe-hashes' for attributes and navigations too
@@ -61,7 +63,8 @@ SourcesAllowInline which nonce digests sources =
 -- the policy allows the inline source
 abbrev pub InlineAllows : Policy → InlineKind → List ℕ → Digests → Type 0
 InlineAllows policy which nonce digests =
-    WhereGoverned policy (inline_directive which) (λ g. SourcesAllowInline which nonce digests g.directive.sources)
+    WhereGoverned policy (inline_directive which) (λ g.
+    SourcesAllowInline which nonce digests g.directive.sources)
 
 -- the policy allows string compilation (4.3)
 abbrev pub EvalAllows : Policy → Type 0
@@ -86,7 +89,8 @@ IsSuspect attribute = (Mentions (codes "<script") attribute.0 ⊎ Mentions (code
 -- the value of an element's first attribute "nonce"
 abbrev pub nonce_attribute : List (List ℕ × List ℕ) → Option (List ℕ)
 nonce_attribute attributes =
-    option_map (λ (a : List ℕ × List ℕ). a.1) (find (λ (a : List ℕ × List ℕ). bytes_eq a.0 (codes "nonce")) attributes)
+    option_map (λ (a : List ℕ × List ℕ). a.1)
+    (find (λ (a : List ℕ × List ℕ). bytes_eq a.0 (codes "nonce")) attributes)
 
 -- an element of this tag, with these attributes, and with or without a duplicate one, is nonceable
 abbrev pub IsNonceable : List ℕ → List (List ℕ × List ℕ) → Bool → Type 0

@@ -1,5 +1,5 @@
--- When a source expression matches a URL (Content Security Policy Level 3, section 6.7.2, "URL Matching"; each
--- definition bears the name of its algorithm there).
+-- When a source expression matches a URL (Content Security Policy Level 3, section 6.7.2, "URL Matching";
+-- each definition bears the name of its algorithm there).
 use Rattle.std.specs.Prelude.{◌≡◌, ◌≢◌, ℕ, List, [], ◌∷◌, ◌++◌, Option, Some, None, ◌⊎◌, IsTrue, codes, Bool, Any, Contains, ⊤, unwrap_or}
 use Rattle.csp_model.specs.Bytes.{dot}
 use Rattle.csp_model.specs.Paths.{host_text}
@@ -35,8 +35,8 @@ abbrev pub url_scheme : Url → List ℕ
 url_scheme (url.Plain scheme) = scheme
 url_scheme (url.Hosted scheme host port path) = scheme_text scheme
 
--- host-part matches: "*" any domain, a suffix the domains that end in "." and it, and an exact host the one that is
--- printed so, be it a domain or an address
+-- host-part matches: "*" any domain, a suffix the domains that end in "." and it, and an exact host the one
+-- that is printed so, be it a domain or an address
 abbrev pub IsDomainHost : Host → Type 0
 IsDomainHost (Domain text) = ⊤
 IsDomainHost (Address text) = ⊥
@@ -71,7 +71,8 @@ SchemeOrOwn None origin.Opaque P = ⊥
 
 -- 'self' matches the origin's scheme, the secure ones, and ws from http
 abbrev pub SelfScheme : Scheme → Scheme → Type 0
-SelfScheme own scheme = (own ≡ scheme) ⊎ ((scheme ≡ Https) ⊎ ((scheme ≡ Wss) ⊎ ((own ≡ Http) × (scheme ≡ Ws))))
+SelfScheme own scheme =
+    (own ≡ scheme) ⊎ ((scheme ≡ Https) ⊎ ((scheme ≡ Wss) ⊎ ((own ≡ Http) × (scheme ≡ Ws))))
 
 -- 'self' matches
 abbrev pub SelfMatches : Origin → Url → Type 0
@@ -82,9 +83,11 @@ SelfMatches self there = ⊥
 -- a host-source matches; after a redirect its path is not looked at
 abbrev pub HostSourceMatches : Option (List ℕ) → HostPart → PortPart → PathPart → Origin → Url → Bool → Type 0
 HostSourceMatches scheme_part host_part port_part path_part self (url.Plain scheme) redirected = ⊥
-HostSourceMatches scheme_part host_part port_part path_part self (url.Hosted scheme host port path) redirected =
-    SchemeOrOwn scheme_part self (λ part. SchemeMatches part (scheme_text scheme)) × HostMatches host_part host
-    × PortMatches port_part port scheme × (IsTrue redirected ⊎ PathMatches path_part path)
+HostSourceMatches scheme_part host_part port_part path_part self
+    (url.Hosted scheme host port path) redirected =
+    SchemeOrOwn scheme_part self (λ part. SchemeMatches part (scheme_text scheme))
+    × HostMatches host_part host × PortMatches port_part port scheme
+    × (IsTrue redirected ⊎ PathMatches path_part path)
 
 -- "*" matches by the scheme alone
 abbrev pub network_schemes : List (List ℕ)

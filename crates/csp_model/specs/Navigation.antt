@@ -1,5 +1,5 @@
--- When a policy allows base URLs, form submissions, ancestors and what a sandbox takes away (Content Security Policy
--- Level 3, sections 6.3 and 6.4; HTML Standard, section 7.1.5).
+-- When a policy allows base URLs, form submissions, ancestors and what a sandbox takes away (Content Security
+-- Policy Level 3, sections 6.3 and 6.4; HTML Standard, section 7.1.5).
 use Rattle.std.specs.Prelude.{◌≡◌, ℕ, ◌++◌, false, List, [], ◌∷◌, Any, Contains, codes, ◌⊎◌}
 use Rattle.csp_model.specs.Ascii.{lower}
 use Rattle.csp_model.specs.Names.{capability_text}
@@ -21,7 +21,8 @@ BaseAllows policy there =
 -- form-action (6.4.1), for each hop with its count of redirects
 abbrev pub FormAllows : Policy → Url → ℕ → Type 0
 FormAllows policy there redirects =
-    WhereGoverned policy FormAction (λ g. ListMatches g.directive.sources policy.origin there (is_redirected redirects))
+    WhereGoverned policy FormAction (λ g.
+    ListMatches g.directive.sources policy.origin there (is_redirected redirects))
 
 -- frame-ancestors (6.4.2), for one ancestor
 abbrev pub AncestorAllows : Policy → Url → Type 0
@@ -34,7 +35,8 @@ OpaqueAncestorAllows policy = WhereGoverned policy FrameAncestors (λ g. ⊥)
 
 -- the sandbox tokens that grant a capability
 abbrev pub capability_tokens : Capability → List (List ℕ)
-capability_tokens TopNavigationByUserActivation = codes "allow-top-navigation-by-user-activation" ∷ codes "allow-top-navigation" ∷ []
+capability_tokens TopNavigationByUserActivation =
+    codes "allow-top-navigation-by-user-activation" ∷ codes "allow-top-navigation" ∷ []
 capability_tokens capability = (codes "allow-" ++ capability_text capability) ∷ []
 
 -- one of these tokens grants the capability, in letters of either case
@@ -49,4 +51,5 @@ CapabilityAllows policy capability =
 -- a worker starts only with scripts and same-origin
 abbrev pub WorkerStartAllows : Policy → Type 0
 WorkerStartAllows policy = (policy.disposition ≡ Report)
-    ⊎ WhereGoverned policy Sandbox (λ g. Grants g.directive.tokens Scripts × Grants g.directive.tokens SameOrigin)
+    ⊎ WhereGoverned policy Sandbox (λ g.
+    Grants g.directive.tokens Scripts × Grants g.directive.tokens SameOrigin)

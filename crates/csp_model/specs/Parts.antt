@@ -1,5 +1,5 @@
--- The parts of a check, as far as a policy looks at them: of a URL with a host its host, its port and its path, of any
--- other URL its scheme, and a nonce, integrity metadata and digests.
+-- The parts of a check, as far as a policy looks at them: of a URL with a host its host, its port and its
+-- path, of any other URL its scheme, and a nonce, integrity metadata and digests.
 use Rattle.std.specs.Prelude.{ℕ, Bool, true, false, List, Option, Some, None, is_some}
 use Rattle.csp_model.specs.declared.check.Check.{Check}
 use Rattle.csp_model.specs.declared.check.Check.TheVariants as check

@@ -11,7 +11,7 @@ abbrev pub host_text : Host → List ℕ
 host_text (Domain text) = text
 host_text (Address text) = text
 
--- "/" and the piece for each piece, in which every byte but letters, digits, "-", ".", "_" and "~" is "%" and two
--- upper-case hexadecimal digits
+-- "/" and the piece for each piece, in which every byte but letters, digits, "-", ".", "_" and "~" is "%" and
+-- two upper-case hexadecimal digits
 abbrev pub path_text : List (List ℕ) → List ℕ
 path_text pieces = flat_map (λ piece. slash ∷ percent_encode ESCAPED piece) pieces

@@ -1,5 +1,5 @@
--- The policies that a header block stands for (Content Security Policy Level 3, sections 2.2, 3.1 to 3.3 and 4;
--- RFC 9110, sections 5.1, 5.5 and 5.6.2).
+-- The policies that a header block stands for (Content Security Policy Level 3, sections 2.2, 3.1 to 3.3 and
+-- 4; RFC 9110, sections 5.1, 5.5 and 5.6.2).
 use Rattle.std.specs.Prelude.{◌≡◌, ◌≢◌, ℕ, ◌≤◌, Bool, true, false, not, ◌==◌, if◌then◌else◌, List, [], ◌∷◌, map, filter, fold, position, take, drop, codes, length, max, nat_lt, nat_le, nat_eq, ◌+◌, ◌&&◌, ◌||◌, Option, Some, None, All, AllPairs}
 use Rattle.std.specs.List.{filter_map, list_any, list_all, flat_map, sum_by, position_or_len, starts_with, join_by, join_with_byte}
 use Rattle.std.specs.Str.Lines.{strip_carriage_return}
@@ -124,14 +124,16 @@ policies_in origin disposition value =
 -- a meta element may carry the directive
 abbrev pub is_for_meta : Directive → Bool
 is_for_meta d =
-    not (list_any (λ name. bytes_eq d.name name) (codes "report-uri" ∷ codes "frame-ancestors" ∷ codes "sandbox" ∷ []))
+    not (list_any (λ name. bytes_eq d.name name)
+    (codes "report-uri" ∷ codes "frame-ancestors" ∷ codes "sandbox" ∷ []))
 
 abbrev pub policies_of : Origin → Line → List Policy
 policies_of origin Skipped = []
 policies_of origin Bad = []
 policies_of origin (Header name value) =
     if bytes_eq (lower name) (codes "content-security-policy") then policies_in origin Enforce value
-    else if bytes_eq (lower name) (codes "content-security-policy-report-only") then policies_in origin Report value
+    else if bytes_eq (lower name) (codes "content-security-policy-report-only")
+    then policies_in origin Report value
     else if bytes_eq (lower name) (codes "meta-content-security-policy")
     then policy_with origin Enforce true (filter is_for_meta (directives_of value))
     else []

@@ -51,8 +51,9 @@ scheme_source token =
 
 -- the keywords that act
 abbrev pub keywords : List Keyword
-keywords = keyword.SelfOrigin ∷ keyword.UnsafeInline ∷ keyword.UnsafeEval ∷ keyword.WasmUnsafeEval ∷ keyword.StrictDynamic
-    ∷ keyword.UnsafeHashes ∷ keyword.ReportSample ∷ []
+keywords =
+    keyword.SelfOrigin ∷ keyword.UnsafeInline ∷ keyword.UnsafeEval ∷ keyword.WasmUnsafeEval
+    ∷ keyword.StrictDynamic ∷ keyword.UnsafeHashes ∷ keyword.ReportSample ∷ []
 
 unfoldable pub keyword_source : List ℕ → Option Source
 keyword_source token =
@@ -87,4 +88,5 @@ kind_of token = first_of (scheme_source token ∷ host_source token ∷ keyword_
 
 -- what a token stands for
 unfoldable pub source_of : List ℕ → Source
-source_of token = if bytes_eq token (codes "*") then source.Star else unwrap_or (kind_of token) (source.Other token)
+source_of token =
+    if bytes_eq token (codes "*") then source.Star else unwrap_or (kind_of token) (source.Other token)

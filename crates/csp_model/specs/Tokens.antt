@@ -1,5 +1,5 @@
--- Nonces, digests and integrity metadata (Content Security Policy Level 3, sections 6.7.2.3, 6.7.2.4 and 6.7.3.3;
--- Subresource Integrity, section 3.3).
+-- Nonces, digests and integrity metadata (Content Security Policy Level 3, sections 6.7.2.3, 6.7.2.4 and
+-- 6.7.3.3; Subresource Integrity, section 3.3).
 use Rattle.std.specs.Prelude.{◌≡◌, ◌≢◌, ℕ, ◌==◌, if◌then◌else◌, List, [], map, All, Any, Contains}
 use Rattle.base64.specs.GeneralPurpose.{encode_of}
 use Rattle.base64.specs.Engines.{standard}
@@ -23,7 +23,8 @@ NonceMatches nonce sources = (nonce ≢ []) × Contains sources (source.Nonce no
 
 -- integrity metadata matches a source list: it isn't empty, and each of its pairs is a hash-source
 abbrev pub IntegrityMatches : List Hash → List Source → Type 0
-IntegrityMatches integrity sources = (integrity ≢ []) × All (λ h. Contains sources (source.Digest h)) integrity
+IntegrityMatches integrity sources =
+    (integrity ≢ []) × All (λ h. Contains sources (source.Digest h)) integrity
 
 -- the digest of one algorithm
 abbrev pub digest_by : Algorithm → Digests → List ℕ

@@ -1,4 +1,5 @@
--- Which hosts, URLs and origins there are (URL Standard, sections 3.2 to 3.6 and 4.1), as far as a policy looks at them.
+-- Which hosts, URLs and origins there are (URL Standard, sections 3.2 to 3.6 and 4.1), as far as a policy
+-- looks at them.
 use Rattle.std.specs.Prelude.{◌≡◌, ◌≢◌, ℕ, ◌<◌, ◌^◌, ◌==◌, ◌&&◌, ◌||◌, not, nat_lt, nat_le, Bool, List, [], ◌∷◌, length, drop, slice_index, Option, All, IfSome, IsTrue, IsNone, ◌⊎◌, ⊤, codes}
 use Rattle.std.specs.List.{list_all, list_any}
 use Rattle.std.specs.Str.{bytes_eq, IsUtf8}
@@ -23,7 +24,8 @@ use Rattle.csp_model.specs.declared.check.Check.TheVariants as check
 -- a byte that a domain may hold: no control, space, upper-case letter or forbidden domain code point
 unfoldable pub is_domain_byte : ℕ → Bool
 is_domain_byte b =
-    nat_le 33 b && nat_le b 126 && not (is_ascii_uppercase b) && not (list_any (λ c. c == b) (codes "#/:<>?@[\\]^|%"))
+    nat_le 33 b && nat_le b 126 && not (is_ascii_uppercase b)
+    && not (list_any (λ c. c == b) (codes "#/:<>?@[\\]^|%"))
 
 -- the last of some parts
 abbrev pub last_part : List (List ℕ) → List ℕ
@@ -34,7 +36,8 @@ last_part (p ∷ q ∷ ps) = last_part (q ∷ ps)
 -- "0x" and hexadecimal digits, perhaps none
 abbrev pub is_hex_number : List ℕ → Bool
 is_hex_number label =
-    (slice_index label 0 == digit_zero) && (slice_index label 1 == lower_x) && list_all is_ascii_hexdigit (drop 2 label)
+    (slice_index label 0 == digit_zero) && (slice_index label 1 == lower_x)
+    && list_all is_ascii_hexdigit (drop 2 label)
 
 -- the last label, where one "." may stand behind it
 abbrev pub last_label : List ℕ → List ℕ
@@ -49,7 +52,9 @@ is_domain text = is_nonempty text && list_all is_domain_byte text && not (ends_i
 
 -- a decimal number from 0 to 255 without leading zeros
 abbrev pub is_octet : List ℕ → Bool
-is_octet text = are_digits text && nat_lt (decimal_value text) 256 && (nat_lt (length text) 2 || not (slice_index text 0 == digit_zero))
+is_octet text =
+    are_digits text && nat_lt (decimal_value text) 256
+    && (nat_lt (length text) 2 || not (slice_index text 0 == digit_zero))
 
 -- four numbers joined by "."
 unfoldable pub is_four_numbers : List ℕ → Bool
@@ -61,8 +66,8 @@ is_group_char c = (is_ascii_hexdigit c && not (is_ascii_uppercase c)) || c == co
 
 unfoldable pub is_bracketed : List ℕ → Bool
 is_bracketed text =
-    (slice_index text 0 == left_bracket) && ends_in right_bracket text && is_nonempty (without_last (drop 1 text))
-    && list_all is_group_char (without_last (drop 1 text))
+    (slice_index text 0 == left_bracket) && ends_in right_bracket text
+    && is_nonempty (without_last (drop 1 text)) && list_all is_group_char (without_last (drop 1 text))
 
 unfoldable pub is_address : List ℕ → Bool
 is_address text = is_four_numbers text || is_bracketed text
@@ -100,7 +105,8 @@ IsValidOrigin (origin.Tuple scheme host port) =
 
 -- a value as integrity metadata can hold it: a text without ASCII whitespace and "?"
 abbrev pub IsIntegrityValue : List ℕ → Type 0
-IsIntegrityValue value = IsUtf8 value × IsTrue (list_all (λ b. not (is_ascii_whitespace b) && not (b == question_mark)) value)
+IsIntegrityValue value =
+    IsUtf8 value × IsTrue (list_all (λ b. not (is_ascii_whitespace b) && not (b == question_mark)) value)
 
 -- so many bytes
 abbrev pub IsOfSize : ℕ → List ℕ → Type 0
@@ -120,7 +126,8 @@ IsOriginUrl (url.Hosted scheme host port path) = path ≡ [] ∷ []
 -- a check that a page can make
 abbrev pub IsValidCheck : Check → Type 0
 IsValidCheck (check.Fetch group there redirects nonce integrity parser_inserted) =
-    IsValidUrl there × (redirects < 2 ^ 32) × IsUtf8 nonce × All (λ (h : Hash). IsIntegrityValue h.value) integrity
+    IsValidUrl there × (redirects < 2 ^ 32) × IsUtf8 nonce
+    × All (λ (h : Hash). IsIntegrityValue h.value) integrity
 IsValidCheck (check.Inline kind nonce digests) = IsUtf8 nonce × IsValidDigests digests
 IsValidCheck check.Eval = ⊤
 IsValidCheck check.Wasm = ⊤

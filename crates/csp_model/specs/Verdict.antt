@@ -1,4 +1,5 @@
--- What policies and lists of policies answer (Content Security Policy Level 3, sections 4.1.2, 4.2, 5 and 6.3.1.1).
+-- What policies and lists of policies answer (Content Security Policy Level 3, sections 4.1.2, 4.2, 5 and
+-- 6.3.1.1).
 use Rattle.std.specs.Prelude.{ℕ, ◌+◌, Bool, true, false, not, ◌&&◌, ◌||◌, if◌then◌else◌, List, [], ◌∷◌, slice_get, Option, Some, None}
 use Rattle.std.specs.List.{list_any, list_all, flat_map, filter_map, cons_option}
 use Rattle.std.specs.Option.{option_map}
@@ -62,7 +63,8 @@ is_enforce Report = false
 
 -- a list allows a check: each enforced policy does
 abbrev pub list_allows : PolicyList → Check → Bool
-list_allows list asked = list_all (λ (p : Policy). not (is_enforce p.disposition) || allows p asked) list.policies
+list_allows list asked =
+    list_all (λ (p : Policy). not (is_enforce p.disposition) || allows p asked) list.policies
 
 -- a list allows a request: it allows each of its checks
 abbrev pub allows_all : PolicyList → List Check → Bool
@@ -86,11 +88,17 @@ effective_name check.WorkerStart = Sandbox
 -- the item of the policy of this number, where what governs in it doesn't allow the check
 abbrev pub item_by : ℕ → Policy → Check → Governor → Item
 item_by number policy asked g =
-    record { policy = number; disposition = policy.disposition; effective = effective_name asked; governing = g.name }
+    record {
+      policy = number;
+      disposition = policy.disposition;
+      effective = effective_name asked;
+      governing = g.name;
+    }
 
 abbrev pub item_of : ℕ → Policy → Check → Option Item
 item_of number policy asked =
-    if allows policy asked then None else option_map (item_by number policy asked) (governor policy (effective_name asked))
+    if allows policy asked then None
+    else option_map (item_by number policy asked) (governor policy (effective_name asked))
 
 -- the items of policies in order, of which the first has this number
 abbrev pub items_from : ℕ → List Policy → Check → List Item
@@ -170,10 +178,12 @@ violation_of described asked item policy = record {
 abbrev pub check_violations : PolicyList → Described → Check → List Violation
 check_violations list described asked =
     if is_reported asked
-    then filter_map (λ (item : Item). option_map (violation_of described asked item) (slice_get list.policies item.policy))
+    then filter_map (λ (item : Item).
+    option_map (violation_of described asked item) (slice_get list.policies item.policy))
     (items_of list asked)
     else []
 
 -- the violations of a request
 abbrev pub violations_of : PolicyList → Described → List Violation
-violations_of list described = flat_map (check_violations list described) (judged_checks list described.checks)
+violations_of list described =
+    flat_map (check_violations list described) (judged_checks list described.checks)

@@ -1,7 +1,7 @@
 //! What a policy is asked: one check of one request.
 ghost use Rattle.std.specs.Prelude.{◌≡◌, option_copied};
-ghost use Rattle.csp_model.specs.Fetch as fetch;
-ghost use Rattle.csp_model.specs.Names as names;
+ghost use Rattle.csp_model.specs.Fetch.{fetch_rule};
+ghost use Rattle.csp_model.specs.Names.{group_directive, inline_directive, capability_text, capability_named};
 ghost use Rattle.csp_model.specs.Parts as spec;
 
 use crate::list::List;
@@ -28,7 +28,7 @@ pub enum Group {
 impl Group {
     /// The effective directive of the group's fetches (Content Security Policy Level 3, section 6.8.1).
     pub fn directive(self) -> Name
-        ensures { result ≡ names.group_directive self }
+        ensures { result ≡ group_directive self }
     {
         match self {
             Group::Connect => Name::ConnectSrc,
@@ -47,7 +47,7 @@ impl Group {
     /// How a directive of this name decides on the group's fetches, where it governs them. A worker is decided on as a
     /// script where `script-src` governs it (Content Security Policy Level 3, sections 6.1 and 6.7.1).
     pub fn rule(self, governing: Name) -> FetchRule
-        ensures { result ≡ fetch.fetch_rule self governing }
+        ensures { result ≡ fetch_rule self governing }
     {
         match self {
             Group::ScriptElem => FetchRule::Script,
@@ -87,7 +87,7 @@ pub enum InlineKind {
 impl InlineKind {
     /// The effective directive of the kind (Content Security Policy Level 3, section 6.8.2).
     pub fn directive(self) -> Name
-        ensures { result ≡ names.inline_directive self }
+        ensures { result ≡ inline_directive self }
     {
         match self {
             InlineKind::Script | InlineKind::Navigation => Name::ScriptSrcElem,
@@ -118,7 +118,7 @@ pub enum Capability {
 impl Capability {
     /// The capability as it is written, as `same-origin`. Its sandbox token has `allow-` before it.
     pub fn as_str(self) -> &'static str
-        ensures { result.now ≡ names.capability_text self }
+        ensures { result.now ≡ capability_text self }
     {
         match self {
             Capability::Forms => "forms",
@@ -138,7 +138,7 @@ impl Capability {
 
     /// The capability that is so written, in lower case and without `allow-`. None where none is.
     pub fn from_name(name: &str) -> Option<Capability>
-        ensures { result ≡ names.capability_named name.now }
+        ensures { result ≡ capability_named name.now }
     {
         match name {
             "forms" => Some(Capability::Forms),
@@ -263,7 +263,8 @@ impl Check {
         }
     }
 
-    /// Whether the check has a part: of a URL with a host its host, port and path, of any other URL its scheme.
+    /// Whether the check has a part: of a URL with a host its host, port and path, of any other URL its
+    /// scheme.
     pub fn has(&self, part: CheckPart) -> bool
         ensures { result ≡ spec.has_part self.now part }
     {

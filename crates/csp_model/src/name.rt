@@ -1,6 +1,6 @@
 //! The names of the directives that decide checks (Content Security Policy Level 3, section 6).
 ghost use Rattle.std.specs.Prelude.{◌≡◌};
-ghost use Rattle.csp_model.specs.Names as names;
+ghost use Rattle.csp_model.specs.Names as spec;
 
 /// A directive's name that a check can ask for, or that can govern it.
 #[derive(Clone, Copy, Debug, PartialEq, Eq)]
@@ -29,7 +29,7 @@ pub enum Name {
 
 /// The name as it is written, in lower case.
 pub fn name_text(name: Name) -> &'static str
-    ensures { result.now ≡ names.name_text name }
+    ensures { result.now ≡ spec.name_text name }
 {
     match name {
         Name::ConnectSrc => "connect-src",

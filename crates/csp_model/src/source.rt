@@ -1,6 +1,6 @@
 //! Source expressions (Content Security Policy Level 3, section 2.3.1).
 ghost use Rattle.std.specs.Prelude.{◌≡◌};
-ghost use Rattle.csp_model.specs.Grammar.{algorithm_text, algorithm_named};
+ghost use Rattle.csp_model.specs.Grammar as spec;
 
 use crate::list::List;
 use crate::text::{Bytes, Text};
@@ -16,7 +16,7 @@ pub enum Algorithm {
 impl Algorithm {
     /// The algorithm as it is written in lower case, as `sha256`.
     pub fn as_str(self) -> &'static str
-        ensures { result.now ≡ algorithm_text self }
+        ensures { result.now ≡ spec.algorithm_text self }
     {
         match self {
             Algorithm::Sha256 => "sha256",
@@ -27,7 +27,7 @@ impl Algorithm {
 
     /// The algorithm of that name, which is compared byte by byte.
     pub fn from_name(name: &str) -> Option<Algorithm>
-        ensures { result ≡ algorithm_named name.now }
+        ensures { result ≡ spec.algorithm_named name.now }
     {
         match name {
             "sha256" => Some(Algorithm::Sha256),

@@ -5,7 +5,7 @@ ghost use Rattle.std.specs.Cmp.Lexicographic.{pointwise, slice_cmp, nat_list_cmp
 ghost use Rattle.std.specs.Cmp.Rules.{comparing};
 ghost use Rattle.std.specs.Ordering.{nat_cmp};
 ghost use Rattle.std.proofs.Common.{rules};
-ghost use Rattle.csp_model.specs.Ascii.{lower, is_ascii_text};
+ghost use Rattle.csp_model.specs.Ascii as spec;
 
 use crate::memory::Memory;
 use std::alloc::{AllocError, Global};
@@ -38,7 +38,7 @@ impl Text {
 
     /// A copy of ASCII bytes as a text.
     pub fn from_ascii(alloc: Global, ascii: &[u8]) -> Result<Text, Memory>
-        requires { IsTrue (is_ascii_text ascii.now) }
+        requires { IsTrue (spec.is_ascii_text ascii.now) }
         ensures { IfOk result (λ made. made ≡ ascii.now) }
     {
         match str::from_utf8(ascii) {
@@ -49,8 +49,8 @@ impl Text {
 
     /// The text of ASCII bytes, in lower case.
     pub fn from_ascii_lowercase(alloc: Global, ascii: &[u8]) -> Result<Text, Memory>
-        requires { IsTrue (is_ascii_text ascii.now) }
-        ensures { IfOk result (λ made. made ≡ lower ascii.now) }
+        requires { IsTrue (spec.is_ascii_text ascii.now) }
+        ensures { IfOk result (λ made. made ≡ spec.lower ascii.now) }
     {
         match String::from_utf8(lower_bytes(alloc, ascii)?) {
             Ok(text) => Ok(Text { text }),
@@ -84,13 +84,13 @@ impl Text {
 
 /// Whether each byte is below 128, as in a text of ASCII (Infra Standard, section 4.6).
 pub fn is_ascii_text(text: &[u8]) -> bool
-    ensures { result ≡ is_ascii_text text.now }
+    ensures { result ≡ spec.is_ascii_text text.now }
 {
     text.iter().all(|b| *b < 128)
 }
 
 fn lower_bytes(alloc: Global, ascii: &[u8]) -> Result<Vec<u8>, AllocError>
-    ensures { IfOk result (λ made. made.items ≡ lower ascii.now) }
+    ensures { IfOk result (λ made. made.items ≡ spec.lower ascii.now) }
 {
     ascii.iter().map(|b| b.to_ascii_lowercase()).collect(alloc)
 }

@@ -1,7 +1,7 @@
 //! URLs and origins, as far as a policy looks at them (URL Standard, sections 4.1 and 4.7).
 ghost use Rattle.std.specs.Prelude.{◌≡◌};
 ghost use Rattle.csp_model.specs.Paths.{host_text};
-ghost use Rattle.csp_model.specs.Schemes as schemes;
+ghost use Rattle.csp_model.specs.Schemes as spec;
 
 use crate::list::List;
 use crate::text::{Bytes, Text};
@@ -19,7 +19,7 @@ pub enum Scheme {
 impl Scheme {
     /// The scheme as it is written, in lower case and without its colon.
     pub fn as_str(self) -> &'static str
-        ensures { result.now ≡ schemes.scheme_text self }
+        ensures { result.now ≡ spec.scheme_text self }
     {
         match self {
             Scheme::Http => "http",
@@ -32,7 +32,7 @@ impl Scheme {
 
     /// The scheme of that name, which is compared byte by byte.
     pub fn from_name(name: &str) -> Option<Scheme>
-        ensures { result ≡ schemes.scheme_named name.now }
+        ensures { result ≡ spec.scheme_named name.now }
     {
         match name {
             "http" => Some(Scheme::Http),
@@ -46,7 +46,7 @@ impl Scheme {
 
     /// The port that a URL of the scheme means where it names none (URL Standard, section 4.2).
     pub fn default_port(self) -> u16
-        ensures { result ≡ schemes.default_port self }
+        ensures { result ≡ spec.default_port self }
     {
         match self {
             Scheme::Http | Scheme::Ws => 80,

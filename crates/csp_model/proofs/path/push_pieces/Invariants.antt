@@ -1,6 +1,6 @@
 use Rattle.std.proofs.Common.{◌≡◌, ◌++◌, take, string_bytes}
 use Rattle.csp_model.specs.Paths.{path_text}
-use Rattle.csp_model.proofs.path.push_path.Given as goal
+use Rattle.csp_model.proofs.path.push_pieces.Given as goal
 
 -- the pieces so far stand behind what the text was
 abbrev pub invariant-loop-piece : goal.invariant-loop-piece
