@@ -1,5 +1,5 @@
 //! Worked examples of matching and of fallback, on values made by hand.
-use crate::{governing, governing_directive, governing_name, list_matches, source_matches};
+use crate::{governing, governor, list_matches, source_matches};
 use csp_model::{
     Bytes, Directive, Disposition, Host, HostPart, Keyword, List, Memory, Name, Origin, PathPart,
     Policy, PortPart, Scheme, Source, Text, Url,
@@ -188,9 +188,12 @@ fn addresses(rt: HostRuntime) -> Result<(), Fail> {
     let alloc = rt.alloc();
     let exact = HostPart::Exact(Text::new(alloc, "10.0.0.1")?);
     let there = Host::Address(Text::new(alloc, "10.0.0.1")?);
-    assert!(rt; !host_matches(alloc, exact, there)?);
+    assert!(rt; host_matches(alloc, exact, there)?);
     let there = Host::Address(Text::new(alloc, "10.0.0.1")?);
     assert!(rt; !host_matches(alloc, HostPart::Any, there)?);
+    let under = HostPart::Under(Text::new(alloc, "0.0.1")?);
+    let there = Host::Address(Text::new(alloc, "10.0.0.1")?);
+    assert!(rt; !host_matches(alloc, under, there)?);
     Ok(())
 }
 
@@ -342,9 +345,8 @@ fn fallback(rt: HostRuntime) -> Result<(), Fail> {
     for (names, effective, place, name) in rows {
         let policy = policy(alloc, names)?;
         assert_eq!(rt; governing(&policy, effective), place, "{effective:?}");
-        assert_eq!(rt; governing_name(&policy, effective), name, "{effective:?}");
-        let found = governing_directive(&policy, effective);
-        assert_eq!(rt; found.is_some(), place.is_some(), "{effective:?}");
+        let found = governor(&policy, effective).map(|found| found.name);
+        assert_eq!(rt; found, name, "{effective:?}");
     }
     Ok(())
 }
