@@ -1,0 +1,9 @@
+mod Cases
+mod Fetch
+mod Inline
+mod Lists
+mod Matching
+mod Navigation
+mod OnLiterals
+mod Realistic
+mod Values
