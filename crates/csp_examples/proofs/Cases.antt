@@ -1,9 +1,9 @@
 -- Tables of cases, of which each holds.
-use Rattle.std.proofs.Common.{◌≡◌, Bool, true, false, List, [], ◌∷◌, All, map}
+use Rattle.std.proofs.Common.{◌≡◌, Bool, true, List, [], ◌∷◌, All, map}
 use Rattle.std.specs.Bool.{Decides}
-use Rattle.std.specs.List.{list_any, list_all}
+use Rattle.std.specs.List.{list_all}
 use Rattle.csp_model.specs.Verdict.{verdict_of}
-use Rattle.csp_model.proofs.Deciding.{holds, fails, all_decides, is_false}
+use Rattle.csp_model.proofs.Deciding.{holds, all_decides}
 use Rattle.csp_examples.proofs.Values.{headed}
 use Rattle.std.proofs.lemmas.Bool.Decides.{Decides-not}
 use Rattle.std.proofs.Common.{ℕ, not}

@@ -3,7 +3,7 @@ use Rattle.std.proofs.Common.{refl, ℕ, [], ◌∷◌, true, false, List, Some,
 use Rattle.std.specs.Prelude.{codes}
 use Rattle.csp_examples.proofs.OnLiterals.{verdicts_on_literals}
 use Rattle.csp_examples.proofs.Cases.{case, request, Hold}
-use Rattle.csp_examples.proofs.Values.{at, here, elsewhere, image, script, headed, block, block_at, reported, allowed, allowed_with, blocked_by}
+use Rattle.csp_examples.proofs.Values.{at, here, elsewhere, image, script, headed, block_at, allowed, blocked_by}
 use Rattle.csp_model.specs.declared.check.Check.{Check}
 use Rattle.csp_model.specs.declared.check.Check.TheVariants as check
 use Rattle.csp_model.specs.declared.check.Group.TheVariants as group

@@ -6,7 +6,7 @@ use Rattle.csp_model.specs.DecideMatching.{scheme_matches, host_matches, port_ma
 use Rattle.csp_model.specs.Schemes.{scheme_text}
 use Rattle.csp_model.proofs.MatchingDecided.{scheme_decides, host_decides, port_decides, path_decides, self_decides, matches_decides, list_decides}
 use Rattle.csp_examples.proofs.Cases.{Parts, parted}
-use Rattle.csp_examples.proofs.Values.{own, at, here}
+use Rattle.csp_examples.proofs.Values.{own, at}
 use Rattle.csp_model.specs.declared.url.Scheme.{Scheme}
 use Rattle.csp_model.specs.declared.url.Scheme.TheVariants.{Http, Https, Ws, Wss, Ftp}
 use Rattle.csp_model.specs.declared.url.Host.{Host}

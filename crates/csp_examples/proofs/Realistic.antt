@@ -2,7 +2,7 @@
 use Rattle.std.proofs.Common.{◌≡◌, ◌∙◌, refl, ℕ, [], ◌∷◌, ◌++◌, false, Some, List, map, ap}
 use Rattle.std.specs.Prelude.{codes}
 use Rattle.csp_examples.proofs.OnLiterals.{policies_on_literals, verdicts_on_literals}
-use Rattle.csp_examples.proofs.Values.{own, at, elsewhere, image, script, enforced, reported, allowed, allowed_with, blocked_with, blocked_by, block}
+use Rattle.csp_examples.proofs.Values.{own, at, elsewhere, image, script, enforced, reported, allowed, allowed_with, blocked_with, blocked_by}
 use Rattle.csp_model.specs.Policies.{policies}
 use Rattle.csp_model.specs.Verdict.{verdict_of}
 use Rattle.csp_model.specs.declared.check.Check.{Check}

@@ -8,6 +8,8 @@ use Rattle.csp_model.specs.declared.check.Check.TheVariants as check
 use Rattle.csp_model.specs.declared.check.Digests.{Digests}
 use Rattle.csp_model.specs.declared.check.Group.TheVariants as group
 use Rattle.csp_model.specs.declared.policy.Disposition.TheVariants.{Enforce, Report}
+use Rattle.csp_model.specs.declared.policy.Directive.{Directive}
+use Rattle.csp_model.specs.declared.policy.Policy.{Policy}
 use Rattle.csp_model.specs.declared.policy.PolicyList.{PolicyList}
 use Rattle.csp_model.specs.declared.url.Scheme.{Scheme}
 use Rattle.csp_model.specs.declared.url.Scheme.TheVariants.{Https}
@@ -74,6 +76,10 @@ block bytes = block_at own bytes
 -- those of a header Content-Security-Policy with this value
 abbrev pub headed : List ℕ → PolicyList
 headed value = block (codes "Content-Security-Policy: " ++ (value ++ codes "\n"))
+
+-- an enforced policy of these directives
+abbrev pub policy_with : List Directive → Policy
+policy_with ds = record { disposition = Enforce; meta = false; origin = own; directives = ds }
 
 -- Verdicts
 
