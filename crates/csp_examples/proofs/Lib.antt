@@ -1,0 +1,17 @@
+mod Cases
+mod Fetch
+mod Governing
+mod Grammar
+mod Inclusion
+mod Inline
+mod Lists
+mod Matching
+mod Navigation
+mod Nonces
+mod OnLiterals
+mod Policies
+mod Readable
+mod Realistic
+mod Validity
+mod Values
+mod Violations
