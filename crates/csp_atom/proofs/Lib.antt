@@ -1,4 +1,4 @@
-pub mod Holding
+pub mod HoldingDecided
 pub mod Own
 pub mod Refutes
 pub mod Sound

@@ -6,9 +6,9 @@ use Rattle.std.proofs.lemmas.Grind.{common_steps}
 use Rattle.std.proofs.lemmas.List.Elements.{filter-append, Contains-get_or}
 use Rattle.std.proofs.lemmas.List.Quantifiers.{all_pairs_push}
 use Rattle.csp_model.specs.declared.source.Hash.{Hash}
-use Rattle.csp_atom.specs.Follows.{same_hash}
+use Rattle.csp_model.specs.Same.{same_hash}
 use Rattle.csp_atom.specs.Vocabulary.{distinct}
-use Rattle.csp_atom.proofs.TableTests.{same_hash_Decides}
+use Rattle.csp_model.proofs.SameLaws.{same_hash_decides}
 use Rattle.csp_atom.proofs.VocabularyHashes.{has, has_Decides}
 
 abbrev is_other : Hash → Hash → Bool
@@ -18,9 +18,9 @@ is_other h g = not (same_hash g h)
 has-filter : (h g : Hash) (hs : List Hash) → has (filter (is_other h) hs) g ≡ (is_other h g && has hs g)
 has-filter h g [] = grind (arith, common_steps)
 has-filter h g (x ∷ hs) = elim (same_hash x h) as (λ b. same_hash x h ≡ b → has (filter (is_other h) (x ∷ hs)) g ≡ (is_other h g && has (x ∷ hs) g)) [
-  | true ↦ λ e. let same : same_hash g x ≡ same_hash g h = ap (same_hash g) ((same_hash_Decides x h).0 e) in grind (arith, common_steps, e, same, has-filter h g hs)
+  | true ↦ λ e. let same : same_hash g x ≡ same_hash g h = ap (same_hash g) ((same_hash_decides x h).0 e) in grind (arith, common_steps, e, same, has-filter h g hs)
   | false ↦ λ e. elim (same_hash g x) as (λ b. same_hash g x ≡ b → has (filter (is_other h) (x ∷ hs)) g ≡ (is_other h g && has (x ∷ hs) g)) [
-    | true ↦ λ f. let same : same_hash g h ≡ same_hash x h = ap (λ k. same_hash k h) ((same_hash_Decides g x).0 f) in grind (arith, common_steps, e, f, same)
+    | true ↦ λ f. let same : same_hash g h ≡ same_hash x h = ap (λ k. same_hash k h) ((same_hash_decides g x).0 f) in grind (arith, common_steps, e, f, same)
     | false ↦ λ f. grind (arith, common_steps, e, f, has-filter h g hs)
   ] refl
 ] refl

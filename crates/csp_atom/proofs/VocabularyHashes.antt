@@ -6,11 +6,11 @@ use Rattle.std.proofs.lemmas.Bool.Decides.{Decides-by_or, Decides-like, same_fro
 use Rattle.std.proofs.lemmas.Grind.{common_steps}
 use Rattle.std.proofs.lemmas.List.Elements.{Decides-contains}
 use Rattle.csp_model.specs.declared.source.Hash.{Hash}
-use Rattle.csp_atom.specs.Follows.{same_hash}
-use Rattle.csp_atom.proofs.TableTests.{same_hash_Decides}
+use Rattle.csp_model.specs.Same.{same_hash}
+use Rattle.csp_model.proofs.SameLaws.{same_hash_decides}
 
 pub same_hash_turned : (g h : Hash) → same_hash g h ≡ same_hash h g
-same_hash_turned g h = same_from_decides (same_hash g h) (same_hash h g) (same_hash_Decides g h) (Decides-like (same_hash h g) sym sym (same_hash_Decides h g))
+same_hash_turned g h = same_from_decides (same_hash g h) (same_hash h g) (same_hash_decides g h) (Decides-like (same_hash h g) sym sym (same_hash_decides h g))
 
 -- the hash is in the list
 abbrev pub has : List Hash → Hash → Bool
@@ -19,7 +19,7 @@ has hs g = list_any (same_hash g) hs
 pub has_Decides : (hs : List Hash) (g : Hash) → Decides (has hs g) (Contains hs g)
 has_Decides hs g =
     Decides-contains hs g (has hs g)
-    (Decides-by_or (same_hash g) (λ h. h ≡ g) (λ xs. has xs g) (λ h. Decides-like (same_hash g h) sym sym (same_hash_Decides g h)) refl (λ _ _. refl) hs)
+    (Decides-by_or (same_hash g) (λ h. h ≡ g) (λ xs. has xs g) (λ h. Decides-like (same_hash g h) sym sym (same_hash_decides g h)) refl (λ _ _. refl) hs)
 
 pub has_more : (hs : List Hash) (h g : Hash) → has (hs ++ h ∷ []) g ≡ cond (same_hash g h) true (has hs g)
 has_more [] h g = grind (arith, common_steps)

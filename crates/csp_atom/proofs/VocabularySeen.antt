@@ -8,7 +8,7 @@ use Rattle.csp_model.specs.contracts.source.HashOrd.TheImpl as order
 use Rattle.csp_model.specs.declared.source.Algorithm.{Algorithm}
 use Rattle.csp_model.specs.declared.source.Algorithm.TheVariants.{Sha256, Sha384, Sha512}
 use Rattle.csp_model.specs.declared.source.Hash.{Hash}
-use Rattle.csp_atom.specs.Follows.{same_hash}
+use Rattle.csp_model.specs.Same.{same_hash}
 use Rattle.csp_atom.proofs.VocabularyHashes.{has, has_more, same_hash_turned}
 
 abbrev hash_cmp : Hash → Hash → Ordering
