@@ -1,91 +1,133 @@
--- An atom holds for a check or doesn't: each relation in it is decided by a test.
-use Rattle.std.proofs.Common.{◌≡◌, ◌≢◌, ℕ, ◌==◌, Bool, true, false, not, List, Option, Some, None, MatchOption, Contains, refl, inl, inr, ◌⊎◌}
+-- The tests of `Holding` decide what `Atoms` says, and a literal that is true of a check says what value its atom has.
+use Rattle.std.proofs.Common.{◌≡◌, ◌≢◌, ℕ, ◌==◌, Bool, true, false, not, List, [], Option, Some, None, MatchOption, Contains, IsTrue, refl}
 use Rattle.std.specs.Prelude.{unwrap_or}
 use Rattle.std.specs.Bool.{Decides}
-use Rattle.std.specs.List.{list_any}
 use Rattle.std.specs.Str.{bytes_eq}
-use Rattle.std.proofs.lemmas.Bool.Decides.{Decides-eqb, Decides-not, not_from_Decides}
+use Rattle.std.proofs.lemmas.Bool.{not-true}
+use Rattle.std.proofs.lemmas.Bool.Decides.{Decides-eqb, Decides-not}
 use Rattle.std.proofs.lemmas.Slice.Eq.{bytes_eq-Decides}
-use Rattle.csp_model.proofs.Deciding.{any_decides}
-use Rattle.csp_model.proofs.EndLaws.{beyond_Decides}
-use Rattle.csp_model.specs.Ends.{goes_beyond}
-use Rattle.csp_model.specs.Matching.{HostMatches, PathMatches}
+use Rattle.csp_model.specs.DecideMatching.{is_domain_host, path_matches}
+use Rattle.csp_model.specs.Ends.{is_host_under}
+use Rattle.csp_model.specs.Matching.{IsDomainHost, IsHostUnder, PathMatches}
 use Rattle.csp_model.specs.Parts.{checked_url, checked_nonce, checked_integrity, checked_digests}
+use Rattle.csp_model.specs.Same.{same_host, same_hash}
 use Rattle.csp_model.specs.Schemes.{default_port}
+use Rattle.csp_model.specs.Tokens.{digest_by, algorithm_of, bytes_of}
 use Rattle.csp_model.specs.declared.check.Check.{Check}
+use Rattle.csp_model.specs.declared.check.Check.TheVariants as check
 use Rattle.csp_model.specs.declared.check.Digest.{Digest}
-use Rattle.csp_model.specs.declared.check.Digest.TheVariants.{Sha256, Sha384, Sha512}
-use Rattle.csp_model.specs.declared.check.Digests.{Digests}
 use Rattle.csp_model.specs.declared.source.Hash.{Hash}
-use Rattle.csp_model.specs.declared.source.HostPart.TheVariants as host_part
 use Rattle.csp_model.specs.declared.source.PathPart.TheVariants as path_part
 use Rattle.csp_model.specs.declared.url.Host.{Host}
 use Rattle.csp_model.specs.declared.url.Scheme.{Scheme}
 use Rattle.csp_model.specs.declared.url.Url.{Url}
 use Rattle.csp_model.specs.declared.url.Url.TheVariants as url
+use Rattle.csp_model.proofs.Deciding.{no, any_decides, has_decides}
+use Rattle.csp_model.proofs.MatchingDecided.{domain_host_decides, host_under_decides, path_decides}
+use Rattle.csp_model.proofs.SameLaws.{same_host_decides, same_hash_decides}
 use Rattle.csp_atom.specs.Atoms.{OnHosted, OnPlain, HasDigest, HasOther, Holds}
-use Rattle.csp_atom.specs.Follows.{same_host, is_host_under, is_domain_host, same_path}
+use Rattle.csp_atom.specs.Holding.{on_hosted, on_plain, on_part, has_digest, has_hash, has_other, holds, is_true_of}
 use Rattle.csp_atom.specs.declared.atom.Atom.{Atom}
 use Rattle.csp_atom.specs.declared.atom.Atom.TheVariants.{HostIs, HostUnder, HostDomain, PortIs, PathIs, PathUnder, SchemeIs, NonceIs, IntegrityHas, IntegrityOutside, DigestIs}
-use Rattle.csp_atom.proofs.TableTests.{same_host_Decides, is_host_under_Decides, is_domain_host_Decides, same_path_Decides}
-use Rattle.csp_atom.proofs.VocabularyHashes.{has, has_Decides}
+use Rattle.csp_atom.specs.declared.atom.Literal.{Literal}
 
--- what a test decides is so or isn't
-so_or_not : {P : Type 0} (test : Bool) → Decides test P → P ⊎ (¬ P)
-so_or_not true decided = inl (decided.0 refl)
-so_or_not false decided = inr (not_from_Decides false decided refl)
+-- From the parts of a check to the check
 
-on_hosted : (there : Option Url) (P : Scheme → Host → Option ℕ → List (List ℕ) → Type 0)
-    → ((scheme : Scheme) (name : Host) (port : Option ℕ) (path : List (List ℕ)) → P scheme name port path ⊎ (¬ P scheme name port path))
-    → OnHosted there P ⊎ (¬ OnHosted there P)
-on_hosted (Some (url.Hosted scheme name port path)) P each = each scheme name port path
-on_hosted there P each = inr (λ h. h)
+hosted_decides : (there : Option Url) (test : Scheme → Host → Option ℕ → List (List ℕ) → Bool)
+    (P : Scheme → Host → Option ℕ → List (List ℕ) → Type 0)
+    → ((scheme : Scheme) (host : Host) (port : Option ℕ) (path : List (List ℕ)) → Decides (test scheme host port path) (P scheme host port path))
+    → Decides (on_hosted there test) (OnHosted there P)
+hosted_decides (Some (url.Hosted scheme host port path)) test P each = each scheme host port path
+hosted_decides there test P each = no (λ h. h)
 
-on_plain : (there : Option Url) (P : List ℕ → Type 0) → ((scheme : List ℕ) → P scheme ⊎ (¬ P scheme)) → OnPlain there P ⊎ (¬ OnPlain there P)
-on_plain (Some (url.Plain scheme)) P each = each scheme
-on_plain there P each = inr (λ h. h)
+plain_decides : (there : Option Url) (test : List ℕ → Bool) (P : List ℕ → Type 0)
+    → ((scheme : List ℕ) → Decides (test scheme) (P scheme)) → Decides (on_plain there test) (OnPlain there P)
+plain_decides (Some (url.Plain scheme)) test P each = each scheme
+plain_decides there test P each = no (λ h. h)
 
-on_part : {A : Type 0} (part : Option A) (P : A → Type 0) → ((x : A) → P x ⊎ (¬ P x)) → MatchOption part ⊥ P ⊎ (¬ MatchOption part ⊥ P)
-on_part (Some x) P each = each x
-on_part None P each = inr (λ h. h)
+part_decides : {A : Type 0} (part : Option A) (test : A → Bool) (P : A → Type 0) → ((x : A) → Decides (test x) (P x))
+    → Decides (on_part part test) (MatchOption part ⊥ P)
+part_decides (Some x) test P each = each x
+part_decides None test P each = no (λ h. h)
 
-text_or_not : (text there : List ℕ) → (there ≡ text) ⊎ (there ≢ text)
-text_or_not text there = so_or_not (bytes_eq there text) (bytes_eq-Decides there text)
+-- Hashes
 
-digest_or_not : (digest : Digest) (digests : Digests) → HasDigest digests digest ⊎ (¬ HasDigest digests digest)
-digest_or_not (Sha256 d) digests = text_or_not d digests.sha256
-digest_or_not (Sha384 d) digests = text_or_not d digests.sha384
-digest_or_not (Sha512 d) digests = text_or_not d digests.sha512
+pub has_hash_decides : (hashes : List Hash) (h : Hash) → Decides (has_hash hashes h) (Contains hashes h)
+has_hash_decides hashes h = has_decides (λ g. same_hash g h) h (λ g. same_hash_decides g h) hashes
 
-abbrev has_other : List Hash → List Hash → Bool
-has_other hashes pairs = list_any (λ h. not (has hashes h)) pairs
+pub has_other_decides : (hashes pairs : List Hash) → Decides (has_other hashes pairs) (HasOther hashes pairs)
+has_other_decides hashes pairs =
+    any_decides (λ h. not (has_hash hashes h)) (λ h. ¬ Contains hashes h)
+    (λ h. Decides-not (has_hash hashes h) (has_hash_decides hashes h)) pairs
 
-has_other_Decides : (hashes pairs : List Hash) → Decides (has_other hashes pairs) (HasOther hashes pairs)
-has_other_Decides hashes pairs =
-    any_decides (λ h. not (has hashes h)) (λ h. ¬ Contains hashes h) (λ h. Decides-not (has hashes h) (has_Decides hashes h)) pairs
+-- Atoms
 
-pub holds_or_not : (hashes : List Hash) (asked : Check) (atom : Atom) → Holds hashes asked atom ⊎ (¬ Holds hashes asked atom)
-holds_or_not hashes asked (HostIs name) =
-    on_hosted (checked_url asked) (λ scheme there port path. there ≡ name) (λ scheme there port path. so_or_not (same_host there name) (same_host_Decides there name))
-holds_or_not hashes asked (HostUnder suffix) =
-    on_hosted (checked_url asked) (λ scheme there port path. HostMatches (host_part.Under suffix) there)
-    (λ scheme there port path. so_or_not (is_host_under there suffix) (is_host_under_Decides there suffix))
-holds_or_not hashes asked HostDomain =
-    on_hosted (checked_url asked) (λ scheme there port path. HostMatches host_part.Any there)
-    (λ scheme there port path. so_or_not (is_domain_host there) (is_domain_host_Decides there))
-holds_or_not hashes asked (PortIs n) =
-    on_hosted (checked_url asked) (λ scheme there port path. unwrap_or port (default_port scheme) ≡ n)
-    (λ scheme there port path. so_or_not (unwrap_or port (default_port scheme) == n) (Decides-eqb (unwrap_or port (default_port scheme)) n))
-holds_or_not hashes asked (PathIs pieces) =
-    on_hosted (checked_url asked) (λ scheme there port path. PathMatches (path_part.Exact pieces) path)
-    (λ scheme there port path. so_or_not (same_path pieces path) (same_path_Decides pieces path))
-holds_or_not hashes asked (PathUnder pieces) =
-    on_hosted (checked_url asked) (λ scheme there port path. PathMatches (path_part.Prefix pieces) path)
-    (λ scheme there port path. so_or_not (goes_beyond path pieces) (beyond_Decides path pieces))
-holds_or_not hashes asked (SchemeIs scheme) = on_plain (checked_url asked) (λ plain. plain ≡ scheme) (text_or_not scheme)
-holds_or_not hashes asked (NonceIs value) = on_part (checked_nonce asked) (λ nonce. nonce ≡ value) (text_or_not value)
-holds_or_not hashes asked (IntegrityHas hash) =
-    on_part (checked_integrity asked) (λ pairs. Contains pairs hash) (λ pairs. so_or_not (has pairs hash) (has_Decides pairs hash))
-holds_or_not hashes asked IntegrityOutside =
-    on_part (checked_integrity asked) (HasOther hashes) (λ pairs. so_or_not (has_other hashes pairs) (has_other_Decides hashes pairs))
-holds_or_not hashes asked (DigestIs digest) = on_part (checked_digests asked) (λ digests. HasDigest digests digest) (digest_or_not digest)
+pub holds_decides : (hashes : List Hash) (asked : Check) (atom : Atom) → Decides (holds hashes asked atom) (Holds hashes asked atom)
+holds_decides hashes asked (HostIs host) =
+    hosted_decides (checked_url asked) (λ _ there _ _. same_host there host) (λ _ there _ _. there ≡ host)
+    (λ _ there _ _. same_host_decides there host)
+holds_decides hashes asked (HostUnder suffix) =
+    hosted_decides (checked_url asked) (λ _ there _ _. is_host_under there suffix) (λ _ there _ _. IsHostUnder there suffix)
+    (λ _ there _ _. host_under_decides there suffix)
+holds_decides hashes asked HostDomain =
+    hosted_decides (checked_url asked) (λ _ there _ _. is_domain_host there) (λ _ there _ _. IsDomainHost there)
+    (λ _ there _ _. domain_host_decides there)
+holds_decides hashes asked (PortIs n) =
+    hosted_decides (checked_url asked) (λ scheme _ port _. unwrap_or port (default_port scheme) == n)
+    (λ scheme _ port _. unwrap_or port (default_port scheme) ≡ n)
+    (λ scheme _ port _. Decides-eqb (unwrap_or port (default_port scheme)) n)
+holds_decides hashes asked (PathIs pieces) =
+    hosted_decides (checked_url asked) (λ _ _ _ path. path_matches (path_part.Exact pieces) path)
+    (λ _ _ _ path. PathMatches (path_part.Exact pieces) path) (λ _ _ _ path. path_decides (path_part.Exact pieces) path)
+holds_decides hashes asked (PathUnder pieces) =
+    hosted_decides (checked_url asked) (λ _ _ _ path. path_matches (path_part.Prefix pieces) path)
+    (λ _ _ _ path. PathMatches (path_part.Prefix pieces) path) (λ _ _ _ path. path_decides (path_part.Prefix pieces) path)
+holds_decides hashes asked (SchemeIs scheme) =
+    plain_decides (checked_url asked) (λ there. bytes_eq there scheme) (λ there. there ≡ scheme) (λ there. bytes_eq-Decides there scheme)
+holds_decides hashes asked (NonceIs value) =
+    part_decides (checked_nonce asked) (λ nonce. bytes_eq nonce value) (λ nonce. nonce ≡ value) (λ nonce. bytes_eq-Decides nonce value)
+holds_decides hashes asked (IntegrityHas hash) =
+    part_decides (checked_integrity asked) (λ pairs. has_hash pairs hash) (λ pairs. Contains pairs hash) (λ pairs. has_hash_decides pairs hash)
+holds_decides hashes asked IntegrityOutside =
+    part_decides (checked_integrity asked) (has_other hashes) (HasOther hashes) (has_other_decides hashes)
+holds_decides hashes asked (DigestIs digest) =
+    part_decides (checked_digests asked) (λ digests. has_digest digests digest) (λ digests. HasDigest digests digest)
+    (λ digests. bytes_eq-Decides (digest_by (algorithm_of digest) digests) (bytes_of digest))
+
+-- An atom on no other part than a URL holds by the URL alone
+
+hosted_again : (there : Option Url) (test : Scheme → Host → Option ℕ → List (List ℕ) → Bool)
+    → on_hosted there test ≡ on_part there (λ u. on_hosted (Some u) test)
+hosted_again (Some there) test = refl
+hosted_again None test = refl
+
+plain_again : (there : Option Url) (test : List ℕ → Bool) → on_plain there test ≡ on_part there (λ u. on_plain (Some u) test)
+plain_again (Some there) test = refl
+plain_again None test = refl
+
+pub holds_by_url : (hashes : List Hash) (asked : Check) (atom : Atom) → ((value : List ℕ) → atom ≢ NonceIs value)
+    → ((hash : Hash) → atom ≢ IntegrityHas hash) → atom ≢ IntegrityOutside → ((digest : Digest) → atom ≢ DigestIs digest)
+    → holds hashes asked atom ≡ on_part (checked_url asked) (λ there. holds [] (check.Base there) atom)
+holds_by_url hashes asked (HostIs host) a b c d = hosted_again (checked_url asked) _
+holds_by_url hashes asked (HostUnder suffix) a b c d = hosted_again (checked_url asked) _
+holds_by_url hashes asked HostDomain a b c d = hosted_again (checked_url asked) _
+holds_by_url hashes asked (PortIs n) a b c d = hosted_again (checked_url asked) _
+holds_by_url hashes asked (PathIs pieces) a b c d = hosted_again (checked_url asked) _
+holds_by_url hashes asked (PathUnder pieces) a b c d = hosted_again (checked_url asked) _
+holds_by_url hashes asked (SchemeIs scheme) a b c d = plain_again (checked_url asked) _
+holds_by_url hashes asked (NonceIs value) a b c d = absurd (a value refl)
+holds_by_url hashes asked (IntegrityHas hash) a b c d = absurd (b hash refl)
+holds_by_url hashes asked IntegrityOutside a b c d = absurd (c refl)
+holds_by_url hashes asked (DigestIs digest) a b c d = absurd (d digest refl)
+
+-- Literals
+
+by_sign : (hashes : List Hash) (asked : Check) (atom : Atom) (sign : Bool)
+    → IsTrue (is_true_of hashes asked (record { atom = atom; positive = sign })) → holds hashes asked atom ≡ sign
+by_sign hashes asked atom true h = h
+by_sign hashes asked atom false h = not-true (holds hashes asked atom) h
+
+-- the atom of a literal that is true has the value that its sign says
+pub value_of_true : (hashes : List Hash) (asked : Check) (literal : Literal)
+    → IsTrue (is_true_of hashes asked literal) → holds hashes asked literal.atom ≡ literal.positive
+value_of_true hashes asked literal h = by_sign hashes asked literal.atom literal.positive h

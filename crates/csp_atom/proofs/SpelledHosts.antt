@@ -8,7 +8,7 @@ use Rattle.std.proofs.lemmas.Bool.Decides.{nat_tests}
 use Rattle.std.proofs.lemmas.List.Elements.{All-nil, All-cons, All-append}
 use Rattle.std.proofs.lemmas.List.Splits.{join_with_byte-slice_split}
 use Rattle.csp_model.specs.Ascii.{is_nonempty, ends_in, without_last, without_final, split_at}
-use Rattle.csp_model.specs.Grammar.{are_digits, number}
+use Rattle.csp_model.specs.Grammar.{are_digits, decimal_value}
 use Rattle.csp_model.specs.Validity.{is_domain_byte, is_domain, last_part, ends_in_number, is_octet, is_four_numbers, is_group_char, is_bracketed, is_address, IsValidHost}
 use Rattle.csp_model.specs.declared.url.Host.{Host}
 use Rattle.csp_model.specs.declared.url.Host.TheVariants.{Domain, Address}
@@ -40,8 +40,8 @@ digit_visible c h = grind (arith, nat_tests)
 
 octet_digits : (part : List ℕ) → is_octet part ≡ true → are_digits part ≡ true
 octet_digits part h =
-    let front = and_parts (are_digits part && nat_lt (number part) 256) (nat_lt (length part) 2 || not (slice_index part 0 == 48)) h in
-    (and_parts (are_digits part) (nat_lt (number part) 256) front.0).0
+    let front = and_parts (are_digits part && nat_lt (decimal_value part) 256) (nat_lt (length part) 2 || not (slice_index part 0 == 48)) h in
+    (and_parts (are_digits part) (nat_lt (decimal_value part) 256) front.0).0
 
 octet_visible : (part : List ℕ) → is_octet part ≡ true → All IsVisible part
 octet_visible part h =

@@ -1,15 +1,17 @@
-//! What an atom says of a check.
-ghost use Rattle.std.specs.Prelude.{◌↔◌, [], IsTrue};
-ghost use Rattle.csp_atom.specs.Atoms.{Holds, HasDigest, HasOther};
+//! Whether an atom holds for a check.
+ghost use Rattle.std.specs.Prelude.{◌≡◌, ◌↔◌, [], IsTrue};
+ghost use Rattle.csp_atom.specs.Atoms.{Holds};
+ghost use Rattle.csp_atom.specs.Holding as spec;
 
 use crate::atom::{Atom, Vocabulary};
-use crate::same::{is_domain_host, is_host_under};
+use crate::hosts::{is_domain_host, is_host_under};
 use csp_model::{Check, Digest, Digests, Hash, List, Url, goes_beyond};
 
-/// Whether an atom holds for a check. A check without the part that the atom speaks of doesn't have the fact. The
-/// vocabulary counts for `IntegrityOutside` alone.
+/// Whether an atom holds for a check. A check without the part that the atom speaks of doesn't have the fact.
+/// The vocabulary counts for `IntegrityOutside` alone.
 pub fn holds(atom: &Atom, check: &Check, vocabulary: &Vocabulary) -> bool
-    ensures { IsTrue result ↔ Holds vocabulary.now.hashes check.now atom.now }
+    ensures value { result ≡ spec.holds vocabulary.now.hashes check.now atom.now }
+    ensures fact { IsTrue result ↔ Holds vocabulary.now.hashes check.now atom.now }
 {
     match atom {
         Atom::NonceIs(value) => check.nonce().is_some_and(|nonce| nonce == value),
@@ -26,13 +28,13 @@ pub fn holds(atom: &Atom, check: &Check, vocabulary: &Vocabulary) -> bool
     }
 }
 
-// Whether an atom holds for a check that has this URL and no other part, as one of a base URL. So an atom on another
-// part doesn't.
+// Whether an atom holds for a check that has this URL and no other part, as one of a base URL. So an atom on
+// another part doesn't.
 fn holds_of_url(atom: &Atom, url: &Url) -> bool
-    ensures { IsTrue result ↔ Holds [] (Check.Base url.now) atom.now }
+    ensures { result ≡ spec.holds [] (Check.Base url.now) atom.now }
 {
     match (atom, url) {
-        (Atom::HostIs(name), Url::Hosted { host, .. }) => host == name,
+        (Atom::HostIs(known), Url::Hosted { host, .. }) => host == known,
         (Atom::HostUnder(suffix), Url::Hosted { host, .. }) => is_host_under(host, suffix.as_str()),
         (Atom::HostDomain, Url::Hosted { host, .. }) => is_domain_host(host),
         (Atom::PortIs(number), Url::Hosted { scheme, port, .. }) => {
@@ -42,14 +44,14 @@ fn holds_of_url(atom: &Atom, url: &Url) -> bool
         (Atom::PathUnder(pieces), Url::Hosted { path, .. }) => {
             goes_beyond(path.as_slice(), pieces.as_slice())
         }
-        (Atom::SchemeIs(name), Url::Plain { scheme }) => scheme == name,
+        (Atom::SchemeIs(known), Url::Plain { scheme }) => scheme == known,
         _ => false,
     }
 }
 
 // Whether a digest is among those of a text.
 fn has_digest(digests: &Digests, digest: &Digest) -> bool
-    ensures { IsTrue result ↔ HasDigest digests.now digest.now }
+    ensures { result ≡ spec.has_digest digests.now digest.now }
 {
     match digest {
         Digest::Sha256(bytes) => digests.sha256 == *bytes,
@@ -58,10 +60,10 @@ fn has_digest(digests: &Digests, digest: &Digest) -> bool
     }
 }
 
-// Whether some pair isn't among the hashes. These stand in no order, so each pair is looked for among all of them. That
-// is fine, since a check has a handful of pairs.
+// Whether some pair isn't among the hashes. These stand in no order, so each pair is looked for among all of
+// them. That is fine, since a check has a handful of pairs.
 fn has_other(hashes: &List<Hash>, pairs: &List<Hash>) -> bool
-    ensures { IsTrue result ↔ HasOther hashes.now pairs.now }
+    ensures { result ≡ spec.has_other hashes.now pairs.now }
 {
     pairs
         .as_slice()
