@@ -1,3 +1,4 @@
+mod AsciiParts
 mod EndLaws
 mod HostLaws
 mod KindLaws
