@@ -13,7 +13,7 @@ use Rattle.std.proofs.lemmas.Bool.{eqb-true}
 use Rattle.csp_model.specs.Ascii.{lower, ends_in, without_last, without_final, skip_while}
 use Rattle.csp_model.specs.Grammar.{is_scheme_char, is_scheme, is_label_char, is_label, is_name, IsHostSource, host_part_of, port_part_of, path_part_of}
 use Rattle.csp_model.specs.Reading.{is_host_char, is_no_slash, authority, host_source}
-use Rattle.csp_source.proofs.EndLaws.{ends_in_front}
+use Rattle.csp_model.proofs.FinalBytes.{ends_in_front}
 use Rattle.csp_model.specs.declared.source.HostPart.{HostPart}
 use Rattle.csp_model.specs.declared.source.HostPart.TheVariants as host
 use Rattle.csp_model.specs.declared.source.PortPart.{PortPart}

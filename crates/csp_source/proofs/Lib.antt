@@ -1,5 +1,4 @@
 mod AsciiParts
-mod EndLaws
 mod HostLaws
 mod KindLaws
 mod LowerLaws

@@ -14,7 +14,7 @@ use Rattle.csp_model.specs.Grammar.{is_scheme_char, is_scheme, is_label_char, is
 use Rattle.csp_model.specs.declared.source.HostPart.{HostPart}
 use Rattle.csp_model.specs.declared.source.HostPart.TheVariants as host
 use Rattle.csp_source.specs.Spelling.{host_spelling}
-use Rattle.csp_source.proofs.EndLaws.{without_final-push, last_view}
+use Rattle.csp_model.proofs.FinalBytes.{without_final-push, last_view}
 use Rattle.csp_source.proofs.HostLaws.{chosen, weaker, parts_pass, without_final_pass, star_dot}
 
 pub lower-lower : (s : List ℕ) → lower (lower s) ≡ lower s

@@ -14,7 +14,7 @@ use Rattle.csp_model.specs.declared.source.Keyword.{Keyword}
 use Rattle.csp_model.specs.declared.source.Keyword.TheVariants as keyword
 use Rattle.csp_model.specs.declared.source.Source.{Source}
 use Rattle.csp_model.specs.declared.source.Source.TheVariants as source
-use Rattle.csp_source.proofs.EndLaws.{ends_in-push, ends_in_front, without_last-push}
+use Rattle.csp_model.proofs.FinalBytes.{ends_in-push, ends_in_front, without_last-push}
 use Rattle.csp_source.proofs.HostLaws.{chosen}
 
 -- the source of the keyword that a text in lower case is

@@ -20,7 +20,7 @@ use Rattle.csp_model.specs.declared.source.PathPart.TheVariants as path
 use Rattle.csp_model.specs.declared.path.TheConstants.{ESCAPED}
 use Rattle.csp_model.proofs.PathText.{split_at-path_text, decoded_again}
 use Rattle.csp_source.specs.Spelling.{path_spelling}
-use Rattle.csp_source.proofs.EndLaws.{ends_in-cons, one_byte, without_last-push}
+use Rattle.csp_model.proofs.FinalBytes.{ends_in-cons, one_byte, without_last-push}
 use Rattle.csp_source.proofs.HostLaws.{chosen, path_slash}
 use Rattle.csp_source.proofs.PathLaws.{first_part, nonempty}
 

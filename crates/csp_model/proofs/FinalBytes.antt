@@ -1,4 +1,4 @@
--- How lists end.
+-- How lists end: their last item, and the byte at the end of a text.
 use Rattle.std.proofs.Common.{arith, ◌≡◌, ◌∙◌, ap, refl, ℕ, ◌-◌, suc, true, cond, nat_eq, List, [], ◌∷◌, ◌++◌, length, take, drop, length-append, inl, inr}
 use Rattle.std.specs.Prelude.{◌==◌, ◌⊎◌}
 use Rattle.std.specs.Cmp.Lexicographic.{pointwise}
