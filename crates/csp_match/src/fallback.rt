@@ -8,11 +8,12 @@ ghost use Rattle.csp_model.specs.Governing as spec;
 use crate::governs::Governor;
 use csp_model::{Directive, Name, Policy, name_text};
 
-/// What governs a check that asks for the directive `effective` (Content Security Policy Level 3, sections 6.8.3
-/// and 6.8.4): of the first name in the fallback list of `effective` that the policy has, the first directive.
+/// What governs a check that asks for the directive `effective` (Content Security Policy Level 3, sections
+/// 6.8.3 and 6.8.4): of the first name in the fallback list of `effective` that the policy has, the first
+/// directive.
 ///
-/// No other directive is looked at, whatever that one says. None comes exactly where the policy has none of these
-/// names. Such a policy allows the check.
+/// No other directive is looked at, whatever that one says. None comes exactly where the policy has none of
+/// these names. Such a policy allows the check.
 pub fn governor(policy: &Policy, effective: Name) -> Option<Governor<'_>>
     ensures { option_map shown result ≡ spec.governor policy.now effective }
 {

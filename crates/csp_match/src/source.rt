@@ -14,8 +14,10 @@ use csp_model::{Keyword, List, Origin, Source, Url};
 /// section 6.7.2, "Does url match expression in origin with redirect count?").
 ///
 /// `'self'`, and a host-source without a scheme, speak of the origin. `redirected` says that the URL was
-/// reached by a redirect, where paths aren't compared. Nonces, hashes and all keywords but `'self'` match no
-/// URL. No text is copied, and each that is compared is read once.
+/// reached by a redirect, where paths aren't compared. The token `*` matches the URLs of http, https, ws and
+/// wss. An address is matched by the exact host that is printed so, and by no `*` or suffix of a host-source.
+/// Nonces, hashes and all keywords but `'self'` match no URL. No text is copied, and each that is compared is
+/// read once.
 pub fn source_matches(source: &Source, origin: &Origin, url: &Url, redirected: bool) -> bool
     ensures value { result ≡ spec.matches source.now origin.now url.now redirected }
     ensures matches { IsTrue result ↔ (Matches source.now origin.now url.now redirected) }

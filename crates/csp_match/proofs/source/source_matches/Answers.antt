@@ -12,7 +12,8 @@ use Rattle.csp_match.proofs.source.source_matches.Goals as goal
 by_test : (s : Source) (self : Origin) (there : Url) (redirected result : Bool)
     → result ≡ spec.matches s self there redirected → Decides result (Matches s self there redirected)
 by_test s self there redirected result value =
-    subst (λ b. Decides b (Matches s self there redirected)) (sym value) (matches_decides s self there redirected)
+    subst (λ b. Decides b (Matches s self there redirected)) (sym value)
+    (matches_decides s self there redirected)
 
 pub returns-in-Star-clause-matches : goal.returns-in-Star-clause-matches
 returns-in-Star-clause-matches c =
