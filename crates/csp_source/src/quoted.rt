@@ -90,7 +90,7 @@ fn spells_word(letters: &[u8], word: &[u8]) -> bool
 }
 
 // The base64-value before an apostrophe at the end.
-#[tactic(auto, using(crate::proofs::EndLaws::byte_turned, crate::proofs::AsciiParts::take_ascii))]
+#[tactic(auto, using(csp_model::proofs::FinalBytes::byte_turned, crate::proofs::AsciiParts::take_ascii))]
 fn value_before_apostrophe(rest: &[u8]) -> Option<&[u8]>
     ensures value { option_copied result
         ≡ (if ends_in quote rest.now && grammar.is_base64_value (without_last rest.now)
