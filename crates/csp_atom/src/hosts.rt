@@ -7,7 +7,7 @@ ghost use Rattle.csp_atom.specs.Follows as spec;
 use csp_model::{Host, is_subdomain};
 
 // Whether a host is a domain that ends in a dot and the suffix.
-pub fn is_host_under(host: &Host, suffix: &str) -> bool
+pub(crate) fn is_host_under(host: &Host, suffix: &str) -> bool
     ensures { result ≡ ends.is_host_under host.now suffix.now }
 {
     match host {
@@ -17,14 +17,14 @@ pub fn is_host_under(host: &Host, suffix: &str) -> bool
 }
 
 // Whether a host is a domain.
-pub fn is_domain_host(host: &Host) -> bool
+pub(crate) fn is_domain_host(host: &Host) -> bool
     ensures { result ≡ matching.is_domain_host host.now }
 {
     matches!(host, Host::Domain(_))
 }
 
 // Whether a domain is the suffix or lies under it.
-pub fn lies_within(domain: &str, suffix: &str) -> bool
+pub(crate) fn lies_within(domain: &str, suffix: &str) -> bool
     ensures { result ≡ spec.lies_within domain.now suffix.now }
 {
     is_or_ends_in_dot_and(domain.as_bytes(), suffix.as_bytes())
