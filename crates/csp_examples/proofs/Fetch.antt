@@ -103,7 +103,8 @@ script_with nonce integrity = check.Fetch group.ScriptElem elsewhere 0 nonce int
 -- 'strict-dynamic' takes the place of the list, and a nonce goes before it
 pub strict_dynamic : Hold (
     -- what the parser inserts
-    case (codes "script-src 'strict-dynamic' 'nonce-abc' https:") (script_with [] []) (blocked_by ScriptSrcElem ScriptSrc)
+    case (codes "script-src 'strict-dynamic' 'nonce-abc' https:") (script_with [] [])
+    (blocked_by ScriptSrcElem ScriptSrc)
     ∷ case (codes "script-src 'strict-dynamic' 'nonce-abc' https:") (script_with (codes "abc") []) allowed
     -- what scripts add
     ∷ case (codes "script-src 'strict-dynamic' 'nonce-abc' https:") (script elsewhere) allowed
@@ -120,7 +121,8 @@ unknown = record { algorithm = Sha384; value = codes "abc" }
 -- each pair must be a hash of the list
 pub integrity : Hold (
     case (codes "script-src 'sha256-abc' 'strict-dynamic'") (script_with [] (known ∷ [])) allowed
-    ∷ case (codes "script-src 'sha256-abc'") (script_with [] (known ∷ unknown ∷ [])) (blocked_by ScriptSrcElem ScriptSrc)
+    ∷ case (codes "script-src 'sha256-abc'") (script_with [] (known ∷ unknown ∷ []))
+    (blocked_by ScriptSrcElem ScriptSrc)
     ∷ case (codes "script-src 'sha256-abc'") (script_with [] []) (blocked_by ScriptSrcElem ScriptSrc)
     ∷ [])
 unfolding verdicts_on_literals
@@ -139,11 +141,13 @@ pub workers : Hold (
 unfolding verdicts_on_literals
 workers = refl
 
+abbrev style_with : List ℕ → List Hash → Check
+style_with nonce integrity = check.Fetch group.StyleElem elsewhere 0 nonce integrity false
+
 pub styles_and_images : Hold (
-    case (codes "style-src 'nonce-abc'") (check.Fetch group.StyleElem elsewhere 0 (codes "abc") [] false) allowed
+    case (codes "style-src 'nonce-abc'") (style_with (codes "abc") []) allowed
     -- integrity is nothing to a style, and a nonce nothing to an image
-    ∷ case (codes "style-src 'sha256-abc'") (check.Fetch group.StyleElem elsewhere 0 [] (known ∷ []) false)
-    (blocked_by StyleSrcElem StyleSrc)
+    ∷ case (codes "style-src 'sha256-abc'") (style_with [] (known ∷ [])) (blocked_by StyleSrcElem StyleSrc)
     ∷ case (codes "img-src 'nonce-abc'") (check.Fetch group.Img elsewhere 0 (codes "abc") [] false)
     (blocked_by ImgSrc ImgSrc)
     ∷ [])

@@ -32,12 +32,17 @@ cases =
     ∷ case (codes "default-src") BaseUri None
     ∷ []
 
-pub names : map (λ (c : Case). option_map (λ (g : Governor). g.name) (governor (policy_with (directives_of c.value)) c.effective)) cases
-    ≡ map (λ (c : Case). option_map (λ (g : Name × ℕ). g.0) c.governing) cases
+-- the name and the place of what governs
+abbrev name_by : Case → Option Name
+name_by c = option_map (λ (g : Governor). g.name) (governor (policy_with (directives_of c.value)) c.effective)
+
+abbrev place_by : Case → Option ℕ
+place_by c = governing_place (policy_with (directives_of c.value)) c.effective
+
+pub names : map name_by cases ≡ map (λ (c : Case). option_map (λ (g : Name × ℕ). g.0) c.governing) cases
 unfolding verdicts_on_literals
 names = refl
 
-pub places : map (λ (c : Case). governing_place (policy_with (directives_of c.value)) c.effective) cases
-    ≡ map (λ (c : Case). option_map (λ (g : Name × ℕ). g.1) c.governing) cases
+pub places : map place_by cases ≡ map (λ (c : Case). option_map (λ (g : Name × ℕ). g.1) c.governing) cases
 unfolding verdicts_on_literals
 places = refl

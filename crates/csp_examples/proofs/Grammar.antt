@@ -26,7 +26,8 @@ AreOthers tokens = map source_of tokens ≡ map (λ token. Other token) tokens
 
 pub host_sources : Read ((
   codes "HTTPS://*.A.example:0080/x/%79/",
-  Hosted (Some (codes "https")) (Under (codes "a.example")) (port.Number 80) (path.Prefix (codes "x" ∷ codes "y" ∷ [])),
+  Hosted (Some (codes "https")) (Under (codes "a.example")) (port.Number 80)
+      (path.Prefix (codes "x" ∷ codes "y" ∷ [])),
 )
     ∷ (codes "a.example", Hosted None (Exact (codes "a.example")) port.Absent path.Absent)
     -- a last dot is kept
@@ -41,9 +42,17 @@ pub host_sources : Read ((
     ∷ (codes "a:65536", Hosted None (Exact (codes "a")) port.TooLarge path.Absent)
     -- the root, and a path with an empty piece
     ∷ (codes "a/", Hosted None (Exact (codes "a")) port.Absent (path.Prefix []))
-    ∷ (codes "a/x//y", Hosted None (Exact (codes "a")) port.Absent (path.Exact (codes "x" ∷ [] ∷ codes "y" ∷ [])))
+    ∷ (
+      codes "a/x//y",
+      Hosted None (Exact (codes "a")) port.Absent
+          (path.Exact (codes "x" ∷ [] ∷ codes "y" ∷ [])),
+    )
     -- an address is a host like any other
-    ∷ (codes "https://10.0.0.1/", Hosted (Some (codes "https")) (Exact (codes "10.0.0.1")) port.Absent (path.Prefix []))
+    ∷ (
+      codes "https://10.0.0.1/",
+      Hosted (Some (codes "https")) (Exact (codes "10.0.0.1")) port.Absent
+          (path.Prefix []),
+    )
     ∷ [])
 unfolding source_on_literals
 host_sources = refl
@@ -82,11 +91,20 @@ no_sources = refl
 
 -- The grammar itself: a token and its parts
 
-pub built_from_its_parts : IsHostSource (codes "https://b.example:*/x") (Some (codes "https")) (Exact (codes "b.example"))
-    port.Any (path.Exact (codes "x" ∷ []))
+pub built_from_its_parts : IsHostSource (codes "https://b.example:*/x")
+    (Some (codes "https")) (Exact (codes "b.example")) port.Any (path.Exact (codes "x" ∷ []))
 unfolding source_on_literals
-built_from_its_parts =
-    (codes "https://", codes "b.example", codes ":*", codes "/x", refl, (codes "https", refl, refl, refl), refl, refl, refl)
+built_from_its_parts = (
+  codes "https://",
+  codes "b.example",
+  codes ":*",
+  codes "/x",
+  refl,
+  (codes "https", refl, refl, refl),
+  refl,
+  refl,
+  refl,
+)
 
 pub a_scheme_is_built : IsSchemeSource (codes "Data:") (codes "data")
 unfolding source_on_literals
@@ -126,5 +144,6 @@ no_nonce_is_empty (letters, _, _, value) = false≢true value
 pub none_is_no_keyword : ¬ IsSource (codes "'none'") (Word SelfOrigin)
 none_is_no_keyword = fails (bytes_eq-Decides (lower (codes "'none'")) (codes "'self'")) refl
 
-pub a_star_is_no_host_source : (scheme : Option (List ℕ)) → ¬ IsSource (codes "*") (Hosted scheme Any port.Absent path.Absent)
+pub a_star_is_no_host_source : (scheme : Option (List ℕ))
+    → ¬ IsSource (codes "*") (Hosted scheme Any port.Absent path.Absent)
 a_star_is_no_host_source scheme is = is.0 refl

@@ -15,7 +15,8 @@ pub unsafe_inline : (digests : Digests) → Hold (
     -- it counts for nothing beside a nonce, which allows the script that has it
     ∷ case (codes "script-src 'unsafe-inline' 'nonce-abc'") (check.Inline kind.Script [] digests)
     (blocked_by ScriptSrcElem ScriptSrc)
-    ∷ case (codes "script-src 'unsafe-inline' 'nonce-abc'") (check.Inline kind.Script (codes "abc") digests) allowed
+    ∷ case (codes "script-src 'unsafe-inline' 'nonce-abc'")
+    (check.Inline kind.Script (codes "abc") digests) allowed
     -- nor beside 'strict-dynamic', which is nothing to styles
     ∷ case (codes "script-src 'unsafe-inline' 'strict-dynamic'") (check.Inline kind.Script [] digests)
     (blocked_by ScriptSrcElem ScriptSrc)

@@ -51,7 +51,9 @@ pub schemes_match : Parts (λ (c : List ℕ × List ℕ). SchemeMatches c.0 c.1)
     ∷ (codes "data", codes "data") ∷ []) (
     (codes "https", codes "http")
     ∷ (codes "data", codes "blob") ∷ [])
-schemes_match = parted (λ (c : List ℕ × List ℕ). scheme_matches c.0 c.1) (λ c. scheme_decides c.0 c.1) refl refl
+schemes_match =
+    parted (λ (c : List ℕ × List ℕ). scheme_matches c.0 c.1)
+    (λ c. scheme_decides c.0 c.1) refl refl
 
 -- Hosts
 
@@ -87,7 +89,9 @@ pub ports_match : Parts (λ (c : PortPart × Option ℕ × Scheme). PortMatches 
     ∷ (port_part.Absent, Some 8443, Https)
     -- a number above 65,535 is no port, not even what is left of it in 16 bits
     ∷ (port_part.TooLarge, Some 34463, Https) ∷ [])
-ports_match = parted (λ (c : PortPart × Option ℕ × Scheme). port_matches c.0 c.1 c.2) (λ c. port_decides c.0 c.1 c.2) refl refl
+ports_match =
+    parted (λ (c : PortPart × Option ℕ × Scheme). port_matches c.0 c.1 c.2)
+    (λ c. port_decides c.0 c.1 c.2) refl refl
 
 -- Paths
 
@@ -101,7 +105,9 @@ pub paths_match : Parts (λ (c : PathPart × List (List ℕ)). PathMatches c.0 c
     (path_part.Exact (codes "x" ∷ []), codes "x" ∷ codes "y" ∷ [])
     -- a folder is not its name
     ∷ (path_part.Prefix (codes "x" ∷ []), codes "x" ∷ []) ∷ [])
-paths_match = parted (λ (c : PathPart × List (List ℕ)). path_matches c.0 c.1) (λ c. path_decides c.0 c.1) refl refl
+paths_match =
+    parted (λ (c : PathPart × List (List ℕ)). path_matches c.0 c.1)
+    (λ c. path_decides c.0 c.1) refl refl
 
 -- 'self'
 
@@ -125,7 +131,9 @@ pub self_matches_its_origin : Parts (λ (c : Origin × Url). SelfMatches c.0 c.1
     ∷ (own, url.Hosted Https (Domain (codes "a.example")) (Some 8443) ([] ∷ []))
     -- an opaque origin is no URL's
     ∷ (origin.Opaque, on Https) ∷ [])
-self_matches_its_origin = parted (λ (c : Origin × Url). self_matches c.0 c.1) (λ c. self_decides c.0 c.1) refl refl
+self_matches_its_origin =
+    parted (λ (c : Origin × Url). self_matches c.0 c.1)
+    (λ c. self_decides c.0 c.1) refl refl
 
 -- Source expressions
 
@@ -142,7 +150,9 @@ pub sources_match : Parts (λ (c : Source × Url). Matches c.0 own c.1 false) (
     ∷ (source.Nonce (codes "abc"), on Https)
     ∷ (source.Word keyword.UnsafeInline, on Https)
     ∷ (source.Other (codes "'none'"), on Https) ∷ [])
-sources_match = parted (λ (c : Source × Url). matches c.0 own c.1 false) (λ c. matches_decides c.0 own c.1 false) refl refl
+sources_match =
+    parted (λ (c : Source × Url). matches c.0 own c.1 false)
+    (λ c. matches_decides c.0 own c.1 false) refl refl
 
 pub lists_match : Parts (λ (sources : List Source). ListMatches sources own (on Https) false) (
     -- one that matches is enough

@@ -3,7 +3,7 @@ use Rattle.std.proofs.Common.{refl, [], ◌∷◌}
 use Rattle.std.specs.Prelude.{codes}
 use Rattle.csp_examples.proofs.OnLiterals.{verdicts_on_literals}
 use Rattle.csp_examples.proofs.Cases.{case, request, Hold}
-use Rattle.csp_examples.proofs.Values.{at, elsewhere, headed, block, allowed, blocked_by}
+use Rattle.csp_examples.proofs.Values.{at, elsewhere, headed, block, meta, allowed, blocked_by}
 use Rattle.csp_model.specs.declared.check.Check.TheVariants as check
 use Rattle.csp_model.specs.declared.check.Capability.TheVariants.{Forms, Scripts, TopNavigation, TopNavigationByUserActivation}
 use Rattle.csp_model.specs.declared.name.Name.TheVariants.{FrameAncestors, FormAction, Sandbox}
@@ -35,8 +35,7 @@ pub ancestors : Hold (
     -- one of another scheme
     ∷ case (codes "frame-ancestors data:") (check.Ancestor (url.Plain (codes "data"))) allowed
     -- a meta element names none
-    ∷ request (block (codes "Meta-Content-Security-Policy: frame-ancestors 'none'; img-src 'none', https://b.example\n"))
-    (check.Ancestor parent ∷ []) allowed
+    ∷ request meta (check.Ancestor parent ∷ []) allowed
     ∷ [])
 unfolding verdicts_on_literals
 ancestors = refl
@@ -52,7 +51,8 @@ pub sandboxes : Hold (
     ∷ case (codes "sandbox allow-top-navigation-by-user-activation") (check.Capability TopNavigation)
     (blocked_by Sandbox Sandbox)
     -- a reported one takes nothing
-    ∷ request (block (codes "Content-Security-Policy-Report-Only: sandbox\n")) (check.Capability Forms ∷ []) allowed
+    ∷ request (block (codes "Content-Security-Policy-Report-Only: sandbox\n")) (check.Capability Forms ∷ [])
+    allowed
     ∷ [])
 unfolding verdicts_on_literals
 sandboxes = refl

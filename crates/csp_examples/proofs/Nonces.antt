@@ -29,7 +29,7 @@ each_has (e ∷ es) same =
     let here : found e ≡ e.nonce = cc in
     let later : map found es ≡ map (λ (x : Element). x.nonce) es = cc in
     All-cons HasIts e es
-    (subst (λ (n : List ℕ). IsElementNonce e.tag e.attributes e.duplicate n) here (has_nonce e.tag e.attributes e.duplicate))
+    (subst (IsElementNonce e.tag e.attributes e.duplicate) here (has_nonce e.tag e.attributes e.duplicate))
     (each_has es later)
 
 -- a nonce, and another attribute

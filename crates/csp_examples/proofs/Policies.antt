@@ -1,5 +1,5 @@
 -- Header blocks and their policies.
-use Rattle.std.proofs.Common.{◌≡◌, ℕ, List, [], ◌∷◌, Option, map, length, Some, None, refl}
+use Rattle.std.proofs.Common.{◌≡◌, ℕ, List, [], ◌∷◌, ◌++◌, Option, map, length, Some, None, refl}
 use Rattle.std.specs.Prelude.{codes}
 use Rattle.csp_model.specs.Ascii.{words}
 use Rattle.csp_model.specs.Policies.{directives_of, first_bad, policies, lines_of, token_count, longest_text, policy_text}
@@ -59,28 +59,33 @@ blocks =
     ∷ (codes ": a\n", Some 1)
     ∷ []
 
-pub first_bad_lines : map (λ (b : List ℕ × Option ℕ). first_bad b.0) blocks ≡ map (λ (b : List ℕ × Option ℕ). b.1) blocks
+pub first_bad_lines : map (λ (b : List ℕ × Option ℕ). first_bad b.0) blocks
+    ≡ map (λ (b : List ℕ × Option ℕ). b.1) blocks
 unfolding policies_on_literals
 first_bad_lines = refl
 
 -- Policies
 
-pub a_comma_parts_policies : length (policies (codes "Content-Security-Policy: img-src a, font-src b\r\n") own) ≡ 2
+pub a_comma_parts_policies :
+    length (policies (codes "Content-Security-Policy: img-src a, font-src b\r\n") own) ≡ 2
 unfolding policies_on_literals
 a_comma_parts_policies = refl
 
-pub a_policy_without_directives_is_left_out : length (policies (codes "Content-Security-Policy: ;, ,font-src b\n") own) ≡ 1
+pub a_policy_without_directives_is_left_out :
+    length (policies (codes "Content-Security-Policy: ;, ,font-src b\n") own) ≡ 1
 unfolding policies_on_literals
 a_policy_without_directives_is_left_out = refl
 
 pub names_of_headers_are_of_either_case :
-    dispositions_of (policies (codes "content-security-policy-REPORT-only: img-src a\nX: y\nCONTENT-SECURITY-POLICY: img-src a") own)
+    dispositions_of (policies (codes "content-security-policy-REPORT-only: img-src a\n"
+    ++ codes "X: y\nCONTENT-SECURITY-POLICY: img-src a") own)
     ≡ Report ∷ Enforce ∷ []
 unfolding policies_on_literals
 names_of_headers_are_of_either_case = refl
 
 pub a_meta_element_loses_three_directives : map (λ (p : Policy). names_of p.directives)
-    (policies (codes "Meta-Content-Security-Policy: report-uri /r; sandbox; img-src a; frame-ancestors b\n") own)
+    (policies (codes "Meta-Content-Security-Policy: report-uri /r; sandbox; "
+    ++ codes "img-src a; frame-ancestors b\n") own)
     ≡ (codes "img-src" ∷ []) ∷ []
 unfolding policies_on_literals
 a_meta_element_loses_three_directives = refl
@@ -94,11 +99,13 @@ pub tokens_are_counted_where_they_are_kept :
 unfolding policies_on_literals
 tokens_are_counted_where_they_are_kept = refl
 
-pub the_longest_name_or_token : longest_text (policies (codes "Content-Security-Policy: img-src a.example\n") own) ≡ 9
+pub the_longest_name_or_token :
+    longest_text (policies (codes "Content-Security-Policy: img-src a.example\n") own) ≡ 9
 unfolding policies_on_literals
 the_longest_name_or_token = refl
 
-pub a_policy_is_printed : map policy_text (policies (codes "Content-Security-Policy: IMG-SRC  A ;script-src\n") own)
+pub a_policy_is_printed :
+    map policy_text (policies (codes "Content-Security-Policy: IMG-SRC  A ;script-src\n") own)
     ≡ codes "img-src A; script-src" ∷ []
 unfolding policies_on_literals
 a_policy_is_printed = refl

@@ -9,7 +9,11 @@ use Rattle.csp_examples.proofs.Values.{headed, policy_with}
 use Rattle.csp_model.specs.declared.policy.Directive.{Directive}
 
 abbrev images : Directive
-images = record { name = codes "img-src"; tokens = codes "https:" ∷ []; sources = source_of (codes "https:") ∷ [] }
+images = record {
+  name = codes "img-src";
+  tokens = codes "https:" ∷ [];
+  sources = source_of (codes "https:") ∷ [];
+}
 
 readable_policy : IsReadablePolicy (policy_with (images ∷ []))
 unfolding validity_on_literals

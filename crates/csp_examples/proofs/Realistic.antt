@@ -56,8 +56,10 @@ all scheme = (scheme ++ codes ":", source.SchemeOnly scheme)
 
 -- https:// and a domain
 abbrev secure : List ℕ → List ℕ × Source
-secure name =
-    (codes "https://" ++ name, source.Hosted (Some (codes "https")) (host_part.Exact name) port_part.Absent path_part.Absent)
+secure name = (
+  codes "https://" ++ name,
+  source.Hosted (Some (codes "https")) (host_part.Exact name) port_part.Absent path_part.Absent,
+)
 
 abbrev enforced_directives : List Directive
 enforced_directives =
@@ -67,7 +69,8 @@ enforced_directives =
     ∷ secure (codes "cdn.example.net")
     ∷ (
       codes "https://*.analytics.example",
-      source.Hosted (Some (codes "https")) (host_part.Under (codes "analytics.example")) port_part.Absent path_part.Absent,
+      source.Hosted (Some (codes "https")) (host_part.Under (codes "analytics.example"))
+          port_part.Absent path_part.Absent,
     ) ∷ [])
     ∷ directive (codes "style-src") (self
     ∷ (codes "'unsafe-inline'", source.Word keyword.UnsafeInline) ∷ secure (codes "fonts.example.net") ∷ [])
@@ -81,7 +84,8 @@ enforced_directives =
     )
     ∷ (
       codes "wss://live.a.example",
-      source.Hosted (Some (codes "wss")) (host_part.Exact (codes "live.a.example")) port_part.Absent path_part.Absent,
+      source.Hosted (Some (codes "wss")) (host_part.Exact (codes "live.a.example"))
+          port_part.Absent path_part.Absent,
     ) ∷ [])
     ∷ directive (codes "frame-src") ((
       codes "https://video.example.net/embed/",
@@ -126,26 +130,40 @@ cases digests =
     -- connections below the folder, beside it, and by a web socket
     ∷ (connection (api (codes "v1" ∷ codes "users" ∷ [])), allowed)
     ∷ (connection (api (codes "v2" ∷ [])), blocked_by ConnectSrc ConnectSrc)
-    ∷ (connection (at Wss (codes "live.a.example") ([] ∷ [])), allowed_with (reported 1 ConnectSrc DefaultSrc ∷ []))
+    ∷ (
+      connection (at Wss (codes "live.a.example") ([] ∷ [])),
+      allowed_with (reported 1 ConnectSrc DefaultSrc ∷ []),
+    )
     -- inline style, and an inline script with the nonce
     ∷ (check.Inline kind.Style [] digests, allowed_with (reported 1 StyleSrcElem DefaultSrc ∷ []))
-    ∷ (check.Inline kind.Script (codes "R4nd0m") digests, allowed_with (reported 1 ScriptSrcElem DefaultSrc ∷ []))
+    ∷ (
+      check.Inline kind.Script (codes "R4nd0m") digests,
+      allowed_with (reported 1 ScriptSrcElem DefaultSrc ∷ []),
+    )
     -- compilation of a string
     ∷ (check.Eval, blocked_with (enforced 0 ScriptSrc ScriptSrc ∷ reported 1 ScriptSrc DefaultSrc ∷ []))
     -- a frame below the folder, and an ancestor
-    ∷ (check.Fetch group.Frame (at Https (codes "video.example.net") (codes "embed" ∷ codes "7" ∷ [])) 0 [] [] false, allowed)
+    ∷ (
+      check.Fetch group.Frame (at Https (codes "video.example.net") (codes "embed" ∷ codes "7" ∷ [])) 0 [] []
+          false,
+      allowed,
+    )
     ∷ (check.Ancestor (at Https (codes "p.example") ([] ∷ [])), blocked_by FrameAncestors FrameAncestors)
     ∷ []
 
+-- the verdicts by some policies, and those that are wanted
 abbrev verdicts_by : List Policy → Digests → List Verdict
 verdicts_by ps digests =
     map (λ (c : Check × Verdict). verdict_of (record { policies = ps }) (c.0 ∷ [])) (cases digests)
 
-by_realistic : (digests : Digests) → verdicts_by realistic digests ≡ map (λ (c : Check × Verdict). c.1) (cases digests)
+abbrev wanted : Digests → List Verdict
+wanted digests = map (λ (c : Check × Verdict). c.1) (cases digests)
+
+by_realistic : (digests : Digests) → verdicts_by realistic digests ≡ wanted digests
 unfolding verdicts_on_literals
 by_realistic digests = refl
 
 -- whatever the digests
-pub each_has_its_verdict : (digests : Digests)
-    → verdicts_by (policies bytes own) digests ≡ map (λ (c : Check × Verdict). c.1) (cases digests)
-each_has_its_verdict digests = ap (λ (ps : List Policy). verdicts_by ps digests) the_block_is_read ∙ by_realistic digests
+pub each_has_its_verdict : (digests : Digests) → verdicts_by (policies bytes own) digests ≡ wanted digests
+each_has_its_verdict digests =
+    ap (λ (ps : List Policy). verdicts_by ps digests) the_block_is_read ∙ by_realistic digests

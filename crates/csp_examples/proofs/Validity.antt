@@ -57,7 +57,8 @@ pub a_valid_url : IsValidUrl elsewhere
 unfolding validity_on_literals
 a_valid_url = (refl, tt, (λ (h : codes "s.js" ∷ [] ≡ []). cc), refl)
 
-pub the_default_port_is_not_named : ¬ IsValidUrl (url.Hosted Https (host.Domain (codes "b.example")) (Some 443) ([] ∷ []))
+pub the_default_port_is_not_named :
+    ¬ IsValidUrl (url.Hosted Https (host.Domain (codes "b.example")) (Some 443) ([] ∷ []))
 the_default_port_is_not_named valid = valid.1.1 refl
 
 pub http_is_no_plain_scheme : ¬ IsValidUrl (url.Plain (codes "http"))

@@ -60,8 +60,10 @@ from_hex rest = []
 abbrev pub of_nothing : Digests
 of_nothing = record {
   sha256 = from_hex (codes "e3b0c44298fc1c149afbf4c8996fb92427ae41e4649b934ca495991b7852b855");
-  sha384 = from_hex (codes "38b060a751ac96384cd9327eb1b1e36a21fdb71114be07434c0cc7bf63f6e1da274edebfe76f65fbd51ad2f14898b95b");
-  sha512 = from_hex (codes "cf83e1357eefb8bdf1542850d66d8007d620e4050b5715dc83f4a921d36ce9ce47d0d13c5d85f2b0ff8318d2877eec2f63b931bd47417a81a538327af927da3e");
+  sha384 = from_hex (codes "38b060a751ac96384cd9327eb1b1e36a21fdb71114be0743"
+      ++ codes "4c0cc7bf63f6e1da274edebfe76f65fbd51ad2f14898b95b");
+  sha512 = from_hex (codes "cf83e1357eefb8bdf1542850d66d8007d620e4050b5715dc83f4a921d36ce9ce"
+      ++ codes "47d0d13c5d85f2b0ff8318d2877eec2f63b931bd47417a81a538327af927da3e");
 }
 
 -- Lists of policies
@@ -76,6 +78,11 @@ block bytes = block_at own bytes
 -- those of a header Content-Security-Policy with this value
 abbrev pub headed : List ℕ → PolicyList
 headed value = block (codes "Content-Security-Policy: " ++ (value ++ codes "\n"))
+
+-- that of a meta element
+abbrev pub meta : PolicyList
+meta =
+    block (codes "Meta-Content-Security-Policy: frame-ancestors 'none'; img-src 'none', https://b.example\n")
 
 -- an enforced policy of these directives
 abbrev pub policy_with : List Directive → Policy

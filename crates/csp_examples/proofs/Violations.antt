@@ -14,7 +14,8 @@ use Rattle.csp_model.specs.declared.verdict.Violation.{Violation}
 
 -- a request of one check
 abbrev described : Check → List ℕ → List ℕ → Described
-described asked blocked_uri sample = record { checks = asked ∷ []; blocked_uri = blocked_uri; sample = sample }
+described asked blocked_uri sample =
+    record { checks = asked ∷ []; blocked_uri = blocked_uri; sample = sample }
 
 -- a violation of script-src-elem in an enforced policy
 abbrev violation : List ℕ → List ℕ → List ℕ → Violation
@@ -27,7 +28,8 @@ violation blocked_uri sample policy = record {
 }
 
 pub a_blocked_script_is_reported :
-    violations_of (headed (codes "default-src 'self'")) (described (script elsewhere) (codes "https://b.example/s.js") [])
+    violations_of (headed (codes "default-src 'self'"))
+    (described (script elsewhere) (codes "https://b.example/s.js") [])
     ≡ violation (codes "https://b.example/s.js") [] (codes "default-src 'self'") ∷ []
 unfolding verdicts_on_literals
 a_blocked_script_is_reported = refl
@@ -46,6 +48,7 @@ pub no_sample_is_shown_unasked : violations_of (headed (codes "default-src 'self
 unfolding verdicts_on_literals
 no_sample_is_shown_unasked = refl
 
-pub a_sandbox_makes_no_report : violations_of (headed (codes "sandbox")) (described check.WorkerStart [] []) ≡ []
+pub a_sandbox_makes_no_report :
+    violations_of (headed (codes "sandbox")) (described check.WorkerStart [] []) ≡ []
 unfolding verdicts_on_literals
 a_sandbox_makes_no_report = refl
