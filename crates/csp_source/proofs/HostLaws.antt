@@ -13,6 +13,7 @@ use Rattle.std.proofs.lemmas.Bool.{eqb-true}
 use Rattle.csp_model.specs.Ascii.{lower, ends_in, without_last, without_final, skip_while}
 use Rattle.csp_model.specs.Grammar.{is_scheme_char, is_scheme, is_label_char, is_label, is_name, IsHostSource, host_part_of, port_part_of, path_part_of}
 use Rattle.csp_model.specs.Reading.{is_host_char, is_no_slash, authority, host_source}
+use Rattle.csp_model.proofs.SkipLaws.{skip_while-cons}
 use Rattle.csp_model.proofs.FinalBytes.{ends_in_front}
 use Rattle.csp_model.specs.declared.source.HostPart.{HostPart}
 use Rattle.csp_model.specs.declared.source.HostPart.TheVariants as host
@@ -39,13 +40,6 @@ skip_while-append p a b h k = ap (λ n. drop n (a ++ b)) (prefix_len-append p a 
 
 take_skip : (p : ℕ → Bool) (s : List ℕ) → s ≡ take_while p s ++ skip_while p s
 take_skip p s = sym (take-append-drop (prefix_len p s) s)
-
-skip_by : (b : Bool) (n x : ℕ) (s : List ℕ) → drop (cond b (1 + n) 0) (x ∷ s) ≡ cond b (drop n s) (x ∷ s)
-skip_by true n x s = let e : 1 + n ≡ suc n = omega arith in ap (λ m. drop m (x ∷ s)) e
-skip_by false n x s = refl
-
-pub skip_while-cons : (p : ℕ → Bool) (x : ℕ) (s : List ℕ) → skip_while p (x ∷ s) ≡ cond (p x) (skip_while p s) (x ∷ s)
-skip_while-cons p x s = skip_by (p x) (prefix_len p s) x s
 
 pub chosen : {A : Type 0} (b : Bool) (x : Option A) (y : Option A) (v : A) → cond b x y ≡ Some v → ((b ≡ true) × (x ≡ Some v)) ⊎ ((b ≡ false) × (y ≡ Some v))
 chosen true x y v e = inl (refl, e)

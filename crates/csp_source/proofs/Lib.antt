@@ -1,4 +1,3 @@
-mod AsciiParts
 mod HostLaws
 mod KindLaws
 mod LowerLaws

@@ -9,8 +9,9 @@ use Rattle.csp_model.specs.Grammar.{is_scheme_char, is_scheme, is_label_char, ho
 use Rattle.csp_model.specs.Reading.{is_host_char, is_no_slash, authority, host_source, scheme_source}
 use Rattle.csp_model.specs.declared.source.Source.{Source}
 use Rattle.csp_model.specs.declared.source.Source.TheVariants as source
+use Rattle.csp_model.proofs.SkipLaws.{skip_while-cons}
 use Rattle.csp_model.proofs.FinalBytes.{ends_in-push, ends_in_front, without_last-push}
-use Rattle.csp_source.proofs.HostLaws.{chosen, take_while-append, skip_while-append, skip_while-cons, scheme_chars}
+use Rattle.csp_source.proofs.HostLaws.{chosen, take_while-append, skip_while-append, scheme_chars}
 
 pub scheme_again : (token scheme : List ℕ) → IsSchemeSource token scheme → scheme_source token ≡ Some (source.SchemeOnly scheme)
 unfolding scheme_source

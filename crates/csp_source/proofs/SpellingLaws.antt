@@ -19,7 +19,7 @@ use Rattle.csp_model.specs.declared.source.Keyword.TheVariants as keyword
 use Rattle.csp_model.specs.declared.source.Source.{Source}
 use Rattle.csp_model.specs.declared.source.Source.TheVariants as source
 use Rattle.csp_source.specs.Spelling.{scheme_spelling, host_spelling, port_spelling, path_spelling, spelling, IsRead}
-use Rattle.csp_source.proofs.AsciiParts.{end_ascii}
+use Rattle.csp_model.proofs.AsciiParts.{end_ascii}
 use Rattle.csp_source.proofs.HostLaws.{chosen, host_again}
 use Rattle.csp_source.proofs.LowerLaws.{host_spelt, is_scheme-lower, lower-lower}
 use Rattle.csp_source.proofs.PortLaws.{port_spelt}

@@ -90,7 +90,7 @@ fn spells_word(letters: &[u8], word: &[u8]) -> bool
 }
 
 // The base64-value before an apostrophe at the end.
-#[tactic(auto, using(csp_model::proofs::FinalBytes::byte_turned, crate::proofs::AsciiParts::take_ascii))]
+#[tactic(auto, using(csp_model::proofs::FinalBytes::byte_turned, csp_model::proofs::AsciiParts::take_ascii))]
 fn value_before_apostrophe(rest: &[u8]) -> Option<&[u8]>
     ensures value { option_copied result
         ≡ (if ends_in quote rest.now && grammar.is_base64_value (without_last rest.now)
@@ -107,7 +107,7 @@ fn value_before_apostrophe(rest: &[u8]) -> Option<&[u8]>
 // The base64-value between the word, which is in lower case, and an apostrophe.
 #[tactic(
     auto,
-    using(crate::proofs::AsciiParts::drop_ascii),
+    using(csp_model::proofs::AsciiParts::drop_ascii),
     unfolding(csp_model::specs::Reading::quoted_value)
 )]
 fn quoted_value<'a>(word: &[u8], token: &'a [u8]) -> Option<&'a [u8]>
