@@ -14,8 +14,8 @@ use Rattle.csp_url.specs.Reading.{parts_of, url_from}
 -- no user name, password, query or fragment, and the path "/"
 abbrev pub is_bare : Parts → Bool
 is_bare parts =
-    is_empty parts.username && is_empty parts.password && bytes_eq parts.path (codes "/") && is_none parts.query
-    && is_none parts.fragment
+    is_empty parts.username && is_empty parts.password && bytes_eq parts.path (codes "/")
+    && is_none parts.query && is_none parts.fragment
 
 abbrev pub is_web : Scheme → Bool
 is_web Http = true
@@ -25,7 +25,8 @@ is_web scheme = false
 -- the origin of a URL of http or https
 abbrev pub web_origin : Url → Option Origin
 web_origin (url.Plain scheme) = None
-web_origin (url.Hosted scheme host port path) = if is_web scheme then Some (origin.Tuple scheme host port) else None
+web_origin (url.Hosted scheme host port path) =
+    if is_web scheme then Some (origin.Tuple scheme host port) else None
 
 abbrev pub origin_from : Parts → Option Origin
 origin_from parts = if is_bare parts then option_and_then web_origin (url_from parts) else None

@@ -46,7 +46,8 @@ plain_of_parts scheme host port path =
     else if bytes_eq path (codes "/") then Ok (url.Plain scheme)
     else Err (Bad part.Path)
 
-abbrev pub url_of_parts_by : Option Scheme → List ℕ → Option (List ℕ) → Option ℕ → List ℕ → Result Url PartsError
+abbrev pub url_of_parts_by : Option Scheme → List ℕ → Option (List ℕ) → Option ℕ → List ℕ
+    → Result Url PartsError
 url_of_parts_by (Some known) scheme host port path = hosted_of_parts known host port path
 url_of_parts_by None scheme host port path = plain_of_parts scheme host port path
 

@@ -57,7 +57,8 @@ found_path (b ∷ text) = if b == slash then whole_pieces (pieces_of text) else 
 abbrev pub hosted_from : Scheme → Parts → Option Url
 hosted_from scheme parts =
     option_and_then (λ host. option_and_then (λ port. option_map (λ path. url.Hosted scheme host port path)
-    (found_path parts.path)) (found_port scheme parts.port)) (option_and_then found_host (nonempty_host parts))
+    (found_path parts.path)) (found_port scheme parts.port))
+    (option_and_then found_host (nonempty_host parts))
 
 -- the URL of any other scheme
 abbrev pub plain_from : List ℕ → Option Url

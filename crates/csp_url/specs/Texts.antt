@@ -1,5 +1,5 @@
--- The texts of URLs (URL Standard, section 4.5), and what a report shows of one (Content Security Policy Level 3,
--- section 5.4).
+-- The texts of URLs (URL Standard, section 4.5), and what a report shows of one (Content Security Policy
+-- Level 3, section 5.4).
 use Rattle.std.specs.Prelude.{◌≡◌, ⊤, ℕ, ◌||◌, Bool, List, [], ◌++◌, Option, Some, None, codes, decimal, option_and_then, option_map, if◌then◌else◌}
 use Rattle.std.specs.Str.{bytes_eq}
 use Rattle.url.specs.Parts.{Parts, serialize}

@@ -74,12 +74,12 @@ fn origin_of(alloc: Global, text: &str) -> Result<Option<Origin>, Memory>
     }
 }
 
-/// The origin that a text is (URL Standard, section 4.7): `null`, or a URL of http or https that says no more than
-/// its origin, with or without the `/` at its end.
+/// The origin that a text is (URL Standard, section 4.7): `null`, or a URL of http or https that says no more
+/// than its origin, with or without the `/` at its end.
 ///
-/// `BadOrigin` comes where the text isn't `null` and isn't read as a URL, or its scheme isn't http or https, or it
-/// has a user name, password, query or fragment, or its path, after parsing, isn't `/`. An empty query or fragment
-/// is one (`https://a.example?`), an empty user name or password is none (`https://@a.example`).
+/// `BadOrigin` comes where the text isn't `null` and isn't read as a URL, or its scheme isn't http or https,
+/// or it has a user name, password, query or fragment, or its path, after parsing, isn't `/`. An empty query
+/// or fragment is one (`https://a.example?`), an empty user name or password is none (`https://@a.example`).
 pub fn read_origin(alloc: Global, text: &str) -> Result<Origin, OriginError>
     ensures origin { Gives OriginError.Memory result (ok_or (spec.origin_of text.now) OriginError.BadOrigin) }
     ensures valid { IfOk result IsValidOrigin }

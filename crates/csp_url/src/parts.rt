@@ -101,10 +101,10 @@ fn plain(
     })
 }
 
-/// The URL of its parts (URL Standard, section 4.1). The scheme is in lower case. A URL of http, https, ws, wss or
-/// ftp has a host in lower case, or an address, as the standard prints them; a port of 16 bits, of which the scheme's
-/// default is kept as None; and a path that begins with `/`, whose pieces are percent-decoded. One of another scheme
-/// has neither host nor port, and the path `/`.
+/// The URL of its parts (URL Standard, section 4.1). The scheme is in lower case. A URL of http, https, ws,
+/// wss or ftp has a host in lower case, or an address, as the standard prints them; a port of 16 bits, of
+/// which the scheme's default is kept as None; and a path that begins with `/`, whose pieces are
+/// percent-decoded. One of another scheme has neither host nor port, and the path `/`.
 ///
 /// `Bad` names the first part, in the order of the arguments, that isn't so.
 pub fn url_from_parts(

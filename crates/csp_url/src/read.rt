@@ -94,13 +94,13 @@ fn url_of(alloc: Global, text: &str) -> Result<Option<Url>, Memory>
     }
 }
 
-/// The URL that a text is, parsed without a base (URL Standard, section 4.4). The standard's parser takes much that
-/// isn't written as it should be: it trims spaces, drops tabs and newlines, lowers the scheme and the host, and
-/// resolves `.` and `..`. A URL whose scheme isn't http, https, ws, wss or ftp is its scheme alone. User name,
-/// password, query and fragment are left out.
+/// The URL that a text is, parsed without a base (URL Standard, section 4.4). The standard's parser takes
+/// much that isn't written as it should be: it trims spaces, drops tabs and newlines, lowers the scheme and
+/// the host, and resolves `.` and `..`. A URL whose scheme isn't http, https, ws, wss or ftp is its scheme
+/// alone. User name, password, query and fragment are left out.
 ///
-/// `NotAUrl` comes where parsing fails, and where what it finds isn't valid here, such as a host with `%`. A URL that
-/// comes to 4 GB counts as want of memory.
+/// `NotAUrl` comes where parsing fails, and where what it finds isn't valid here, such as a host with `%`. A
+/// URL that comes to 4 GB counts as want of memory.
 pub fn read_url(alloc: Global, text: &str) -> Result<Url, UrlError>
     ensures url { Gives UrlError.Memory result (ok_or (spec.url_of text.now) UrlError.NotAUrl) }
     ensures valid { IfOk result IsValidUrl }

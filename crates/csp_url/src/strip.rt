@@ -56,9 +56,9 @@ fn stripped_of(alloc: Global, text: &str) -> Result<Option<Text>, Memory>
     }
 }
 
-/// What a report shows of the URL that a text is (Content Security Policy Level 3, section 5.4): the scheme alone
-/// where it isn't http or https, else the URL as the URL Standard prints it, without user name, password and
-/// fragment. `NotAUrl` comes where `read_url` answers it.
+/// What a report shows of the URL that a text is (Content Security Policy Level 3, section 5.4): the scheme
+/// alone where it isn't http or https, else the URL as the URL Standard prints it, without user name,
+/// password and fragment. `NotAUrl` comes where `read_url` answers it.
 pub fn strip_url(alloc: Global, text: &str) -> Result<Text, UrlError>
     ensures { Gives UrlError.Memory result (ok_or (spec.stripped_of text.now) UrlError.NotAUrl) }
 {

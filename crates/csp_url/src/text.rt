@@ -42,9 +42,9 @@ fn push_url(text: &mut String, url: &Url) -> Result<(), Memory>
     Ok(())
 }
 
-/// The text of a URL: `scheme:`, or `scheme://host`, `:port` where it isn't None, and `/` and the piece for each
-/// piece of the path. In a piece every byte but letters, digits, `-`, `.`, `_` and `~` is written as `%` and two
-/// upper-case hexadecimal digits.
+/// The text of a URL: `scheme:`, or `scheme://host`, `:port` where it isn't None, and `/` and the piece for
+/// each piece of the path. In a piece every byte but letters, digits, `-`, `.`, `_` and `~` is written as `%`
+/// and two upper-case hexadecimal digits.
 pub fn url_text(alloc: Global, url: &Url) -> Result<Text, Memory>
     ensures { IfOk result (λ text. text ≡ spec.url_text url.now) }
 {
