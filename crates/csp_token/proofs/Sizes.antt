@@ -20,7 +20,9 @@ of_size size bytes sized small = (sized, bytes_are bytes small)
 
 are_small : (bytes : List ℕ) → are_bytes bytes ≡ true → IsBytes bytes
 are_small bytes all i = elim (cases_lt i (length bytes)) [
-  | inl lt ↦ ltb-true (get_or bytes i 0) 256 (All-get_or (λ b. nat_lt b 256 ≡ true) bytes i 0 lt (AllPass-from_list_all (λ b. nat_lt b 256) bytes all))
+  | inl lt ↦
+      let small = AllPass-from_list_all (λ b. nat_lt b 256) bytes all in
+      ltb-true (get_or bytes i 0) 256 (All-get_or (λ b. nat_lt b 256 ≡ true) bytes i 0 lt small)
   | inr ge ↦ rw (get_or_past bytes i 0 ge) (lit< tt)
 ]
 

@@ -23,14 +23,18 @@ front_text p ascii text utf8 =
     let n = position_or_len p text in
     IsUtf8-take text n utf8 (elim (cases_lt n (length text)) [
       | inl lt ↦ IsCharBoundary-before_ascii text n lt (ascii (get_or text n 0) (passes_at_first p text 0 lt))
-      | inr ge ↦ subst (IsCharBoundary text) (omega (arith, ge, prefix_len-le-length (λ b. not (p b)) text)) (IsCharBoundary-end text)
+      | inr ge ↦
+          let within = prefix_len-le-length (λ b. not (p b)) text in
+          subst (IsCharBoundary text) (omega (arith, ge, within)) (IsCharBoundary-end text)
     ])
 
 back_text : (p : ℕ → Bool) → IsOfAscii p → (text : List ℕ) → IsUtf8 text → IsUtf8 (after_first p text)
 back_text p ascii text utf8 =
     let n = position_or_len p text in
     elim (cases_lt n (length text)) [
-      | inl lt ↦ IsUtf8-drop text (n + 1) utf8 (IsCharBoundary-after_ascii text n utf8 lt (ascii (get_or text n 0) (passes_at_first p text 0 lt)))
+      | inl lt ↦
+          let small = ascii (get_or text n 0) (passes_at_first p text 0 lt) in
+          IsUtf8-drop text (n + 1) utf8 (IsCharBoundary-after_ascii text n utf8 lt small)
       | inr ge ↦ rw (drop_all (n + 1) text (omega (arith, ge))) IsUtf8-nil
     ]
 

@@ -1,4 +1,5 @@
-//! Base64-values (Content Security Policy Level 3, section 2.3.1), whose symbols are of either alphabet of RFC 4648.
+//! Base64-values (Content Security Policy Level 3, section 2.3.1), whose symbols are of either alphabet of
+//! RFC 4648.
 ghost use Rattle.std.specs.Prelude.{◌≡◌, ◌≤◌, ℕ, List, length, IsNone, IfSome};
 ghost use Rattle.std.specs.Str.{bytes_eq};
 ghost use Rattle.base64.specs.Engines.{standard};

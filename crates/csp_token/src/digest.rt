@@ -28,12 +28,14 @@ pub fn digests(source: &[u8]) -> Digests
     }
 }
 
-/// The digest that a hash stands for: its value, with `-` read as `+` and `_` as `/`, is the digest's standard
-/// base64, padding and all. None comes exactly where no digest of the hash's algorithm has that base64.
+/// The digest that a hash stands for: its value, with `-` read as `+` and `_` as `/`, is the digest's
+/// standard base64, padding and all. None comes exactly where no digest of the hash's algorithm has that
+/// base64.
 pub fn hash_of(hash: &Hash) -> Option<Digest>
     ensures digest { IfSome result (spec.IsDigestOf hash.now) }
     ensures size { IfSome result spec.IsDigest }
-    ensures none { IsNone result → (digest : Digest) → spec.IsDigest digest → ¬ spec.IsDigestOf hash.now digest }
+    ensures none { IsNone result
+        → (digest : Digest) → spec.IsDigest digest → ¬ spec.IsDigestOf hash.now digest }
 {
     let value = hash.value.as_str();
     match hash.algorithm {

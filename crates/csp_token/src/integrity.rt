@@ -64,9 +64,9 @@ fn read_token(alloc: Global, token: &str) -> Result<Option<Hash>, Memory>
 
 /// Reads integrity metadata (Subresource Integrity, section 3.3, "Parse metadata").
 ///
-/// The tokens stand between ASCII whitespace. Of each the text from its first `?` on is dropped. The part before
-/// the first `-` is the algorithm, in letters of either case, and the part after it is the value; where there is
-/// no `-` the value is empty. A token of another algorithm than the three is dropped.
+/// The tokens stand between ASCII whitespace. Of each the text from its first `?` on is dropped. The part
+/// before the first `-` is the algorithm, in letters of either case, and the part after it is the value;
+/// where there is no `-` the value is empty. A token of another algorithm than the three is dropped.
 pub fn read_integrity(alloc: Global, text: &str) -> Result<List<Hash>, Memory>
     ensures pairs { IfOk result (λ made. made ≡ spec.integrity_of text.now) }
     ensures valid { IfOk result (λ made. All (λ h. IsIntegrityValue h.value) made) }
@@ -90,8 +90,8 @@ fn push_pair(text: &mut String, pair: &Hash) -> Result<(), Memory>
     Ok(())
 }
 
-/// Integrity metadata as a text: of each pair the algorithm in lower case, `-` and the value, with a space between
-/// each two. `read_integrity` gives the pairs back, where no value has ASCII whitespace or `?`.
+/// Integrity metadata as a text: of each pair the algorithm in lower case, `-` and the value, with a space
+/// between each two. `read_integrity` gives the pairs back, where no value has ASCII whitespace or `?`.
 pub fn integrity_text(alloc: Global, integrity: &List<Hash>) -> Result<Text, Memory>
     ensures text { IfOk result (λ made. made ≡ spec.integrity_text integrity.now) }
     ensures reads_back { All (λ h. IsIntegrityValue h.value) integrity.now

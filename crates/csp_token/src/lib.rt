@@ -1,5 +1,5 @@
-//! Nonces, digests and integrity metadata (Content Security Policy Level 3, sections 6.7.2.3, 6.7.2.4 and 6.7.3.3;
-//! Subresource Integrity, section 3.3).
+//! Nonces, digests and integrity metadata (Content Security Policy Level 3, sections 6.7.2.3, 6.7.2.4 and
+//! 6.7.3.3; Subresource Integrity, section 3.3).
 #![tactic(auto)]
 
 mod base64_value;

@@ -26,8 +26,8 @@ fn has_nonce(sources: &List<Source>, nonce: &str) -> bool
         .any(|source| is_nonce(source, nonce))
 }
 
-/// Whether a nonce matches a source list (Content Security Policy Level 3, section 6.7.2.3): it isn't empty, and
-/// it is byte by byte the value of a nonce-source.
+/// Whether a nonce matches a source list (Content Security Policy Level 3, section 6.7.2.3): it isn't empty,
+/// and it is byte by byte the value of a nonce-source.
 #[tactic(auto, using(csp_model::proofs::TokensDecided::nonce_decides))]
 pub fn nonce_matches(nonce: &Text, sources: &List<Source>) -> bool
     ensures value { result ≡ spec.nonce_matches nonce.now sources.now }
@@ -61,8 +61,9 @@ fn has_hashes(sources: &List<Source>, pairs: &List<Hash>) -> bool
     pairs.as_slice().iter().all(|pair| has_hash(sources, pair))
 }
 
-/// Whether integrity metadata matches a source list (Content Security Policy Level 3, section 6.7.2.4): it isn't
-/// empty, and each of its pairs of algorithm and value is a hash-source, the values compared byte by byte.
+/// Whether integrity metadata matches a source list (Content Security Policy Level 3, section 6.7.2.4): it
+/// isn't empty, and each of its pairs of algorithm and value is a hash-source, the values compared byte by
+/// byte.
 ///
 /// Each pair is compared with each source at most once, and nothing is copied.
 #[tactic(auto, using(csp_model::proofs::TokensDecided::integrity_decides))]
