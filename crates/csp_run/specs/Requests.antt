@@ -1,5 +1,6 @@
 -- The requests of a request file: for now one fetch of an image.
-use Rattle.std.specs.Prelude.{ℕ, ◌+◌, ◌==◌, ◌&&◌, if◌then◌else◌, nat_lt, Bool, true, false, List, [], Option, Some, None, is_some, option_and_then, unwrap_or, codes}
+use Rattle.std.specs.Prelude.{ℕ, ◌+◌, ◌==◌, ◌&&◌, if◌then◌else◌, nat_lt, Bool, true, false, List, [], codes}
+use Rattle.std.specs.Prelude.{Option, Some, None, is_some, option_and_then, unwrap_or, Result, Ok, Err}
 use Rattle.std.specs.Option.{option_map}
 use Rattle.std.specs.Result.{result_ok}
 use Rattle.std.specs.Str.{bytes_eq, is_utf8}
@@ -12,6 +13,8 @@ use Rattle.csp_model.specs.declared.check.Check.{Check}
 use Rattle.csp_model.specs.declared.check.Check.TheVariants.{Fetch}
 use Rattle.csp_model.specs.declared.check.Group.TheVariants.{Img}
 use Rattle.csp_model.specs.declared.url.Url.{Url}
+use Rattle.csp_run.specs.declared.request.RequestError.{RequestError}
+use Rattle.csp_run.specs.declared.request.RequestError.TheVariants.{NotBuilt, BadUrl}
 
 -- the JSON value of bytes
 abbrev pub json_of : List ℕ → Option Data
@@ -98,6 +101,14 @@ requested_value bytes = option_and_then image_value (option_and_then only_item (
 abbrev pub image_check : Url → Check
 image_check there = Fetch Img there 0 [] [] false
 
--- the URL that a request file asks for
-abbrev pub requested_url : List ℕ → Option Url
-requested_url bytes = option_and_then url_of_value (requested_value bytes)
+abbrev pub url_or_bad : Option Url → Result Url RequestError
+url_or_bad None = Err BadUrl
+url_or_bad (Some there) = Ok there
+
+abbrev pub url_or_unbuilt : Option Data → Result Url RequestError
+url_or_unbuilt None = Err NotBuilt
+url_or_unbuilt (Some value) = url_or_bad (url_of_value value)
+
+-- the URL that a request file asks for, or why there is none
+abbrev pub requested_url : List ℕ → Result Url RequestError
+requested_url bytes = url_or_unbuilt (requested_value bytes)
