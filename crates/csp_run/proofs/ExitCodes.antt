@@ -7,8 +7,9 @@ use Rattle.csp_run.specs.Texts.{exit_code}
 -- the statuses by their exit codes; none has 7 or 11
 statuses : List Status
 statuses =
-    status.Clean ∷ status.Found ∷ status.Usage ∷ status.BadOrigin ∷ status.BadPolicy ∷ status.TooLarge ∷ status.BadRequests
-    ∷ status.NotBuilt ∷ status.ReadFault ∷ status.WriteFault ∷ status.NoMemory ∷ status.NotBuilt ∷ status.NotBuilt ∷ []
+    status.Clean ∷ status.Found ∷ status.Usage ∷ status.BadOrigin ∷ status.BadPolicy ∷ status.TooLarge
+    ∷ status.BadRequests ∷ status.NotBuilt ∷ status.ReadFault ∷ status.WriteFault ∷ status.NoMemory
+    ∷ status.NotBuilt ∷ status.NotBuilt ∷ []
 
 status_at : ℕ → Status
 status_at n = get_or statuses n status.NotBuilt

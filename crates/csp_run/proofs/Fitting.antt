@@ -46,14 +46,19 @@ within_suit o role.Requests bytes c is = image_suits _ c is
 bytes_suit : (o : Origin) (file : Role) (bytes : List ℕ) (c : Content) → Ok c ≡ read_as o file bytes
     → suits file c ≡ true
 bytes_suit o file bytes c is =
-    elim (nat_lt file_limit (length bytes)) as (λ b. Ok c ≡ cond b (Err (fault.TooLarge file limit.Bytes)) (read_within o file bytes) → suits file c ≡ true) [
+    let P : Bool → Type 0 = λ b.
+    Ok c ≡ cond b (Err (fault.TooLarge file limit.Bytes)) (read_within o file bytes) → suits file c ≡ true in
+    elim (nat_lt file_limit (length bytes)) as P [
       | true ↦ λ e. absurd (cc e)
       | false ↦ λ e. within_suit o file bytes c e
     ] is
 
-read_suits : (w : World) (o : Origin) (file : File) (c : Content) → IsRead w o file (Ok c) → suits file.role c ≡ true
-read_suits w o file c read =
-    elim read [ inl failed ↦ absurd (cc failed.fault) | inr held ↦ bytes_suit o file.role held.bytes c held.found_is ]
+read_suits : (w : World) (o : Origin) (last : Bool) (file : File) (c : Content) → IsRead w o last file (Ok c)
+    → suits file.role c ≡ true
+read_suits w o last file c read = elim read [
+  | inl failed ↦ absurd (cc failed.fault)
+  | inr held ↦ bytes_suit o file.role held.bytes c held.found_is
+]
 
 -- so many names are two
 two_names : (names : List (List ℕ)) → (length names == 2) ≡ true
@@ -63,27 +68,31 @@ two_names (a ∷ []) taken = absurd (cc taken)
 two_names (a ∷ b ∷ []) taken = (a, b, refl)
 two_names (a ∷ b ∷ c ∷ names) taken = absurd (grind (arith, nat_tests, taken))
 
-two_fit : (w : World) (o : Origin) (form : Form) (a b : List ℕ) (cs : List Content)
-    → ((x y : Content) → suits (role_at form 0) x ≡ true → suits (role_at form 1) y ≡ true → fits form (x ∷ y ∷ []) ≡ true)
+-- the contents of two files fit a form, where those of their roles do
+abbrev pub TwoFit : Form → Type 0
+TwoFit form = (x y : Content) → suits (role_at form 0) x ≡ true → suits (role_at form 1) y ≡ true
+    → fits form (x ∷ y ∷ []) ≡ true
+
+two_fit : (w : World) (o : Origin) (form : Form) (a b : List ℕ) (cs : List Content) → TwoFit form
     → AreRead w o 0 (files_from form 0 (a ∷ b ∷ [])) (Ok cs) → fits form cs ≡ true
 two_fit w o form a b [] good are = absurd are
 two_fit w o form a b (x ∷ []) good are = absurd are.1
-two_fit w o form a b (x ∷ y ∷ []) good are = good x y (read_suits w o _ x are.0) (read_suits w o _ y are.1.0)
+two_fit w o form a b (x ∷ y ∷ []) good are =
+    good x y (read_suits w o _ _ x are.0) (read_suits w o _ _ y are.1.0)
 two_fit w o form a b (x ∷ y ∷ z ∷ cs) good are = absurd (cc are.1.1.0)
 
-of_two : (w : World) (o : Origin) (form : Form) (names : List (List ℕ)) (cs : List Content)
-    → ((x y : Content) → suits (role_at form 0) x ≡ true → suits (role_at form 1) y ≡ true → fits form (x ∷ y ∷ []) ≡ true)
+of_two : (w : World) (o : Origin) (form : Form) (names : List (List ℕ)) (cs : List Content) → TwoFit form
     → (length names == 2) ≡ true → AreRead w o 0 (files_from form 0 names) (Ok cs) → fits form cs ≡ true
 of_two w o form names cs good taken are =
     let two = two_names names taken in
     let P : List (List ℕ) → Type 0 = λ l. AreRead w o 0 (files_from form 0 l) (Ok cs) in
     two_fit w o form two.0 two.1 cs good (subst P two.2 are)
 
-judge : (x y : Content) → suits role.Policy x ≡ true → suits role.Requests y ≡ true → fits Judge (x ∷ y ∷ []) ≡ true
+judge : TwoFit Judge
 judge (content.Policies x) (content.Image y) a b = refl
 judge x y a b = absurd (cc)
 
 -- what was read of as many files as the form takes fits it
-pub fit : (w : World) (o : Origin) (form : Form) (names : List (List ℕ)) (cs : List Content) → takes form (length names) ≡ true
-    → AreRead w o 0 (files_from form 0 names) (Ok cs) → fits form cs ≡ true
+pub fit : (w : World) (o : Origin) (form : Form) (names : List (List ℕ)) (cs : List Content)
+    → takes form (length names) ≡ true → AreRead w o 0 (files_from form 0 names) (Ok cs) → fits form cs ≡ true
 fit w o Judge names cs taken are = of_two w o Judge names cs judge taken are

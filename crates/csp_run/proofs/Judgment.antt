@@ -1,5 +1,6 @@
 -- The output of one verdict.
-use Rattle.std.proofs.Common.{◌≡◌, ℕ, true, false, List, [], ◌∷◌, refl, sym, ◌∙◌, append-nil, ap, Bool, ◌||◌, if◌then◌else◌}
+use Rattle.std.proofs.Common.{◌≡◌, ℕ, true, false, List, [], ◌∷◌, refl, sym, ◌∙◌, append-nil, ap, Bool, ◌||◌}
+use Rattle.std.proofs.Common.{if◌then◌else◌}
 use Rattle.csp_model.specs.Verdict.{IsVerdict}
 use Rattle.csp_model.specs.declared.check.Check.{Check}
 use Rattle.csp_model.specs.declared.policy.PolicyList.{PolicyList}
@@ -13,8 +14,9 @@ or_nothing : (b : Bool) → (b || false) ≡ b
 or_nothing true = refl
 or_nothing false = refl
 
-pub one_judgment : (list : PolicyList) (checks : List Check) (v : Verdict) (built : Built) → IsVerdict list checks v
-    → built.status ≡ judged_status (v ∷ []) → built.text ≡ verdict_line 1 v → IsJudgment list (checks ∷ []) built
+pub one_judgment : (list : PolicyList) (checks : List Check) (v : Verdict) (built : Built)
+    → IsVerdict list checks v → built.status ≡ judged_status (v ∷ []) → built.text ≡ verdict_line 1 v
+    → IsJudgment list (checks ∷ []) built
 one_judgment list checks v built is status text = record {
   verdicts = v ∷ [];
   judged = (v, [], refl, is, refl);

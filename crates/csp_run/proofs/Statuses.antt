@@ -1,5 +1,6 @@
 -- An output has one of two statuses.
-use Rattle.std.proofs.Common.{◌≡◌, Bool, true, false, List, [], ◌∷◌, Result, Ok, Err, refl, ap, sym, ◌∙◌, cond}
+use Rattle.std.proofs.Common.{◌≡◌, Bool, true, false, List, [], ◌∷◌, Result, Ok, Err, refl, ap, sym, ◌∙◌}
+use Rattle.std.proofs.Common.{cond}
 use Rattle.std.proofs.lemmas.Bool.{false≢true}
 use Rattle.csp_run.specs.declared.fault.Fault.{Fault}
 use Rattle.csp_run.specs.declared.files.Content.{Content}
@@ -24,7 +25,8 @@ clean_or_found : (b : Bool) → is_done (cond b Found Clean) ≡ true
 clean_or_found true = refl
 clean_or_found false = refl
 
-printed_done : (form : Form) (found : Result (List Content) Fault) (built : Built) → IsOutput form found (Ok built)
+printed_done : (form : Form) (found : Result (List Content) Fault) (built : Built)
+    → IsOutput form found (Ok built)
     → is_done built.status ≡ true
 printed_done form (Err f) built is = absurd (cc is)
 printed_done Judge (Ok (content.Policies list ∷ content.Image there ∷ [])) built is =
@@ -37,7 +39,8 @@ ended_done w (Err f) built is = absurd (cc is.0)
 ended_done w (Ok plan) built is = printed_done plan.form is.0 built is.2
 
 -- another status is none of an output
-pub no_output : (w : World) (asked : Result Plan Fault) (built : Built) (status : Status) → IsEndOf w asked (Ok built)
+pub no_output : (w : World) (asked : Result Plan Fault) (built : Built) (status : Status)
+    → IsEndOf w asked (Ok built)
     → is_done status ≡ false → built.status ≡ status → ⊥
 no_output w asked built status is other same =
     false≢true (sym other ∙ ap is_done (sym same) ∙ ended_done w asked built is)

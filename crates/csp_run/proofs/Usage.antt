@@ -59,7 +59,10 @@ within_never o role.Requests bytes is = image_never _ is
 bytes_never : (o : Origin) (file : Role) (bytes : List ℕ)
     → ◌≢◌ {A = Result Content Fault} (Err fault.Usage) (read_as o file bytes)
 bytes_never o file bytes is =
-    elim (nat_lt file_limit (length bytes)) as (λ b. ◌≡◌ {A = Result Content Fault} (Err fault.Usage) (cond b (Err (fault.TooLarge file limit.Bytes)) (read_within o file bytes)) → ⊥) [
+    let P : Bool → Type 0 = λ b.
+    ◌≡◌ {A = Result Content Fault} (Err fault.Usage)
+    (cond b (Err (fault.TooLarge file limit.Bytes)) (read_within o file bytes)) → ⊥ in
+    elim (nat_lt file_limit (length bytes)) as P [
       | true ↦ λ e. absurd (cc e)
       | false ↦ λ e. within_never o file bytes e
     ] is
@@ -86,7 +89,8 @@ no_fault : (form : Form) (contents : List Content) (f : Fault) → IsOutput form
 no_fault Judge (content.Policies list ∷ content.Image there ∷ []) f is = is
 no_fault form contents f is = is
 
-after_files : (w : World) (plan : Plan) (found : Result (List Content) Fault) → AreRead w plan.origin 0 plan.files found
+after_files : (w : World) (plan : Plan) (found : Result (List Content) Fault)
+    → AreRead w plan.origin 0 plan.files found
     → IsOutput plan.form found (Err fault.Usage) → ⊥
 after_files w plan (Ok contents) are is = no_fault plan.form contents fault.Usage is
 after_files w plan (Err g) are is =
@@ -94,15 +98,18 @@ after_files w plan (Err g) are is =
     let same : g ≡ fault.Usage = cc is in
     files_never w plan.origin 0 plan.files (subst P same are)
 
-by_the_words : (w : World) (asked : Result Plan Fault) → IsEndOf w asked (Err fault.Usage) → asked ≡ Err fault.Usage
+by_the_words : (w : World) (asked : Result Plan Fault) → IsEndOf w asked (Err fault.Usage)
+    → asked ≡ Err fault.Usage
 by_the_words w (Ok plan) is = absurd (after_files w plan is.0 is.1 is.2)
 by_the_words w (Err f) is = let same : f ≡ fault.Usage = cc (is.0) in ap (λ (g : Fault). Err g) same
 
-ends_so : (w : World) (asked : Result Plan Fault) (end : End) → IsEndOf w asked end → end_status end ≡ status.Usage
+ends_so : (w : World) (asked : Result Plan Fault) (end : End) → IsEndOf w asked end
+    → end_status end ≡ status.Usage
     → asked ≡ Err fault.Usage
 ends_so w asked (Ok built) is usage = absurd (no_output w asked built status.Usage is refl usage)
 ends_so w asked (Err f) is usage =
-    let P : Fault → Type 0 = λ g. IsEndOf w asked (Err g) in by_the_words w asked (subst P (usage_fault f usage) is)
+    let P : Fault → Type 0 = λ g. IsEndOf w asked (Err g) in
+    by_the_words w asked (subst P (usage_fault f usage) is)
 
 no_memory : (end : End) → end_status end ≡ status.Usage → ◌≢◌ {A = End} end (Err fault.Memory)
 no_memory end usage same =

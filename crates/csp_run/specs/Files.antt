@@ -1,6 +1,7 @@
 -- What files hold, where their bytes are told and where they aren't.
 use Rattle.std.specs.Prelude.{◌≡◌, ◌⊎◌, ℕ, ◌+◌, ◌-◌, ◌^◌, min, nat_lt, if◌then◌else◌}
-use Rattle.std.specs.Prelude.{List, [], ◌∷◌, length, Option, Some, None, Result, Ok, Err}
+use Rattle.std.specs.Prelude.{Bool, true, false, IsTrue, List, [], ◌∷◌, length, Option, Some, None, Result}
+use Rattle.std.specs.Prelude.{Ok, Err}
 use Rattle.csp_io.specs.Told.{WhereTold, Rose}
 use Rattle.csp_io.specs.declared.inputs.Inputs.{Ghosts}
 use Rattle.csp_model.specs.Policies.{policies}
@@ -61,13 +62,16 @@ read_as origin file bytes =
     if nat_lt file_limit (length bytes) then Err (fault.TooLarge file limit.Bytes)
     else read_within origin file bytes
 
--- what a call knows of its inputs: the bytes that are told, and its counts before the call and now
+-- what a call knows of its inputs: the bytes that are told, its counts before the call and now, the file that was
+-- started last, and how many bytes of it were given
 pub record World : Type 0 where
   pub contents : List ℕ → Option (List ℕ)
   pub faults_before : List ℕ → ℕ
   pub faults_now : List ℕ → ℕ
   pub starts_before : ℕ
   pub starts_now : ℕ
+  pub current : Option (List ℕ)
+  pub given : ℕ
 
 abbrev pub world : {S : Type 0} → Ghosts S → S → S → World
 world inputs old new = record {
@@ -76,6 +80,8 @@ world inputs old new = record {
   faults_now = inputs.faults new;
   starts_before = inputs.starts old;
   starts_now = inputs.starts new;
+  current = inputs.current new;
+  given = inputs.given new;
 }
 
 -- the same, with no file that failed
@@ -91,15 +97,27 @@ pub record IsFailed (w : World) (file : File) (found : Result Content Fault) : T
   pub fault : found ≡ Err (fault.Read file.role)
   pub rose : Rose (w.faults_before file.name) (w.faults_now file.name)
 
--- a file has these bytes, the told ones where they are told, and this is what they hold
-pub record IsHeld (w : World) (origin : Origin) (file : File) (found : Result Content Fault) : Type 0 where
+-- these are the bytes of the file that was started last, of which one past the limit is the last to be given
+pub record IsCurrent (w : World) (file : File) (bytes : List ℕ) : Type 0 where
+  pub opened : w.current ≡ Some file.name
+  pub given : w.given ≡ min (length bytes) (file_limit + 1)
+
+-- A file has these bytes, the told ones where they are told, and this is what they hold. Of the last file that was
+-- started, as many were given.
+pub record IsHeld (w : World) (origin : Origin) (last : Bool) (file : File) (found : Result Content Fault) :
+    Type 0 where
   pub bytes : List ℕ
   pub told : WhereTold (w.contents file.name) (λ whole. bytes ≡ whole)
+  pub current : IsTrue last → IsCurrent w file bytes
   pub found_is : found ≡ read_as origin file.role bytes
 
--- what is found of a file
-abbrev pub IsRead : World → Origin → File → Result Content Fault → Type 0
-IsRead w origin file found = IsFailed w file found ⊎ IsHeld w origin file found
+-- what is found of a file, which may be the last that was started
+abbrev pub IsRead : World → Origin → Bool → File → Result Content Fault → Type 0
+IsRead w origin last file found = IsFailed w file found ⊎ IsHeld w origin last file found
+
+abbrev pub is_empty : List File → Bool
+is_empty [] = true
+is_empty (file ∷ files) = false
 
 -- What is found of files, each read once and in their order, n others before these: what each one holds, or the
 -- fault of the first that has one, after which no file is started.
@@ -108,7 +126,7 @@ AreRead w origin n [] (Ok contents) = (contents ≡ []) × HasStarted w n
 AreRead w origin n [] (Err f) = ⊥
 AreRead w origin n (file ∷ files) (Ok []) = ⊥
 AreRead w origin n (file ∷ files) (Ok (content ∷ contents)) =
-    IsRead w origin file (Ok content) × AreRead w origin (n + 1) files (Ok contents)
+    IsRead w origin (is_empty files) file (Ok content) × AreRead w origin (n + 1) files (Ok contents)
 AreRead w origin n (file ∷ files) (Err f) =
-    (IsRead w origin file (Err f) × HasStarted w (n + 1))
-    ⊎ ((content : Content) × IsRead w origin file (Ok content) × AreRead w origin (n + 1) files (Err f))
+    (IsRead w origin true file (Err f) × HasStarted w (n + 1))
+    ⊎ ((content : Content) × IsRead w origin false file (Ok content) × AreRead w origin (n + 1) files (Err f))

@@ -41,7 +41,8 @@ lines_from request (v ∷ vs) = verdict_line request v ++ lines_from (request + 
 -- the verdict on each request, in order
 abbrev pub AreVerdicts : PolicyList → List (List Check) → List Verdict → Type 0
 AreVerdicts list [] verdicts = verdicts ≡ []
-AreVerdicts list (checks ∷ rest) verdicts = (first : Verdict) × (later : List Verdict) × (verdicts ≡ first ∷ later)
+AreVerdicts list (checks ∷ rest) verdicts = (first : Verdict) × (later : List Verdict)
+    × (verdicts ≡ first ∷ later)
     × IsVerdict list checks first × AreVerdicts list rest later
 
 abbrev pub judged_status : List Verdict → Status

@@ -41,7 +41,8 @@ port_or_absent None = Some None
 port_or_absent (Some value) = option_and_then small_number (option_and_then as_u64 (as_number value))
 
 -- the URL of a scheme, a host, a port and a path, where each has its form
-abbrev pub url_with : Option (List ℕ) → Option (Option (List ℕ)) → Option (Option ℕ) → Option (Option (List ℕ)) → Option Url
+abbrev pub url_with : Option (List ℕ) → Option (Option (List ℕ)) → Option (Option ℕ)
+    → Option (Option (List ℕ)) → Option Url
 url_with scheme host port path =
     option_and_then (λ s. option_and_then (λ h. option_and_then (λ n. option_and_then (λ p.
     result_ok (parts_answer s h n (unwrap_or p (codes "/")))) path) port) host) scheme
@@ -49,7 +50,8 @@ url_with scheme host port path =
 -- the URL of an object in parts: scheme, and host, port and path, which may be absent
 abbrev pub url_of_parts : Data → Option Url
 url_of_parts value =
-    url_with (option_and_then as_str (present (codes "scheme") value)) (text_or_absent (present (codes "host") value))
+    url_with (option_and_then as_str (present (codes "scheme") value))
+    (text_or_absent (present (codes "host") value))
     (port_or_absent (present (codes "port") value)) (text_or_absent (present (codes "path") value))
 
 abbrev pub url_by_text : Option (List ℕ) → Data → Option Url
@@ -85,7 +87,8 @@ text_member name value = option_and_then as_str (get name value)
 -- what stands for the URL in exactly the members kind, destination and url of an image's fetch
 abbrev pub image_value : Data → Option Data
 image_value value =
-    if has_three (as_object value) && is_text (codes "fetch") (text_member (codes "kind") value) && is_text (codes "image") (text_member (codes "destination") value)
+    if has_three (as_object value) && is_text (codes "fetch") (text_member (codes "kind") value) && is_text
+    (codes "image") (text_member (codes "destination") value)
     then option_and_then text_or_object (get (codes "url") value)
     else None
 
@@ -95,7 +98,8 @@ only_item items = None
 
 -- what stands for the URL in a request file of one image's fetch
 unfoldable pub requested_value : List ℕ → Option Data
-requested_value bytes = option_and_then image_value (option_and_then only_item (option_and_then as_array (json_of bytes)))
+requested_value bytes =
+    option_and_then image_value (option_and_then only_item (option_and_then as_array (json_of bytes)))
 
 -- the check of an image's fetch
 abbrev pub image_check : Url → Check

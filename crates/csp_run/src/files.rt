@@ -1,5 +1,6 @@
 //! The files that a command reads.
-ghost use Rattle.std.specs.Prelude.{◌≡◌, ◌≢◌, ◌≤◌, ◌<◌, ◌^◌, ◌+◌, ◌-◌, min, ℕ, List as Items, IfOk, All, length};
+ghost use Rattle.std.specs.Prelude.{◌≡◌, ◌≢◌, ◌≤◌, ◌<◌, ◌^◌, ◌+◌, ◌-◌, min, ℕ, true, List as Items, IfOk};
+ghost use Rattle.std.specs.Prelude.{All, length};
 ghost use Rattle.csp_model.specs.Validity.{IsValidOrigin};
 ghost use Rattle.csp_run.specs.Files as spec;
 ghost use Rattle.csp_run.specs.Files.{world};
@@ -62,7 +63,7 @@ fn read_file<I: Inputs>(
 ) -> Result<Content, Fault>
     requires { IsValidOrigin origin.now }
     ensures read { result ≢ Err Fault.Memory → spec.IsRead (world I.Inputs inputs.old inputs.new)
-        origin.now (record { role = role; name = name.now }) result }
+        origin.now true (record { role = role; name = name.now }) result }
     ensures sound { IfOk result IsSound }
     ensures starts { I.starts inputs.new ≡ min (I.starts inputs.old + 1) (2 ^ 64 - 1) }
     ensures contents { (n : Items ℕ) → I.contents inputs.new n ≡ I.contents inputs.old n }
