@@ -97,13 +97,13 @@ pub record IsFailed (w : World) (file : File) (found : Result Content Fault) : T
   pub fault : found ≡ Err (fault.Read file.role)
   pub rose : Rose (w.faults_before file.name) (w.faults_now file.name)
 
--- these are the bytes of the file that was started last, of which one past the limit is the last to be given
+-- the file was started last, and as many bytes of it were given as these, up to one past the limit
 pub record IsCurrent (w : World) (file : File) (bytes : List ℕ) : Type 0 where
   pub opened : w.current ≡ Some file.name
   pub given : w.given ≡ min (length bytes) (file_limit + 1)
 
--- A file has these bytes, the told ones where they are told, and this is what they hold. Of the last file that was
--- started, as many were given.
+-- A file has these bytes, the told ones where they are told, and this is what they hold. Where no file was started
+-- after it, so many bytes were given.
 pub record IsHeld (w : World) (origin : Origin) (last : Bool) (file : File) (found : Result Content Fault) :
     Type 0 where
   pub bytes : List ℕ
@@ -111,7 +111,7 @@ pub record IsHeld (w : World) (origin : Origin) (last : Bool) (file : File) (fou
   pub current : IsTrue last → IsCurrent w file bytes
   pub found_is : found ≡ read_as origin file.role bytes
 
--- what is found of a file, which may be the last that was started
+-- what is found of a file, the last that was started or not
 abbrev pub IsRead : World → Origin → Bool → File → Result Content Fault → Type 0
 IsRead w origin last file found = IsFailed w file found ⊎ IsHeld w origin last file found
 

@@ -1,4 +1,4 @@
-//! Why a run has no output.
+//! The faults that end a run, with the files and the limits that they name.
 ghost use Rattle.std.specs.Prelude.{◌≡◌};
 ghost use Rattle.csp_run.specs.Texts as texts;
 
@@ -7,14 +7,18 @@ use crate::status::Status;
 /// What isn't built yet.
 #[derive(Clone, Copy, Debug, PartialEq, Eq)]
 pub enum Unbuilt {
+    /// The command that the words name.
     Command,
+    /// The requests of a request file.
     Requests,
 }
 
 /// What a file is to a command.
 #[derive(Clone, Copy, Debug, PartialEq, Eq)]
 pub enum Role {
+    /// A header block.
     Policy,
+    /// A request file.
     Requests,
 }
 
@@ -34,14 +38,21 @@ pub enum Limit {
 /// Why a run has no output.
 #[derive(Clone, Copy, Debug, PartialEq, Eq)]
 pub enum Fault {
+    /// The words have none of the forms.
     Usage,
+    /// The word for the origin is none.
     BadOrigin,
+    /// The words or a file ask for what isn't built yet.
     NotBuilt { what: Unbuilt },
+    /// The line of this number, counted from 1, is the first bad one of a policy file.
     BadPolicy { file: Role, line: u32 },
+    /// A count of a file passes its limit.
     TooLarge { file: Role, limit: Limit },
     /// The URL of the request of this number, counted from 1, is none.
     BadUrl { request: u32 },
+    /// A file couldn't be read.
     Read { file: Role },
+    /// There was no memory.
     Memory,
 }
 

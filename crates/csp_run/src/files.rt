@@ -99,6 +99,7 @@ fn content_of(alloc: Global, origin: &Origin, role: Role, bytes: &[u8]) -> Resul
     }
 }
 
+// The fault of what reading a policy file refuses.
 fn refusal_fault(file: Role, error: BlockError) -> Fault
     ensures { result ≡ spec.refusal_fault file error }
 {
@@ -120,6 +121,7 @@ fn refusal_fault(file: Role, error: BlockError) -> Fault
     }
 }
 
+// The fault of what reading a request file refuses.
 fn request_fault(error: RequestError) -> Fault
     ensures { result ≡ spec.request_fault error }
 {

@@ -12,6 +12,7 @@ use std::alloc::Global;
 /// What a command does.
 #[derive(Clone, Copy, Debug, PartialEq, Eq)]
 pub enum Form {
+    /// The verdicts of a policy file on the requests of a request file.
     Judge,
 }
 
@@ -33,7 +34,8 @@ pub fn role_at(form: Form, place: usize) -> Role
     }
 }
 
-/// What these words ask for, or why it is nothing.
+/// What these words ask for, or why it is nothing: `Usage`, `NotBuilt` or `BadOrigin`, tested in this order, or
+/// `Memory`.
 pub fn plan_of(alloc: Global, words: &[Text]) -> Result<Plan<'_>, Fault>
     ensures plan { result ≢ Err Fault.Memory → shown result ≡ spec.plan_of words.now }
     ensures takes { IfOk result (λ plan. IsTrue (spec.takes plan.form (length plan.names.now))) }
@@ -75,6 +77,7 @@ fn is_unbuilt(words: &[Text]) -> bool
     }
 }
 
+// Whether it is a decimal number from 1 to 200 without leading zeros.
 #[tactic(auto, unfolding(crate::specs::Words::is_drill_number))]
 fn is_drill_number(word: &[u8]) -> bool
     ensures { result ≡ spec.is_drill_number word.now }

@@ -16,6 +16,7 @@ pub enum RequestError {
     NotBuilt,
     /// What stands for the URL is none.
     BadUrl,
+    /// There was no memory.
     Memory,
 }
 
