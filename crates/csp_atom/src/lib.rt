@@ -19,6 +19,3 @@ pub use laws::{
 pub use meaning::holds;
 pub use table::follows;
 pub use vocabulary::vocabulary_of;
-
-#[cfg(test)]
-mod tests;

@@ -14,6 +14,3 @@ mod source;
 
 pub use fallback::{governing, governing_directive, governing_name};
 pub use source::{list_matches, source_matches};
-
-#[cfg(test)]
-mod tests;

@@ -9,8 +9,6 @@ mod longest;
 mod names;
 mod policy;
 mod print;
-#[cfg(test)]
-mod tests;
 mod words;
 
 pub use block::read_block;

@@ -14,6 +14,3 @@ pub use laws::{
 pub use number::{shape_at, shape_number};
 pub use of_check::shape_of;
 pub use shape::Shape;
-
-#[cfg(test)]
-mod tests;

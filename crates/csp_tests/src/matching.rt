@@ -3,13 +3,14 @@ use crate::values::{policy, source, sources};
 use csp_match::{governing, list_matches, source_matches};
 use csp_model::Name;
 use csp_url::{read_origin, read_url};
+use std::process::Abort;
 use std::test::Fail;
 
 const OWN: &str = "https://a.example";
 
 // Whether a token matches a URL, in a policy of an origin.
 fn matches(
-    rt: &HostRuntime,
+    rt: &(impl Abort + AllocGlobal),
     (origin, token, url, redirected): (&str, &str, &str, bool),
 ) -> Result<bool, Fail> {
     let origin = read_origin(rt.alloc(), origin)?;

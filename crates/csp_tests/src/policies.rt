@@ -3,6 +3,7 @@ use crate::values::policies;
 use csp_model::{Disposition, Memory, Origin, PolicyList, Text};
 use csp_policy::{BlockError, policy_text, read_block};
 use csp_url::read_origin;
+use std::alloc::Global;
 use std::test::Fail;
 
 #[test]
@@ -30,10 +31,10 @@ fn bad_lines(rt: HostRuntime) {
 }
 
 // Each policy on a line of its own.
-fn printed(rt: &HostRuntime, list: &PolicyList) -> Result<Text, Memory> {
-    let mut text = String::new(rt.alloc());
+fn printed(alloc: Global, list: &PolicyList) -> Result<Text, Memory> {
+    let mut text = String::new(alloc);
     for policy in list.policies.as_slice() {
-        text.push_str(policy_text(rt.alloc(), policy)?.as_str())?;
+        text.push_str(policy_text(alloc, policy)?.as_str())?;
         text.push_str("\n")?;
     }
     Ok(Text::from_string(text))
@@ -68,7 +69,7 @@ fn blocks(rt: HostRuntime) -> Result<(), Fail> {
         ),
     ] {
         let list = policies(&rt, block)?;
-        assert_eq!(rt; printed(&rt, &list)?.as_str(), wanted, "{block}");
+        assert_eq!(rt; printed(rt.alloc(), &list)?.as_str(), wanted, "{block}");
     }
     Ok(())
 }
@@ -79,7 +80,7 @@ fn dispositions(rt: HostRuntime) -> Result<(), Fail> {
         "content-security-policy-report-only: img-src ftp:, img-src https:\nMeta-Content-Security-Policy: sandbox; img-src ftp:";
     let list = policies(&rt, block)?;
     assert_eq!(rt;
-        printed(&rt, &list)?.as_str(),
+        printed(rt.alloc(), &list)?.as_str(),
         "img-src ftp:\nimg-src https:\nimg-src ftp:\n"
     );
     let origin = read_origin(rt.alloc(), "https://a.example")?;
@@ -96,11 +97,8 @@ fn dispositions(rt: HostRuntime) -> Result<(), Fail> {
 }
 
 // The block of a front, a part so many times, and an end.
-fn long(
-    rt: &HostRuntime,
-    (front, part, count, end): (&str, &str, u32, &str),
-) -> Result<String, Fail> {
-    let mut block = String::from_str(rt.alloc(), front)?;
+fn long(alloc: Global, (front, part, count, end): (&str, &str, u32, &str)) -> Result<String, Fail> {
+    let mut block = String::from_str(alloc, front)?;
     for _ in 0..count {
         block.push_str(part)?;
     }
@@ -153,7 +151,7 @@ fn limits(rt: HostRuntime) -> Result<(), Fail> {
             Some(BlockError::BadLine { line: 2 }),
         ),
     ] {
-        let block = long(&rt, parts)?;
+        let block = long(rt.alloc(), parts)?;
         assert_eq!(rt; policies(&rt, block.as_str()).err(), wanted, "{parts:?}");
     }
     Ok(())

@@ -5,6 +5,7 @@ use csp_model::{
     pieces_of,
 };
 use csp_source::{read_source, source_text};
+use std::process::Abort;
 use std::test::Fail;
 
 fn kind(source: &Source) -> &'static str {
@@ -20,7 +21,7 @@ fn kind(source: &Source) -> &'static str {
 }
 
 // The kind of a token, which has to be ASCII, and its source's text.
-fn told(rt: &HostRuntime, token: &str) -> Result<(&'static str, Text), Memory> {
+fn told(rt: &(impl Abort + AllocGlobal), token: &str) -> Result<(&'static str, Text), Memory> {
     let bytes = token.as_bytes();
     assert!(rt; is_ascii_text(bytes), "{token}");
     let source = read_source(rt.alloc(), bytes)?;

@@ -1,12 +1,14 @@
 //! Builders of values, so that a row of a table is short.
 use csp_model::{
-    Check, Duplicate, Group, Hash, List, Memory, Policy, PolicyList, Source, Text, is_ascii_text,
+    Algorithm, Check, Duplicate, Group, Hash, List, Memory, Policy, PolicyList, Source, Text,
+    is_ascii_text,
 };
 use csp_policy::{BlockError, read_block};
 use csp_source::read_source;
 use csp_token::read_integrity;
 use csp_url::{read_origin, read_url};
 use std::alloc::Global;
+use std::process::Abort;
 use std::test::Fail;
 
 pub fn one<T: Drop>(alloc: Global, item: T) -> Result<List<T>, Memory> {
@@ -28,14 +30,14 @@ pub fn numbers(alloc: Global, all: &[u64]) -> Result<List<u64>, Memory> {
 }
 
 // The source of a token, which has to be ASCII.
-pub fn source(rt: &HostRuntime, token: &str) -> Result<Source, Memory> {
+pub fn source(rt: &(impl Abort + AllocGlobal), token: &str) -> Result<Source, Memory> {
     let bytes = token.as_bytes();
     assert!(rt; is_ascii_text(bytes), "{token}");
     read_source(rt.alloc(), bytes)
 }
 
 // The sources of the tokens between spaces.
-pub fn sources(rt: &HostRuntime, value: &str) -> Result<List<Source>, Memory> {
+pub fn sources(rt: &(impl Abort + AllocGlobal), value: &str) -> Result<List<Source>, Memory> {
     let mut made = List::new(rt.alloc());
     for token in value.split(' ') {
         made.push(source(rt, token)?)?;
@@ -44,7 +46,7 @@ pub fn sources(rt: &HostRuntime, value: &str) -> Result<List<Source>, Memory> {
 }
 
 // The policies of a header block, of the origin `https://a.example`.
-pub fn policies(rt: &HostRuntime, block: &str) -> Result<PolicyList, BlockError> {
+pub fn policies(rt: &(impl Abort + AllocGlobal), block: &str) -> Result<PolicyList, BlockError> {
     let bytes = block.as_bytes();
     assert!(rt; bytes.len() < 4_000_000_000);
     match read_origin(rt.alloc(), "https://a.example") {
@@ -54,7 +56,7 @@ pub fn policies(rt: &HostRuntime, block: &str) -> Result<PolicyList, BlockError>
 }
 
 // The policy of a header's value, the last one where there are several.
-pub fn policy(rt: &HostRuntime, value: &str) -> Result<Policy, Fail> {
+pub fn policy(rt: &(impl Abort + AllocGlobal), value: &str) -> Result<Policy, Fail> {
     let block = format!(in rt.alloc(); "Content-Security-Policy: {value}")?;
     let mut list = policies(rt, block.as_str())?;
     Ok(list.policies.pop().ok_or("no policy")?)
@@ -63,7 +65,7 @@ pub fn policy(rt: &HostRuntime, value: &str) -> Result<Policy, Fail> {
 // A hash of SHA-256.
 pub fn hash(alloc: Global, value: &str) -> Result<Hash, Memory> {
     Ok(Hash {
-        algorithm: csp_model::Algorithm::Sha256,
+        algorithm: Algorithm::Sha256,
         value: Text::new(alloc, value)?,
     })
 }

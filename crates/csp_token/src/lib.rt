@@ -6,8 +6,6 @@ mod base64_value;
 mod digest;
 mod integrity;
 mod matching;
-#[cfg(test)]
-mod tests;
 
 pub use digest::{digest_matches, digests, hash_of};
 pub use integrity::{integrity_text, read_integrity};
