@@ -6,170 +6,96 @@ use csp_url::{read_origin, read_url};
 use std::process::Abort;
 use std::test::Fail;
 
-const OWN: &str = "https://a.example";
-
-// Whether a token matches a URL, in a policy of an origin.
+// Whether a token matches a URL in a policy of an origin, where a redirect led to it and where none did.
 fn matches(
     rt: &(impl Abort + AllocGlobal),
-    (origin, token, url, redirected): (&str, &str, &str, bool),
-) -> Result<bool, Fail> {
-    let origin = read_origin(rt.alloc(), origin)?;
+    origin: &str,
+    token: &str,
+    url: &str,
+) -> Result<(bool, bool), Fail> {
     let source = source(rt, token)?;
+    let origin = read_origin(rt.alloc(), origin)?;
     let url = read_url(rt.alloc(), url)?;
-    Ok(source_matches(&source, &origin, &url, redirected))
+    Ok((
+        source_matches(&source, &origin, &url, true),
+        source_matches(&source, &origin, &url, false),
+    ))
 }
+
+// A token, a URL, and whether they match in a policy of `https://a.example`.
+const OWN: [(&str, &str, bool); 23] = [
+    ("https://b.example", "https://b.example/x.png", true),
+    ("http://b.example", "https://b.example/x.png", true),
+    ("https://b.example", "http://b.example/x.png", false),
+    ("http://a.example:80", "https://a.example/x.png", false),
+    ("https://a.example:443", "https://a.example/x.png", true),
+    ("localhost:*", "https://localhost:3000/x.png", true),
+    ("localhost:*", "http://localhost:3000/x.png", false),
+    ("localhost", "https://localhost:3000/x.png", false),
+    ("localhost:65536", "https://localhost:3000/", false),
+    ("https:", "https://b.example/x.png", true),
+    ("https:", "data:,", false),
+    ("ftp:", "https://b.example/x.png", false),
+    ("ftp:", "data:,", false),
+    ("data:", "https://b.example/x.png", false),
+    ("data:", "data:,", true),
+    ("*", "https://b.example/x.png", true),
+    ("*", "data:,", false),
+    ("'self'", "https://b.example/x.png", false),
+    ("'self'", "data:,", false),
+    ("'self'", "https://a.example/", true),
+    ("'self'", "wss://a.example/", true),
+    ("'none'", "https://b.example/x.png", false),
+    ("'none'", "data:,", false),
+];
+
+// The same in a policy of an opaque origin.
+const OPAQUE: [(&str, &str, bool); 12] = [
+    ("https://b.example", "https://b.example/x.png", true),
+    ("http://b.example", "https://b.example/x.png", true),
+    ("https://b.example", "http://b.example/x.png", false),
+    ("http://a.example:80", "https://a.example/x.png", false),
+    ("https://a.example:443", "https://a.example/x.png", true),
+    ("localhost:*", "https://localhost:3000/x.png", false),
+    ("localhost:*", "http://localhost:3000/x.png", false),
+    ("https://*.a.example", "https://x.a.example/", true),
+    ("https://*.a.example", "https://a.example/", false),
+    ("https://*.a.example", "https://xa.example/", false),
+    ("https://10.0.0.1", "https://10.0.0.1/", true),
+    ("https://*", "https://10.0.0.1/", false),
+];
 
 #[test]
 fn tokens(rt: HostRuntime) -> Result<(), Fail> {
-    for (row, wanted) in [
-        (
-            (OWN, "https://b.example", "https://b.example/x.png", false),
-            true,
-        ),
-        (
-            (OWN, "http://b.example", "https://b.example/x.png", false),
-            true,
-        ),
-        (
-            (OWN, "https://b.example", "http://b.example/x.png", false),
-            false,
-        ),
-        (
-            (OWN, "http://a.example:80", "https://a.example/x.png", false),
-            false,
-        ),
-        (
-            (
-                OWN,
-                "https://a.example:443",
-                "https://a.example/x.png",
-                false,
-            ),
-            true,
-        ),
-        (
-            (OWN, "localhost:*", "https://localhost:3000/x.png", false),
-            true,
-        ),
-        (
-            (OWN, "localhost:*", "http://localhost:3000/x.png", false),
-            false,
-        ),
-        (
-            (OWN, "localhost", "https://localhost:3000/x.png", false),
-            false,
-        ),
-        (
-            (
-                OWN,
-                "localhost:65536",
-                "https://localhost:3000/x.png",
-                false,
-            ),
-            false,
-        ),
-        (
-            (OWN, "https://a.example/x/", "https://a.example/x", false),
-            false,
-        ),
-        (
-            (OWN, "https://a.example/x/", "https://a.example/x/", false),
-            true,
-        ),
-        (
-            (OWN, "https://a.example/x/", "https://a.example/x/y", false),
-            true,
-        ),
-        (
-            (OWN, "https://a.example/x/", "https://a.example/q", false),
-            false,
-        ),
-        (
-            (OWN, "https://a.example/x/", "https://a.example/q", true),
-            true,
-        ),
-        ((OWN, "https:", "https://b.example/x.png", false), true),
-        ((OWN, "https:", "data:,", false), false),
-        ((OWN, "ftp:", "https://b.example/x.png", false), false),
-        ((OWN, "ftp:", "data:,", false), false),
-        ((OWN, "data:", "https://b.example/x.png", false), false),
-        ((OWN, "data:", "data:,", false), true),
-        ((OWN, "*", "https://b.example/x.png", false), true),
-        ((OWN, "*", "data:,", false), false),
-        ((OWN, "'self'", "https://b.example/x.png", false), false),
-        ((OWN, "'self'", "data:,", false), false),
-        ((OWN, "'self'", "wss://a.example/", false), true),
-        ((OWN, "'none'", "https://b.example/x.png", false), false),
-        ((OWN, "'none'", "data:,", false), false),
-        (
-            (
-                "null",
-                "https://b.example",
-                "https://b.example/x.png",
-                false,
-            ),
-            true,
-        ),
-        (
-            ("null", "http://b.example", "https://b.example/x.png", false),
-            true,
-        ),
-        (
-            ("null", "https://b.example", "http://b.example/x.png", false),
-            false,
-        ),
-        (
-            (
-                "null",
-                "http://a.example:80",
-                "https://a.example/x.png",
-                false,
-            ),
-            false,
-        ),
-        (
-            (
-                "null",
-                "https://a.example:443",
-                "https://a.example/x.png",
-                false,
-            ),
-            true,
-        ),
-        (
-            ("null", "localhost:*", "https://localhost:3000/x.png", false),
-            false,
-        ),
-        (
-            ("null", "localhost:*", "http://localhost:3000/x.png", false),
-            false,
-        ),
-        (
-            ("null", "https://*.a.example", "https://x.a.example/", false),
-            true,
-        ),
-        (
-            ("null", "https://*.a.example", "https://a.example/", false),
-            false,
-        ),
-        (
-            ("null", "https://*.a.example", "https://xa.example/", false),
-            false,
-        ),
-        (
-            ("null", "https://10.0.0.1", "https://10.0.0.1/", false),
-            true,
-        ),
-        (("null", "https://*", "https://10.0.0.1/", false), false),
+    for (token, url, wanted) in OWN {
+        let found = matches(&rt, "https://a.example", token, url)?;
+        assert_eq!(rt; found, (wanted, wanted), "{token} {url}");
+    }
+    for (token, url, wanted) in OPAQUE {
+        let found = matches(&rt, "null", token, url)?;
+        assert_eq!(rt; found, (wanted, wanted), "{token} {url}");
+    }
+    Ok(())
+}
+
+// Paths aren't compared where a redirect led to the URL.
+#[test]
+fn paths(rt: HostRuntime) -> Result<(), Fail> {
+    for (url, wanted) in [
+        ("https://a.example/x", false),
+        ("https://a.example/x/", true),
+        ("https://a.example/x/y", true),
+        ("https://a.example/q", false),
     ] {
-        assert_eq!(rt; matches(&rt, row)?, wanted, "{row:?}");
+        let found = matches(&rt, "null", "https://a.example/x/", url)?;
+        assert_eq!(rt; found, (true, wanted), "{url}");
     }
     Ok(())
 }
 
 #[test]
 fn lists(rt: HostRuntime) -> Result<(), Fail> {
-    let origin = read_origin(rt.alloc(), OWN)?;
+    let origin = read_origin(rt.alloc(), "https://a.example")?;
     let url = read_url(rt.alloc(), "https://b.example/x.png")?;
     for (value, wanted) in [("", false), ("ftp:", false), ("ftp: https:", true)] {
         let sources = sources(&rt, value)?;

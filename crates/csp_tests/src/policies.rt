@@ -1,7 +1,7 @@
 //! Tests of csp_policy.
-use crate::values::policies;
-use csp_model::{Disposition, Memory, Origin, PolicyList, Text};
-use csp_policy::{BlockError, policy_text, read_block};
+use crate::values::{long, policies};
+use csp_model::{Disposition, Memory, PolicyList, Text};
+use csp_policy::{BlockError, policy_text};
 use csp_url::read_origin;
 use std::alloc::Global;
 use std::test::Fail;
@@ -96,16 +96,6 @@ fn dispositions(rt: HostRuntime) -> Result<(), Fail> {
     Ok(())
 }
 
-// The block of a front, a part so many times, and an end.
-fn long(alloc: Global, (front, part, count, end): (&str, &str, u32, &str)) -> Result<String, Fail> {
-    let mut block = String::from_str(alloc, front)?;
-    for _ in 0..count {
-        block.push_str(part)?;
-    }
-    block.push_str(end)?;
-    Ok(block)
-}
-
 #[test]
 fn limits(rt: HostRuntime) -> Result<(), Fail> {
     for (parts, wanted) in [
@@ -154,17 +144,5 @@ fn limits(rt: HostRuntime) -> Result<(), Fail> {
         let block = long(rt.alloc(), parts)?;
         assert_eq!(rt; policies(&rt, block.as_str()).err(), wanted, "{parts:?}");
     }
-    Ok(())
-}
-
-#[test]
-fn policies_of_no_origin(rt: HostRuntime) -> Result<(), Fail> {
-    let list = read_block(
-        rt.alloc(),
-        b"Content-Security-Policy: sandbox",
-        &Origin::Opaque,
-    )?;
-    let policy = list.policies.get(0).ok_or("no policy")?;
-    assert_eq!(rt; policy.origin, Origin::Opaque);
     Ok(())
 }

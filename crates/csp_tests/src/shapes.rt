@@ -14,7 +14,7 @@ fn fetches(rt: HostRuntime) -> Result<(), Fail> {
         (Group::ScriptElem, "https://a.example/", 0, false, 98),
         (Group::ScriptElem, "https://a.example/", 0, true, 110),
     ] {
-        let check = fetch(rt.alloc(), group, url, redirects, "", parser_inserted)?;
+        let check = fetch(rt.alloc(), group, url, redirects, parser_inserted)?;
         assert_eq!(rt; shape_number(shape_of(&check)), number);
     }
     Ok(())

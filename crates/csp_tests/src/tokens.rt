@@ -1,6 +1,6 @@
 //! Tests of csp_token: the examples of FIPS 180-4, of RFC 4648's two alphabets and of Subresource Integrity.
-use crate::values::sources;
-use csp_model::{Algorithm, Digest, Hash, List, Text};
+use crate::values::{are_hashes, hash, sources};
+use csp_model::{Algorithm, Digest, Text};
 use csp_token::{
     digest_matches, digests, hash_of, integrity_matches, integrity_text, nonce_matches,
     read_integrity,
@@ -96,10 +96,7 @@ fn hashes_that_stand_for_digests(rt: HostRuntime) -> Result<(), Fail> {
             false,
         ),
     ] {
-        let hash = Hash {
-            algorithm,
-            value: Text::new(rt.alloc(), value)?,
-        };
+        let hash = hash(rt.alloc(), algorithm, value)?;
         assert_eq!(rt; hash_of(&hash), digest, "{value}");
         assert_eq!(rt; digest_matches(&hash, &empty), matched, "{value}");
     }
@@ -125,13 +122,6 @@ fn nonces_and_integrity_metadata(rt: HostRuntime) -> Result<(), Fail> {
     Ok(())
 }
 
-fn are(pairs: &List<Hash>, wanted: &[(Algorithm, &str)]) -> bool {
-    pairs.len() == wanted.len()
-        && pairs.as_slice().iter().zip(wanted).all(|(pair, (algorithm, value))| {
-            pair.algorithm == *algorithm && pair.value.as_str() == *value
-        })
-}
-
 #[test]
 fn integrity_metadata_is_read_and_printed(rt: HostRuntime) -> Result<(), Fail> {
     let alloc = rt.alloc();
@@ -154,7 +144,7 @@ fn integrity_metadata_is_read_and_printed(rt: HostRuntime) -> Result<(), Fail> {
     ];
     for (metadata, wanted, text) in rows {
         let pairs = read_integrity(alloc, metadata)?;
-        assert!(rt; are(&pairs, wanted), "{metadata}");
+        assert!(rt; are_hashes(&pairs, wanted), "{metadata}");
         assert_eq!(rt; integrity_text(alloc, &pairs)?.as_str(), text);
     }
     Ok(())

@@ -1,5 +1,5 @@
 //! Tests of csp_url. What a text reads as is the URL Standard's.
-use csp_model::{Host, Memory, Origin, Scheme, Text, Url, pieces_of};
+use csp_model::{Host, Origin, Scheme, Text, Url, pieces_of};
 use csp_url::{
     OriginError, Part, PartsError, UrlError, read_origin, read_url, strip_url, url_from_parts,
     url_text,
@@ -108,16 +108,12 @@ fn texts_that_are_no_urls(rt: HostRuntime) {
     }
 }
 
-fn domain(alloc: Global, text: &str) -> Result<Host, Memory> {
-    Ok(Host::Domain(Text::new(alloc, text)?))
-}
-
 #[test]
 fn a_url_with_every_part(rt: HostRuntime) -> Result<(), Fail> {
     let alloc = rt.alloc();
     let url = Url::Hosted {
         scheme: Scheme::Https,
-        host: domain(alloc, "b.example")?,
+        host: Host::Domain(Text::new(alloc, "b.example")?),
         port: None,
         path: pieces_of(alloc, b"~b")?,
     };
@@ -232,7 +228,7 @@ fn origins(rt: HostRuntime) -> Result<(), Fail> {
         ("https://a.example/x/..", Scheme::Https, "a.example", None),
         ("http://a.example:443", Scheme::Http, "a.example", Some(443)),
     ] {
-        let host = domain(alloc, host)?;
+        let host = Host::Domain(Text::new(alloc, host)?);
         assert_eq!(rt;
             read_origin(alloc, text),
             Ok(Origin::Tuple { scheme, host, port }),

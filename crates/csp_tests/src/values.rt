@@ -1,7 +1,7 @@
 //! Builders of values, so that a row of a table is short.
 use csp_model::{
-    Algorithm, Check, Duplicate, Group, Hash, List, Memory, Policy, PolicyList, Source, Text,
-    is_ascii_text,
+    Algorithm, Check, Digests, Duplicate, Group, Hash, InlineKind, List, Memory, Policy,
+    PolicyList, Source, Text, is_ascii_text,
 };
 use csp_policy::{BlockError, read_block};
 use csp_source::read_source;
@@ -11,22 +11,20 @@ use std::alloc::Global;
 use std::process::Abort;
 use std::test::Fail;
 
-pub fn one<T: Drop>(alloc: Global, item: T) -> Result<List<T>, Memory> {
-    let mut list = List::new(alloc);
-    list.push(item)?;
-    Ok(list)
-}
-
-pub fn texts(alloc: Global, words: &[&str]) -> Result<List<Text>, Memory> {
-    let mut made = List::new(alloc);
-    for word in words {
-        made.push(Text::new(alloc, word)?)?;
-    }
-    Ok(made)
-}
-
 pub fn numbers(alloc: Global, all: &[u64]) -> Result<List<u64>, Memory> {
     Ok(List::from_vec(Vec::from_slice(alloc, all)?))
+}
+
+// A front, a part so many times, and an end.
+pub type Long<'a> = (&'a str, &'a str, u32, &'a str);
+
+pub fn long(alloc: Global, (front, part, count, end): Long<'_>) -> Result<String, Memory> {
+    let mut text = String::from_str(alloc, front)?;
+    for _ in 0..count {
+        text.push_str(part)?;
+    }
+    text.push_str(end)?;
+    Ok(text)
 }
 
 // The source of a token, which has to be ASCII.
@@ -62,21 +60,26 @@ pub fn policy(rt: &(impl Abort + AllocGlobal), value: &str) -> Result<Policy, Fa
     Ok(list.policies.pop().ok_or("no policy")?)
 }
 
-// A hash of SHA-256.
-pub fn hash(alloc: Global, value: &str) -> Result<Hash, Memory> {
+pub fn hash(alloc: Global, algorithm: Algorithm, value: &str) -> Result<Hash, Memory> {
     Ok(Hash {
-        algorithm: Algorithm::Sha256,
+        algorithm,
         value: Text::new(alloc, value)?,
     })
 }
 
-// A fetch with the nonce `abc`.
+pub fn are_hashes(hashes: &List<Hash>, wanted: &[(Algorithm, &str)]) -> bool {
+    hashes.len() == wanted.len()
+        && hashes.as_slice().iter().zip(wanted).all(|(hash, (algorithm, value))| {
+            hash.algorithm == *algorithm && hash.value.as_str() == *value
+        })
+}
+
+// A fetch with the nonce `abc` and with two pairs of integrity metadata.
 pub fn fetch(
     alloc: Global,
     group: Group,
     url: &str,
     redirects: u32,
-    integrity: &str,
     parser_inserted: bool,
 ) -> Result<Check, Fail> {
     Ok(Check::Fetch {
@@ -84,8 +87,21 @@ pub fn fetch(
         url: read_url(alloc, url)?,
         redirects,
         nonce: Text::new(alloc, "abc")?,
-        integrity: read_integrity(alloc, integrity)?,
+        integrity: read_integrity(alloc, "sha256-abc sha256-d")?,
         parser_inserted,
+    })
+}
+
+// Inline style with the nonce `abc`, whose digests are ones.
+pub fn inline_style(alloc: Global) -> Result<Check, Memory> {
+    Ok(Check::Inline {
+        kind: InlineKind::Style,
+        nonce: Text::new(alloc, "abc")?,
+        digests: Digests {
+            sha256: [1; 32],
+            sha384: [1; 48],
+            sha512: [1; 64],
+        },
     })
 }
 
