@@ -1,6 +1,6 @@
 //! Tests of csp_match.
 use crate::values::{policy, source, sources};
-use csp_match::{governing, list_matches, source_matches};
+use csp_match::{governing, governor, list_matches, source_matches};
 use csp_model::Name;
 use csp_url::{read_origin, read_url};
 use std::process::Abort;
@@ -50,7 +50,7 @@ const OWN: [(&str, &str, bool); 23] = [
 ];
 
 // The same in a policy of an opaque origin.
-const OPAQUE: [(&str, &str, bool); 12] = [
+const OPAQUE: [(&str, &str, bool); 13] = [
     ("https://b.example", "https://b.example/x.png", true),
     ("http://b.example", "https://b.example/x.png", true),
     ("https://b.example", "http://b.example/x.png", false),
@@ -63,6 +63,7 @@ const OPAQUE: [(&str, &str, bool); 12] = [
     ("https://*.a.example", "https://xa.example/", false),
     ("https://10.0.0.1", "https://10.0.0.1/", true),
     ("https://*", "https://10.0.0.1/", false),
+    ("https://*.0.0.1", "https://10.0.0.1/", false),
 ];
 
 #[test]
@@ -108,20 +109,40 @@ fn lists(rt: HostRuntime) -> Result<(), Fail> {
     Ok(())
 }
 
+// The directives of a policy, the one that is asked for, and the place and the name of the one that governs.
 #[test]
 fn fallback(rt: HostRuntime) -> Result<(), Fail> {
-    for (value, effective, place) in [
-        ("default-src", Name::ScriptSrcElem, Some(0)),
-        ("default-src; script-src", Name::ScriptSrcElem, Some(1)),
-        ("default-src; img-src", Name::ImgSrc, Some(1)),
-        ("default-src", Name::WorkerSrc, Some(0)),
-        ("script-src", Name::WorkerSrc, Some(0)),
-        ("script-src; child-src", Name::WorkerSrc, Some(1)),
+    for (value, effective, wanted) in [
+        (
+            "default-src",
+            Name::ScriptSrcElem,
+            Some((0, Name::DefaultSrc)),
+        ),
+        (
+            "default-src; script-src",
+            Name::ScriptSrcElem,
+            Some((1, Name::ScriptSrc)),
+        ),
+        (
+            "default-src; img-src",
+            Name::ImgSrc,
+            Some((1, Name::ImgSrc)),
+        ),
+        ("default-src", Name::WorkerSrc, Some((0, Name::DefaultSrc))),
+        ("script-src", Name::WorkerSrc, Some((0, Name::ScriptSrc))),
+        (
+            "script-src; child-src",
+            Name::WorkerSrc,
+            Some((1, Name::ChildSrc)),
+        ),
         ("default-src", Name::BaseUri, None),
         ("sandbox", Name::ImgSrc, None),
     ] {
         let policy = policy(&rt, value)?;
-        assert_eq!(rt; governing(&policy, effective), place, "{value}");
+        let place = governing(&policy, effective);
+        assert_eq!(rt; place, wanted.map(|(place, _)| place), "{value}");
+        let name = governor(&policy, effective).map(|found| found.name);
+        assert_eq!(rt; name, wanted.map(|(_, name)| name), "{value}");
     }
     Ok(())
 }
