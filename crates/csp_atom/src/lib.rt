@@ -15,6 +15,3 @@ pub use atom::{Atom, Literal, Vocabulary};
 pub use holding::holds;
 pub use table::follows;
 pub use vocabulary::vocabulary_of;
-
-#[cfg(test)]
-mod tests;

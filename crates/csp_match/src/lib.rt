@@ -16,6 +16,3 @@ mod source;
 pub use fallback::{governing, governor};
 pub use governs::Governor;
 pub use source::{list_matches, source_matches};
-
-#[cfg(test)]
-mod tests;

@@ -29,6 +29,3 @@ pub use source::{Algorithm, Hash, HostPart, Keyword, PathPart, PortPart, Source}
 pub use text::{Bytes, Text, is_ascii_text};
 pub use url::{Host, Origin, Scheme, Url};
 pub use verdict::{Described, Item, Verdict, Violation};
-
-#[cfg(test)]
-mod tests;

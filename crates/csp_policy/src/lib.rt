@@ -9,8 +9,6 @@ mod lines;
 mod longest;
 mod print;
 mod reader;
-#[cfg(test)]
-mod tests;
 mod words;
 
 pub use block::read_block;

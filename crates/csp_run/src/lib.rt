@@ -16,6 +16,3 @@ mod verdict;
 
 pub use status::{Status, exit_code};
 pub use top::run;
-
-#[cfg(test)]
-mod tests;

@@ -11,6 +11,3 @@ mod shape;
 pub use number::{shape_at, shape_number};
 pub use of_check::shape_of;
 pub use shape::Shape;
-
-#[cfg(test)]
-mod tests;

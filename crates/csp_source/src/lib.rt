@@ -10,8 +10,6 @@ mod quoted;
 mod read;
 mod scheme;
 mod spelling;
-#[cfg(test)]
-mod tests;
 mod texts;
 
 pub use laws::each_token_has_one_source;

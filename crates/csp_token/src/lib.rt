@@ -7,8 +7,6 @@ mod digest;
 mod integrity;
 mod matching;
 mod size;
-#[cfg(test)]
-mod tests;
 
 pub use digest::{digest_matches, digests, hash_of};
 pub use integrity::{integrity_text, read_integrity};

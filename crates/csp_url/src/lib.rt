@@ -12,8 +12,6 @@ mod path;
 mod read;
 mod scheme;
 mod strip;
-#[cfg(test)]
-mod tests;
 mod text;
 
 pub use error::{OriginError, Part, PartsError, UrlError};
