@@ -9,8 +9,7 @@ use Rattle.base64.specs.Rfc4648.{unpadded_len, padding_len}
 use Rattle.base64.specs.declared.decode.DecodeError.{DecodeError}
 use Rattle.base64.proofs.EngineFacts.{decode_of-encode_of}
 use Rattle.base64.proofs.RoundTrip.{length-encode_symbols}
-use Rattle.csp_model.specs.Tokens.{plain_value}
-use Rattle.csp_token.specs.Digests.{plain_symbol}
+use Rattle.csp_model.specs.Tokens.{plain_symbol, plain_value}
 
 pub length-encode_of : (d : List ℕ) → length (encode_of standard d) ≡ unpadded_len (length d) + padding_len (length d)
 length-encode_of d = simp (length-append, length-encode_symbols, length-replicate)
@@ -27,12 +26,6 @@ short v d n len small eq =
 -- what decodes to bytes is the encoding of no others
 pub decodes_back : (d : List ℕ) → IsBytes d → decode_of standard (encode_of standard d) ≡ Ok d
 decodes_back d bytes = decode_of-encode_of standard d refl bytes
-
-pub encode_of_injective : (d e : List ℕ) → IsBytes d → IsBytes e → encode_of standard d ≡ encode_of standard e → d ≡ e
-encode_of_injective d e db eb eq =
-    let a = decodes_back d db in
-    let b = rw (← eq) at (decodes_back e eb) in
-    cc (a, b)
 
 pub refused : (v d : List ℕ) (e : DecodeError) → IsBytes d → plain_value v ≡ encode_of standard d → decode_of standard (plain_value v) ≡ Err e → ⊥
 refused v d e bytes eq err =

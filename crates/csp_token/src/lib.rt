@@ -6,6 +6,7 @@ mod base64_value;
 mod digest;
 mod integrity;
 mod matching;
+mod size;
 #[cfg(test)]
 mod tests;
 
