@@ -16,17 +16,17 @@ read_token-requires c = solid c.in-Some.token.now c.in-Some.ensures.steps.1
 pub loop-token-preserved-in-Continue-branch-3 : goal.loop-token-preserved-in-Continue-branch-3
 loop-token-preserved-in-Continue-branch-3 c = record {
   pairs =
-    c.in_ok-push.ensures.ok ∙ ap (λ pairs. pairs ++ c.in-Some-2.pair ∷ []) c.loop-token.invariant.pairs
-    ∙ kept c.loop-token.yielded c.in-Some.token c.in_ok-pair.field-0 c.in-Some-2.pair c.in_ok-pair.ensures.pair c.in-Some-2.is;
+      c.in_ok-push.ensures.ok ∙ ap (λ pairs. pairs ++ c.in-Some-2.pair ∷ []) c.loop-token.invariant.pairs
+      ∙ kept c.loop-token.yielded c.in-Some.token c.in_ok-pair.field-0 c.in-Some-2.pair c.in_ok-pair.ensures.pair c.in-Some-2.is;
   valid =
-    let valid : IfSome (Some c.in-Some-2.pair) (λ h. IsIntegrityValue h.value) = rw c.in-Some-2.is at c.in_ok-pair.ensures.valid in
-    rw c.in_ok-push.ensures.ok (All-push (λ (h : Hash). IsIntegrityValue h.value) c.loop-token.pairs c.in-Some-2.pair c.loop-token.invariant.valid valid)
+      let valid : IfSome (Some c.in-Some-2.pair) (λ h. IsIntegrityValue h.value) = rw c.in-Some-2.is at c.in_ok-pair.ensures.valid in
+      rw c.in_ok-push.ensures.ok (All-push (λ (h : Hash). IsIntegrityValue h.value) c.loop-token.pairs c.in-Some-2.pair c.loop-token.invariant.valid valid);
 }
 
 pub loop-token-preserved : goal.loop-token-preserved
 loop-token-preserved c = record {
   pairs = c.loop-token.invariant.pairs ∙ dropped c.loop-token.yielded c.in-Some.token c.in_ok-pair.field-0 c.in_ok-pair.ensures.pair c.in_default.is;
-  valid = c.loop-token.invariant.valid
+  valid = c.loop-token.invariant.valid;
 }
 
 pub returns-clause-pairs : goal.returns-clause-pairs
