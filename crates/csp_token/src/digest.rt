@@ -1,13 +1,13 @@
 //! Digests and the hashes that stand for them (Content Security Policy Level 3, section 6.7.3.3).
 ghost use Rattle.std.specs.Prelude.{◌≡◌, ◌↔◌, IsTrue, IsNone, IfSome};
-ghost use Rattle.csp_model.specs.DecideTokens.{hash_matches};
-ghost use Rattle.csp_model.specs.Tokens.{HashMatches};
+ghost use Rattle.csp_model.specs.DecideTokens as tests;
+ghost use Rattle.csp_model.specs.Tokens.{HashMatches, DigestsMatch};
 ghost use Rattle.csp_model.specs.Validity.{IsValidDigests};
 ghost use Rattle.csp_token.specs.Digests as spec;
 
 use crate::base64_value::{decoded, stands_for};
 use crate::size::slice_is_bytes;
-use csp_model::{Algorithm, Digest, Digests, Hash};
+use csp_model::{Algorithm, Digest, Digests, Hash, List, Source};
 use sha2::Digest as _;
 
 /// The three digests of a source text's bytes (FIPS 180-4).
@@ -48,7 +48,7 @@ pub fn hash_of(hash: &Hash) -> Option<Digest>
 /// Whether a hash stands for the digest of its algorithm.
 #[tactic(auto, using(csp_model::proofs::TokensDecided::hash_decides))]
 pub fn digest_matches(hash: &Hash, digests: &Digests) -> bool
-    ensures value { result ≡ hash_matches hash.now digests.now }
+    ensures value { result ≡ tests.hash_matches hash.now digests.now }
     ensures matches { IsTrue result ↔ HashMatches hash.now digests.now }
 {
     let value = hash.value.as_str();
@@ -56,5 +56,28 @@ pub fn digest_matches(hash: &Hash, digests: &Digests) -> bool
         Algorithm::Sha256 => stands_for(value, &digests.sha256),
         Algorithm::Sha384 => stands_for(value, &digests.sha384),
         Algorithm::Sha512 => stands_for(value, &digests.sha512),
+    }
+}
+
+/// Whether some hash-source of a source list stands for the digest of its algorithm (Content Security Policy Level 3,
+/// section 6.7.3.3).
+#[tactic(auto, using(csp_model::proofs::TokensDecided::digests_decide))]
+pub fn digests_match(digests: &Digests, sources: &List<Source>) -> bool
+    ensures value { result ≡ tests.digests_match digests.now sources.now }
+    ensures matches { IsTrue result ↔ DigestsMatch digests.now sources.now }
+{
+    sources
+        .as_slice()
+        .iter()
+        .any(|source| is_hash_of(source, digests))
+}
+
+// The source is a hash-source that stands for one of the digests.
+fn is_hash_of(source: &Source, digests: &Digests) -> bool
+    ensures { result ≡ tests.is_hash_of digests.now source.now }
+{
+    match source {
+        Source::Digest { hash } => digest_matches(hash, digests),
+        _ => false,
     }
 }

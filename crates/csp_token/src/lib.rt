@@ -5,9 +5,11 @@
 mod base64_value;
 mod digest;
 mod integrity;
+mod keyword;
 mod matching;
 mod size;
 
-pub use digest::{digest_matches, digests, hash_of};
+pub use digest::{digest_matches, digests, digests_match, hash_of};
 pub use integrity::{integrity_text, read_integrity};
+pub use keyword::has_keyword;
 pub use matching::{integrity_matches, nonce_matches};
