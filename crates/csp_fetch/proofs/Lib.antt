@@ -1,1 +1,2 @@
 pub mod ListedDecided
+pub mod Redirected

@@ -80,30 +80,15 @@ fn begins_element(text: &str) -> bool
     mentions(text.as_bytes(), b"<script") || mentions(text.as_bytes(), b"<style")
 }
 
-// Whether a word in lower case stands in the text, in letters of either case.
+// Whether a word stands in the text, in letters of either case.
 fn mentions(text: &[u8], word: &[u8]) -> bool
     requires { IsTrue (is_nonempty word.now) }
-    ensures { result ≡ spec.mentions word.now text.now }
+    ensures { result ≡ spec.has_word (lower word.now) (lower text.now) }
 {
-    for start in 0..text.len() {
-        if begins(&text[start..], word) {
+    for window in text.windows(word.len()) {
+        if window.eq_ignore_ascii_case(word) {
             return true;
         }
     }
     false
-}
-
-// Whether the text begins with a word in lower case, in letters of either case.
-fn begins(text: &[u8], word: &[u8]) -> bool
-    ensures { result ≡ spec.begins word.now (lower text.now) }
-{
-    if text.len() < word.len() {
-        return false;
-    }
-    for (place, asked) in word.iter().enumerate() {
-        if text[place].to_ascii_lowercase() != *asked {
-            return false;
-        }
-    }
-    true
 }

@@ -6,6 +6,7 @@
 
 mod element;
 mod inline;
+pub mod laws;
 
 pub use element::{Element, element_nonce, nonceable};
 pub use inline::{eval_allows, inline_allows, wasm_allows};

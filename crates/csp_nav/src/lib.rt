@@ -4,6 +4,7 @@
 //! No call takes memory.
 #![tactic(auto)]
 
+pub mod laws;
 mod listed;
 mod sandbox;
 
