@@ -1,7 +1,5 @@
 pub mod Pieces
 pub mod Json
-pub mod Items
-pub mod Judgment
 pub mod Reading
 pub mod Fitting
 pub mod Quiet

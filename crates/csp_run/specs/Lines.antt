@@ -1,21 +1,16 @@
 -- What `judge` prints: a line for each request.
-use Rattle.std.specs.Prelude.{◌≡◌, ℕ, ◌+◌, Bool, if◌then◌else◌, List, [], ◌∷◌, ◌++◌, codes, decimal}
+use Rattle.std.specs.Prelude.{ℕ, ◌+◌, Bool, if◌then◌else◌, List, [], ◌∷◌, ◌++◌, map, codes, decimal}
 use Rattle.std.specs.List.{flat_map, list_any}
-use Rattle.csp_model.specs.Names.{name_text}
-use Rattle.csp_model.specs.Verdict.{IsVerdict}
+use Rattle.csp_model.specs.Bytes.{line_feed}
+use Rattle.csp_model.specs.Names.{name_text, disposition_text}
+use Rattle.csp_model.specs.Verdict.{verdict_of}
 use Rattle.csp_model.specs.declared.check.Check.{Check}
-use Rattle.csp_model.specs.declared.policy.Disposition.{Disposition}
-use Rattle.csp_model.specs.declared.policy.Disposition.TheVariants.{Enforce, Report}
 use Rattle.csp_model.specs.declared.policy.PolicyList.{PolicyList}
 use Rattle.csp_model.specs.declared.verdict.Item.{Item}
 use Rattle.csp_model.specs.declared.verdict.Verdict.{Verdict}
 use Rattle.csp_run.specs.declared.output.Built.{Built}
 use Rattle.csp_run.specs.declared.status.Status.{Status}
 use Rattle.csp_run.specs.declared.status.Status.TheVariants.{Clean, Found}
-
-abbrev pub disposition_text : Disposition → List ℕ
-disposition_text Enforce = codes "enforce"
-disposition_text Report = codes "report"
 
 -- as " 0:enforce:script-src-elem/default-src"
 abbrev pub item_pieces : Item → List (List ℕ)
@@ -32,25 +27,18 @@ outcome_text blocked = if blocked then codes " blocked" else codes " allowed"
 -- the line of the request of this number: "1 blocked", the items, and a line feed
 abbrev pub verdict_line : ℕ → Verdict → List ℕ
 verdict_line request verdict =
-    decimal request ++ (outcome_text verdict.blocked ++ (flat_map item_text verdict.items ++ 10 ∷ []))
+    decimal request ++ (outcome_text verdict.blocked ++ (flat_map item_text verdict.items ++ line_feed ∷ []))
 
 abbrev pub lines_from : ℕ → List Verdict → List ℕ
 lines_from request [] = []
 lines_from request (v ∷ vs) = verdict_line request v ++ lines_from (request + 1) vs
 
--- the verdict on each request, in order
-abbrev pub AreVerdicts : PolicyList → List (List Check) → List Verdict → Type 0
-AreVerdicts list [] verdicts = verdicts ≡ []
-AreVerdicts list (checks ∷ rest) verdicts = (first : Verdict) × (later : List Verdict)
-    × (verdicts ≡ first ∷ later)
-    × IsVerdict list checks first × AreVerdicts list rest later
-
 abbrev pub judged_status : List Verdict → Status
 judged_status verdicts = if list_any (λ (v : Verdict). v.blocked) verdicts then Found else Clean
 
 -- the output of `judge` for these requests
-pub record IsJudgment (list : PolicyList) (requests : List (List Check)) (built : Built) : Type 0 where
-  pub verdicts : List Verdict
-  pub judged : AreVerdicts list requests verdicts
-  pub status : built.status ≡ judged_status verdicts
-  pub text : built.text ≡ lines_from 1 verdicts
+abbrev pub judgment_of : List Verdict → Built
+judgment_of verdicts = record { status = judged_status verdicts; text = lines_from 1 verdicts }
+
+abbrev pub judgment : PolicyList → List (List Check) → Built
+judgment list requests = judgment_of (map (verdict_of list) requests)

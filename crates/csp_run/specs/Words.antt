@@ -2,7 +2,8 @@
 use Rattle.std.specs.Prelude.{ℕ, Bool, false, ◌+◌, ◌==◌, ◌&&◌, ◌||◌, not, nat_le, nat_lt, if◌then◌else◌}
 use Rattle.std.specs.Prelude.{List, [], ◌∷◌, length, slice_index, Option, Some, None, Result, Ok, Err, codes}
 use Rattle.std.specs.Str.{bytes_eq}
-use Rattle.csp_model.specs.Grammar.{are_digits, number}
+use Rattle.csp_model.specs.Bytes.{digit_zero}
+use Rattle.csp_model.specs.Grammar.{are_digits, decimal_value}
 use Rattle.csp_model.specs.declared.url.Origin.{Origin}
 use Rattle.csp_url.specs.Origins.{origin_of}
 use Rattle.csp_run.specs.declared.fault.Fault.{Fault}
@@ -16,7 +17,7 @@ use Rattle.csp_run.specs.declared.plan.Form.TheVariants.{Judge}
 -- how many pairs of sources a drill has: a decimal number from 1 to 200, without leading zeros
 unfoldable pub is_drill_number : List ℕ → Bool
 is_drill_number word =
-    are_digits word && nat_lt (length word) 4 && not (slice_index word 0 == 48) && nat_le (number word) 200
+    are_digits word && nat_lt (length word) 4 && not (slice_index word 0 == digit_zero) && nat_le (decimal_value word) 200
 
 -- words of a form that isn't built yet
 abbrev pub is_unbuilt : List (List ℕ) → Bool

@@ -12,7 +12,6 @@ mod plan;
 mod request;
 mod status;
 mod top;
-mod verdict;
 
 pub use status::{Status, exit_code};
 pub use top::run;

@@ -3,18 +3,9 @@ ghost use Rattle.std.specs.Prelude.{◌≡◌, ◌++◌, ◌∷◌, [], IfOk, On
 ghost use Rattle.std.specs.List.{flat_map};
 ghost use Rattle.csp_run.specs.Lines as lines;
 
-use csp_model::{Bytes, Disposition, Item, Memory, Verdict, name_text};
+use csp_model::{Bytes, Item, Memory, Verdict, name_text};
 use itoa::Buffer;
 use std::alloc::Global;
-
-fn disposition_text(disposition: Disposition) -> &'static str
-    ensures { result.now ≡ lines.disposition_text disposition }
-{
-    match disposition {
-        Disposition::Enforce => "enforce",
-        Disposition::Report => "report",
-    }
-}
 
 fn push_all(text: &mut Vec<u8>, pieces: &[&str]) -> Result<(), Memory>
     ensures { OnOk result (text.new.items ≡ text.old.items ++ flat_map (λ piece. piece.now) pieces.now) }
@@ -31,7 +22,7 @@ fn push_item(text: &mut Vec<u8>, item: &Item) -> Result<(), Memory>
 {
     let mut digits = Buffer::new();
     let policy = digits.format(item.policy);
-    let disposition = disposition_text(item.disposition);
+    let disposition = item.disposition.as_str();
     let effective = name_text(item.effective);
     let governing = name_text(item.governing);
     push_all(

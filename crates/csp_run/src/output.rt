@@ -1,7 +1,7 @@
 //! What each command prints of what its files hold.
 ghost use Rattle.std.specs.Prelude.{◌≡◌, ◌≢◌, ◌∷◌, [], IfOk, IsTrue, All, if◌then◌else◌};
 ghost use Rattle.csp_model.specs.Policies.{IsReadable};
-ghost use Rattle.csp_run.specs.Lines.{IsJudgment};
+ghost use Rattle.csp_run.specs.Lines.{judgment};
 ghost use Rattle.csp_run.specs.Outputs.{IsOutput};
 ghost use Rattle.csp_run.specs.Requests.{image_check};
 ghost use Rattle.csp_run.specs.Shown.{fits, IsSound};
@@ -11,8 +11,7 @@ use crate::files::Content;
 use crate::lines::verdict_line;
 use crate::plan::Form;
 use crate::status::Status;
-use crate::verdict::judge_image;
-use csp_model::{Bytes, Memory, PolicyList, Url};
+use csp_model::{Bytes, Check, Described, Duplicate, Group, List, Memory, PolicyList, Text, Url};
 use std::alloc::Global;
 
 /// A whole output.
@@ -41,13 +40,33 @@ pub fn output(alloc: Global, form: Form, contents: &[Content]) -> Result<Built, 
 // The lines of the verdict on an image.
 fn judge(alloc: Global, list: &PolicyList, url: &Url) -> Result<Built, Memory>
     requires { IsReadable list.now }
-    ensures { IfOk result (IsJudgment list.now ((image_check url.now ∷ []) ∷ [])) }
+    ensures { IfOk result (λ built. built ≡ judgment list.now ((image_check url.now ∷ []) ∷ [])) }
 {
-    let verdict = judge_image(alloc, list, url)?;
+    let verdict = csp_verdict::judge(alloc, list, &image(alloc, url)?)?;
     let text = verdict_line(alloc, 1, &verdict)?;
     Ok(Built {
         status: judged_status(verdict.blocked),
         text,
+    })
+}
+
+// The fetch of an image, as a description.
+fn image(alloc: Global, url: &Url) -> Result<Described, Memory>
+    ensures { IfOk result (λ made. made.checks ≡ image_check url.now ∷ []) }
+{
+    let mut checks = List::new(alloc);
+    checks.push(Check::Fetch {
+        group: Group::Img,
+        url: url.copy(alloc)?,
+        redirects: 0,
+        nonce: Text::new(alloc, "")?,
+        integrity: List::new(alloc),
+        parser_inserted: false,
+    })?;
+    Ok(Described {
+        checks,
+        blocked_uri: Text::new(alloc, "")?,
+        sample: Text::new(alloc, "")?,
     })
 }
 

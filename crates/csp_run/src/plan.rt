@@ -5,7 +5,7 @@ ghost use Rattle.csp_run.specs.Shown.{shown};
 ghost use Rattle.csp_run.specs.Words as spec;
 
 use crate::fault::{Fault, Role, Unbuilt};
-use csp_model::{Origin, Text, are_digits, number};
+use csp_model::{Origin, Text, are_digits, decimal_value};
 use csp_url::{OriginError, read_origin};
 use std::alloc::Global;
 
@@ -82,7 +82,7 @@ fn is_unbuilt(words: &[Text]) -> bool
 fn is_drill_number(word: &[u8]) -> bool
     ensures { result ≡ spec.is_drill_number word.now }
 {
-    are_digits(word) && word.len() < 4 && word[0] != b'0' && number(word) <= 200
+    are_digits(word) && word.len() < 4 && word[0] != b'0' && decimal_value(word) <= 200
 }
 
 // The form that a verb names.
