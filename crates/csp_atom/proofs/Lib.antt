@@ -1,4 +1,4 @@
-pub mod Holding
+pub mod HoldingDecided
 pub mod Own
 pub mod Refutes
 pub mod Sound
@@ -11,7 +11,6 @@ pub mod SpelledWords
 pub mod Spelling
 pub mod TableTests
 pub mod VocabularyDistinct
-pub mod VocabularyHashes
 pub mod VocabularySeen
 pub mod VocabularySoFar
 pub mod VocabularySources

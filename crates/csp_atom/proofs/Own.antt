@@ -5,15 +5,17 @@ use Rattle.std.proofs.lemmas.Bool.Decides.{Decides-eqb}
 use Rattle.std.proofs.lemmas.List.{append-nil}
 use Rattle.std.proofs.lemmas.Slice.Eq.{bytes_eq-Decides}
 use Rattle.csp_model.proofs.EndLaws.{begins_Decides}
+use Rattle.csp_model.proofs.SameLaws.{same_host_decides, same_hash_decides}
 use Rattle.csp_model.specs.Ends.{begins_with}
+use Rattle.csp_model.specs.Same.{same_host, same_hash}
 use Rattle.csp_model.specs.declared.check.Digest.TheVariants.{Sha256, Sha384, Sha512}
 use Rattle.csp_model.specs.declared.source.Hash.{Hash}
 use Rattle.csp_model.specs.declared.url.Host.{Host}
-use Rattle.csp_atom.specs.Follows.{same_host, lies_within, same_path, same_hash, follows_true, follows_false, follows}
+use Rattle.csp_atom.specs.Follows.{lies_within, same_path, follows_true, follows_false, follows}
 use Rattle.csp_atom.specs.declared.atom.Atom.{Atom}
 use Rattle.csp_atom.specs.declared.atom.Atom.TheVariants.{HostIs, HostUnder, HostDomain, PortIs, PathIs, PathUnder, SchemeIs, NonceIs, IntegrityHas, IntegrityOutside, DigestIs}
 use Rattle.csp_atom.specs.declared.atom.Literal.{Literal}
-use Rattle.csp_atom.proofs.TableTests.{same_host_Decides, lies_within_Decides, same_path_Decides, same_hash_Decides}
+use Rattle.csp_atom.proofs.TableTests.{lies_within_decides, same_path_decides}
 
 -- Each test of a thing with itself
 
@@ -24,16 +26,16 @@ text_itself : (text : List ℕ) → bytes_eq text text ≡ true
 text_itself text = (bytes_eq-Decides text text).1 refl
 
 host_itself : (host : Host) → same_host host host ≡ true
-host_itself host = (same_host_Decides host host).1 refl
+host_itself host = (same_host_decides host host).1 refl
 
 path_itself : (path : List (List ℕ)) → same_path path path ≡ true
-path_itself path = (same_path_Decides path path).1 refl
+path_itself path = (same_path_decides path path).1 refl
 
 hash_itself : (hash : Hash) → same_hash hash hash ≡ true
-hash_itself hash = (same_hash_Decides hash hash).1 refl
+hash_itself hash = (same_hash_decides hash hash).1 refl
 
 within_itself : (suffix : List ℕ) → lies_within suffix suffix ≡ true
-within_itself suffix = (lies_within_Decides suffix suffix).1 ([], refl)
+within_itself suffix = (lies_within_decides suffix suffix).1 ([], refl)
 
 begins_with_itself : (path : List (List ℕ)) → begins_with path path ≡ true
 begins_with_itself path = (begins_Decides path path).1 ([], sym (append-nil path))

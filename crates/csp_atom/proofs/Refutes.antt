@@ -4,14 +4,16 @@ use Rattle.std.specs.Bool.{Decides}
 use Rattle.std.specs.Str.{bytes_eq}
 use Rattle.std.proofs.lemmas.Bool.Decides.{Decides-eqb, same_from_decides}
 use Rattle.std.proofs.lemmas.Slice.Eq.{bytes_eq-Decides}
-use Rattle.csp_model.specs.Ends.{begins_with, goes_beyond}
+use Rattle.csp_model.specs.DecideMatching.{is_domain_host}
+use Rattle.csp_model.specs.Ends.{is_host_under, begins_with, goes_beyond}
+use Rattle.csp_model.specs.Same.{same_host, same_hash}
+use Rattle.csp_model.proofs.SameLaws.{same_host_decides, same_hash_decides}
 use Rattle.csp_model.specs.declared.check.Digest.TheVariants.{Sha256, Sha384, Sha512}
-use Rattle.csp_atom.specs.Follows.{same_host, is_domain_host, is_host_under, lies_within, same_path, same_hash, true_where, false_where, nested, follows_true, follows_false}
-use Rattle.csp_atom.specs.Literals.{Refutes}
+use Rattle.csp_atom.specs.Follows.{lies_within, same_path, true_where, false_where, nested, follows_true, follows_false, Refutes}
 use Rattle.csp_atom.specs.declared.atom.Atom.{Atom}
 use Rattle.csp_atom.specs.declared.atom.Atom.TheVariants.{HostIs, HostUnder, HostDomain, PortIs, PathIs, PathUnder, SchemeIs, NonceIs, IntegrityHas, IntegrityOutside, DigestIs}
 use Rattle.csp_atom.specs.declared.atom.Literal.{Literal}
-use Rattle.csp_atom.proofs.TableTests.{same_host_Decides, same_path_Decides, same_hash_Decides}
+use Rattle.csp_atom.proofs.TableTests.{same_path_decides}
 
 -- Answers on one test
 
@@ -81,14 +83,14 @@ module _ {A : Type 0} (same : A → A → Bool) (decides : (x y : A) → Decides
 -- Pairs of atoms
 
 true_true : (a b : Atom) → follows_true a b ≡ Some false → follows_true b a ≡ Some false
-true_true (HostIs h) (HostIs g) e = unequal same_host same_host_Decides h g e
+true_true (HostIs h) (HostIs g) e = unequal same_host same_host_decides h g e
 true_true (HostIs h) (HostUnder t) e = denied (is_host_under h t) e
 true_true (HostIs h) HostDomain e = denied (is_domain_host h) e
 true_true (HostUnder s) (HostUnder t) e = apart (lies_within s t) (lies_within t s) e
 true_true (HostUnder s) (HostIs h) e = denied_back (is_host_under h s) e
 true_true HostDomain (HostIs h) e = denied_back (is_domain_host h) e
 true_true (PortIs n) (PortIs m) e = unequal ◌==◌ Decides-eqb n m e
-true_true (PathIs p) (PathIs q) e = unequal same_path same_path_Decides p q e
+true_true (PathIs p) (PathIs q) e = unequal same_path same_path_decides p q e
 true_true (PathIs p) (PathUnder q) e = denied (goes_beyond p q) e
 true_true (PathUnder p) (PathUnder q) e = apart (begins_with p q) (begins_with q p) e
 true_true (PathUnder p) (PathIs q) e = denied_back (goes_beyond q p) e
@@ -102,7 +104,7 @@ true_true IntegrityOutside IntegrityOutside e = cc
 true_true a b e = cc
 
 true_false : (a b : Atom) → follows_true a b ≡ Some true → follows_false b a ≡ Some false
-true_false (HostIs h) (HostIs g) e = equal same_host same_host_Decides h g e
+true_false (HostIs h) (HostIs g) e = equal same_host same_host_decides h g e
 true_false (HostIs h) (HostUnder t) e = shown (is_host_under h t) e
 true_false (HostIs h) HostDomain e = shown (is_domain_host h) e
 true_false (HostUnder s) HostDomain e = refl
@@ -111,7 +113,7 @@ true_false (HostUnder s) (HostIs h) e = never_true (not (is_host_under h s)) e
 true_false HostDomain HostDomain e = refl
 true_false HostDomain (HostIs h) e = never_true (not (is_domain_host h)) e
 true_false (PortIs n) (PortIs m) e = equal ◌==◌ Decides-eqb n m e
-true_false (PathIs p) (PathIs q) e = equal same_path same_path_Decides p q e
+true_false (PathIs p) (PathIs q) e = equal same_path same_path_decides p q e
 true_false (PathIs p) (PathUnder q) e = shown (goes_beyond p q) e
 true_false (PathUnder p) (PathUnder q) e = inside (begins_with p q) (begins_with q p) e
 true_false (PathUnder p) (PathIs q) e = never_true (not (goes_beyond q p)) e
@@ -120,19 +122,19 @@ true_false (NonceIs v) (NonceIs w) e = equal bytes_eq bytes_eq-Decides v w e
 true_false (DigestIs (Sha256 d)) (DigestIs (Sha256 f)) e = equal bytes_eq bytes_eq-Decides d f e
 true_false (DigestIs (Sha384 d)) (DigestIs (Sha384 f)) e = equal bytes_eq bytes_eq-Decides d f e
 true_false (DigestIs (Sha512 d)) (DigestIs (Sha512 f)) e = equal bytes_eq bytes_eq-Decides d f e
-true_false (IntegrityHas h) (IntegrityHas g) e = equal same_hash same_hash_Decides h g (known (same_hash h g) e)
+true_false (IntegrityHas h) (IntegrityHas g) e = equal same_hash same_hash_decides h g (known (same_hash h g) e)
 true_false IntegrityOutside IntegrityOutside e = refl
 true_false a b e = cc
 
 false_true : (a b : Atom) → follows_false a b ≡ Some false → follows_true b a ≡ Some true
-false_true (HostIs h) (HostIs g) e = equal_back same_host same_host_Decides h g e
+false_true (HostIs h) (HostIs g) e = equal_back same_host same_host_decides h g e
 false_true (HostUnder t) (HostUnder s) e = inside_back (lies_within s t) (lies_within t s) e
 false_true (HostUnder t) (HostIs h) e = shown_back (is_host_under h t) e
 false_true HostDomain HostDomain e = refl
 false_true HostDomain (HostUnder s) e = refl
 false_true HostDomain (HostIs h) e = shown_back (is_domain_host h) e
 false_true (PortIs n) (PortIs m) e = equal_back ◌==◌ Decides-eqb n m e
-false_true (PathIs p) (PathIs q) e = equal_back same_path same_path_Decides p q e
+false_true (PathIs p) (PathIs q) e = equal_back same_path same_path_decides p q e
 false_true (PathUnder q) (PathUnder p) e = inside_back (begins_with p q) (begins_with q p) e
 false_true (PathUnder q) (PathIs p) e = shown_back (goes_beyond p q) e
 false_true (SchemeIs s) (SchemeIs t) e = equal_back bytes_eq bytes_eq-Decides s t e
@@ -140,7 +142,7 @@ false_true (NonceIs v) (NonceIs w) e = equal_back bytes_eq bytes_eq-Decides v w 
 false_true (DigestIs (Sha256 d)) (DigestIs (Sha256 f)) e = equal_back bytes_eq bytes_eq-Decides d f e
 false_true (DigestIs (Sha384 d)) (DigestIs (Sha384 f)) e = equal_back bytes_eq bytes_eq-Decides d f e
 false_true (DigestIs (Sha512 d)) (DigestIs (Sha512 f)) e = equal_back bytes_eq bytes_eq-Decides d f e
-false_true (IntegrityHas h) (IntegrityHas g) e = known_back (same_hash g h) (equal_back same_hash same_hash_Decides h g e)
+false_true (IntegrityHas h) (IntegrityHas g) e = known_back (same_hash g h) (equal_back same_hash same_hash_decides h g e)
 false_true IntegrityOutside IntegrityOutside e = refl
 false_true a b e = cc
 

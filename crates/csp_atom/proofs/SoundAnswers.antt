@@ -1,10 +1,25 @@
 -- When an answer agrees with what is so.
-use Rattle.std.proofs.Common.{◌≡◌, Bool, true, false, not, Some, refl, sym, subst, ◌⊎◌, inl, inr}
-use Rattle.std.specs.Bool.{Decides}
-use Rattle.std.proofs.lemmas.Bool.{false≢true, not-true}
+use Rattle.std.proofs.Common.{◌≡◌, Bool, true, false, not, Option, Some, None, IfSome, refl, sym, subst, ◌⊎◌, inl, inr}
+use Rattle.std.specs.Bool.{Decides, ⊤}
+use Rattle.std.proofs.lemmas.Bool.{false≢true, not-true, false_from_ne_true}
 use Rattle.csp_model.proofs.Deciding.{fails}
 use Rattle.csp_atom.specs.Follows.{true_where, false_where, nested}
-use Rattle.csp_atom.specs.Literals.{Agrees}
+
+-- P, or its denial
+abbrev Signed : Bool → Type 0 → Type 0
+Signed true P = P
+Signed false P = ¬ P
+
+-- an answer, where there is one, is whether P holds
+abbrev pub Agrees : Option Bool → Type 0 → Type 0
+Agrees None P = ⊤
+Agrees (Some known) P = Signed known P
+
+-- so it is the value of the test of P
+pub value_of_Agrees : {P : Type 0} (test : Bool) (answer : Option Bool) → Decides test P → Agrees answer P → IfSome answer (λ known. test ≡ known)
+value_of_Agrees test None decided so = tt
+value_of_Agrees test (Some true) decided so = decided.1 so
+value_of_Agrees test (Some false) decided so = false_from_ne_true test (λ h. so (decided.0 h))
 
 pub Agrees-test : {P : Type 0} (test : Bool) → Decides test P → Agrees (Some test) P
 Agrees-test true decided = decided.0 refl

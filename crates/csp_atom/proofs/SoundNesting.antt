@@ -1,7 +1,7 @@
 -- Two ends of one list are nested, and so are two fronts: so are the domains under two suffixes, and the paths beyond two fronts.
 use Rattle.std.proofs.Common.{◌≡◌, ◌≢◌, ℕ, List, [], ◌∷◌, ◌++◌, refl, sym, ap, ◌∙◌, append_assoc, ◌⊎◌, inl, inr}
-use Rattle.csp_model.specs.Matching.{HostMatches, PathMatches}
-use Rattle.csp_model.specs.declared.source.HostPart.TheVariants.{Under, Any}
+use Rattle.csp_model.specs.Bytes.{dot}
+use Rattle.csp_model.specs.Matching.{IsDomainHost, IsHostUnder, PathMatches}
 use Rattle.csp_model.specs.declared.source.PathPart.TheVariants.{Prefix}
 use Rattle.csp_model.specs.declared.url.Host.{Host}
 use Rattle.csp_model.specs.declared.url.Host.TheVariants.{Domain, Address}
@@ -29,17 +29,17 @@ module _ {X : Type 0} where
 -- Hosts
 
 -- what lies under a suffix lies under those that the suffix lies within
-pub under_through : (inner outer : List ℕ) (name : Host) → IsWithin inner outer → HostMatches (Under inner) name → HostMatches (Under outer) name
+pub under_through : (inner outer : List ℕ) (host : Host) → IsWithin inner outer → IsHostUnder host inner → IsHostUnder host outer
 under_through inner outer (Domain text) (front, within) (start, under) =
-    (start ++ front, under ∙ ap (λ tail. start ++ tail) within ∙ sym (append_assoc start front (46 ∷ outer)))
+    (start ++ front, under ∙ ap (λ tail. start ++ tail) within ∙ sym (append_assoc start front (dot ∷ outer)))
 under_through inner outer (Address text) within under = under
 
 -- a host lies under two suffixes only where one of them lies within the other
-pub under_both : (s t : List ℕ) (name : Host) → HostMatches (Under s) name → HostMatches (Under t) name → IsWithin s t ⊎ IsWithin t s
-under_both s t (Domain text) (f, first) (g, second) = ends_nest f g (46 ∷ s) (46 ∷ t) (sym first ∙ second)
+pub under_both : (s t : List ℕ) (host : Host) → IsHostUnder host s → IsHostUnder host t → IsWithin s t ⊎ IsWithin t s
+under_both s t (Domain text) (f, first) (g, second) = ends_nest f g (dot ∷ s) (dot ∷ t) (sym first ∙ second)
 under_both s t (Address text) first second = absurd first
 
-pub under_is_domain : (suffix : List ℕ) (name : Host) → HostMatches (Under suffix) name → HostMatches Any name
+pub under_is_domain : (suffix : List ℕ) (host : Host) → IsHostUnder host suffix → IsDomainHost host
 under_is_domain suffix (Domain text) under = tt
 under_is_domain suffix (Address text) under = under
 

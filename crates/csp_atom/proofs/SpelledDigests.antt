@@ -15,7 +15,6 @@ use Rattle.csp_model.specs.declared.source.Hash.{Hash}
 use Rattle.csp_model.specs.Tokens.{algorithm_of, bytes_of}
 use Rattle.csp_atom.specs.Atoms.{IsValidDigest}
 use Rattle.csp_atom.specs.Spelling.{is_visible}
-use Rattle.csp_atom.proofs.TableTests.{hash_from_parts}
 use Rattle.csp_atom.proofs.SpelledWords.{IsWord, IsVisible, word}
 
 named_back : (algorithm : Algorithm) → algorithm_named (algorithm_text algorithm) ≡ Some algorithm
@@ -28,7 +27,8 @@ algorithm_told first second same = let e = sym (named_back first) ∙ ap algorit
 
 pub hash_told : (first second : Hash) → algorithm_text first.algorithm ≡ algorithm_text second.algorithm → first.value ≡ second.value → first ≡ second
 hash_told first second named same =
-    hash_from_parts first.algorithm second.algorithm first.value second.value (algorithm_told first.algorithm second.algorithm named) same
+    ap (λ (a : Algorithm). record { algorithm = a; value = first.value }) (algorithm_told first.algorithm second.algorithm named)
+    ∙ ap (λ (v : List ℕ). record { algorithm = second.algorithm; value = v }) same
 
 valid_bytes : (digest : Digest) → IsValidDigest digest → are_bytes (bytes_of digest) ≡ true
 valid_bytes (Sha256 d) valid = valid.1

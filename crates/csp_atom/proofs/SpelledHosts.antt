@@ -1,5 +1,5 @@
 -- A valid host is spelled by a word, and no other valid host by the same.
-use Rattle.std.proofs.Common.{arith, nat_lt, suc, ◌≡◌, ◌∙◌, sym, ap, subst, refl, ℕ, ◌-◌, ◌<◌, Bool, true, false, ◌&&◌, ◌||◌, ◌==◌, not, List, [], ◌∷◌, length, All, inl, inr}
+use Rattle.std.proofs.Common.{arith, nat_lt, ◌≡◌, ◌∙◌, sym, ap, subst, refl, ℕ, ◌<◌, Bool, true, false, ◌&&◌, ◌||◌, ◌==◌, not, List, [], ◌∷◌, length, All, inl, inr}
 use Rattle.std.specs.Prelude.{slice_index, if◌then◌else◌}
 use Rattle.std.specs.List.{list_all, join_with_byte, onto_first}
 use Rattle.std.specs.Char.{is_ascii_digit}
@@ -7,8 +7,9 @@ use Rattle.std.proofs.lemmas.Bool.{and_parts, cond-false, false_from_ne_true, no
 use Rattle.std.proofs.lemmas.Bool.Decides.{nat_tests}
 use Rattle.std.proofs.lemmas.List.Elements.{All-nil, All-cons, All-append}
 use Rattle.std.proofs.lemmas.List.Splits.{join_with_byte-slice_split}
+use Rattle.csp_model.proofs.FinalBytes.{ends_in-cons, one_byte}
 use Rattle.csp_model.specs.Ascii.{is_nonempty, ends_in, without_last, without_final, split_at}
-use Rattle.csp_model.specs.Grammar.{are_digits, number}
+use Rattle.csp_model.specs.Grammar.{are_digits, decimal_value}
 use Rattle.csp_model.specs.Validity.{is_domain_byte, is_domain, last_part, ends_in_number, is_octet, is_four_numbers, is_group_char, is_bracketed, is_address, IsValidHost}
 use Rattle.csp_model.specs.declared.url.Host.{Host}
 use Rattle.csp_model.specs.declared.url.Host.TheVariants.{Domain, Address}
@@ -40,8 +41,8 @@ digit_visible c h = grind (arith, nat_tests)
 
 octet_digits : (part : List ℕ) → is_octet part ≡ true → are_digits part ≡ true
 octet_digits part h =
-    let front = and_parts (are_digits part && nat_lt (number part) 256) (nat_lt (length part) 2 || not (slice_index part 0 == 48)) h in
-    (and_parts (are_digits part) (nat_lt (number part) 256) front.0).0
+    let front = and_parts (are_digits part && nat_lt (decimal_value part) 256) (nat_lt (length part) 2 || not (slice_index part 0 == 48)) h in
+    (and_parts (are_digits part) (nat_lt (decimal_value part) 256) front.0).0
 
 octet_visible : (part : List ℕ) → is_octet part ≡ true → All IsVisible part
 octet_visible part h =
@@ -70,15 +71,6 @@ numbers_word (c ∷ text) h =
 group_char_visible : (c : ℕ) → is_group_char c ≡ true → IsVisible c
 group_char_visible c h = grind (arith, nat_tests)
 
--- the last byte is that of the rest
-last_byte : (c d : ℕ) (text : List ℕ) → slice_index (c ∷ d ∷ text) (length (c ∷ d ∷ text) - 1) ≡ slice_index (d ∷ text) (length (d ∷ text) - 1)
-last_byte c d text =
-    let place : length (c ∷ d ∷ text) - 1 ≡ suc (length (d ∷ text) - 1) = omega arith in
-    ap (slice_index (c ∷ d ∷ text)) place
-
-ends_later : (b c d : ℕ) (text : List ℕ) → ends_in b (c ∷ d ∷ text) ≡ true → ends_in b (d ∷ text) ≡ true
-ends_later b c d text h = ap (λ e. e == b) (sym (last_byte c d text)) ∙ h
-
 four_parts : (a b c d : Bool) → (a && b && c && d) ≡ true → (a ≡ true) × (b ≡ true) × (c ≡ true) × (d ≡ true)
 four_parts a b c d h =
     let last = and_parts (a && b && c) d h in
@@ -93,8 +85,8 @@ bracketed_word (c ∷ []) h = absurd (false≢true (four_parts (c == 91) (ends_i
 bracketed_word (c ∷ d ∷ text) h =
     let middle = without_last (d ∷ text) in
     let parts = four_parts (c == 91) (ends_in 93 (c ∷ d ∷ text)) (is_nonempty middle) (list_all is_group_char middle) h in
-    let last = eqb-true (slice_index (d ∷ text) (length (d ∷ text) - 1)) 93 (ends_later 93 c d text parts.1) in
-    let rest = with_last (d ∷ text) (rw last refl) (each_visible is_group_char group_char_visible middle parts.3) in
+    let ends : ends_in 93 (d ∷ text) ≡ true = sym (ends_in-cons 93 c d text) ∙ parts.1 in
+    let rest = with_last 93 (d ∷ text) ends refl (each_visible is_group_char group_char_visible middle parts.3) in
     word (c ∷ d ∷ text) (omega arith) (All-cons IsVisible c (d ∷ text) (rw (eqb-true c 91 parts.0) refl) rest)
 
 address_word : (text : List ℕ) → is_address text ≡ true → IsWord text
@@ -137,11 +129,11 @@ open_after c text h = by (c == 46) where
 -- a text with a dot at its end has nothing behind its last dot
 open_ended : (text : List ℕ) → ends_in 46 text ≡ true → IsOpenEnded (split_at 46 text)
 open_ended [] h = absurd (false≢true h)
-open_ended (c ∷ []) h = by (c == 46) h where
+open_ended (c ∷ []) h = by (c == 46) (sym (one_byte 46 c) ∙ h) where
   by : (b : Bool) → b ≡ true → IsOpenEnded (if b then [] ∷ [] ∷ [] else (c ∷ []) ∷ [])
   by true e = (omega arith, refl)
   by false e = absurd (false≢true e)
-open_ended (c ∷ d ∷ text) h = open_after c (d ∷ text) (open_ended (d ∷ text) (ends_later 46 c d text h))
+open_ended (c ∷ d ∷ text) h = open_after c (d ∷ text) (open_ended (d ∷ text) (sym (ends_in-cons 46 c d text) ∙ h))
 
 no_last_dot : (text : List ℕ) → are_digits (last_part (split_at 46 text)) ≡ true → ends_in 46 text ≡ false
 no_last_dot text digits = false_from_ne_true (ends_in 46 text) (λ e. false≢true (ap are_digits (sym (open_ended text e).1) ∙ digits))

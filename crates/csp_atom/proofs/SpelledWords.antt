@@ -1,16 +1,16 @@
 -- A text is a word where each of its bytes is visible: so are schemes, base64-values, numbers and algorithms.
-use Rattle.std.proofs.Common.{arith, ◌≡◌, subst, refl, ℕ, ◌+◌, ◌-◌, ◌<◌, ◌^◌, Bool, true, false, List, [], ◌∷◌, length, get_or, All, IsTrue}
-use Rattle.std.specs.Prelude.{decimal, slice_index, if◌then◌else◌, bytes_eq}
+use Rattle.std.proofs.Common.{arith, ◌≡◌, subst, sym, refl, ℕ, ◌<◌, ◌^◌, Bool, true, false, List, [], ◌∷◌, length, get_or, All, IsTrue}
+use Rattle.std.specs.Prelude.{decimal, if◌then◌else◌, bytes_eq}
 use Rattle.std.specs.List.{list_all}
 use Rattle.std.specs.Char.{is_ascii_alphabetic}
 use Rattle.std.specs.Str.Parse.{AllDigits}
-use Rattle.std.proofs.lemmas.Bool.{and_from, and_parts, eqb-true, lt-ltb, ltb-true, false≢true}
+use Rattle.std.proofs.lemmas.Bool.{and_from, and_parts, lt-ltb, ltb-true, false≢true}
 use Rattle.std.proofs.lemmas.Bool.Decides.{nat_tests}
 use Rattle.std.proofs.lemmas.Fmt.{decimal_is_IsNumeral}
-use Rattle.std.proofs.lemmas.List.{take_all}
-use Rattle.std.proofs.lemmas.List.Elements.{All-nil, All-cons, All-weaker, All-more, All-from_get_or}
+use Rattle.std.proofs.lemmas.List.Elements.{All-nil, All-cons, All-append, All-weaker, All-from_get_or}
 use Rattle.std.proofs.lemmas.List.Sums.{AllPass-from_list_all, list_all-from_AllPass}
 use Rattle.std.proofs.lemmas.Str.Parse.{digit_at}
+use Rattle.csp_model.proofs.FinalBytes.{ends_in_front}
 use Rattle.csp_model.specs.Ascii.{lower, is_nonempty, ends_in, without_last, without_final}
 use Rattle.csp_model.specs.Grammar.{algorithm_text, is_scheme_char, is_scheme, is_base64_char, is_base64_value}
 use Rattle.csp_model.specs.Validity.{is_lower_scheme}
@@ -32,17 +32,15 @@ each_visible p seen text h = All-weaker (λ c. p c ≡ true) IsVisible seen text
 
 -- A last byte
 
-pub with_last : (text : List ℕ) → IsVisible (slice_index text (length text - 1)) → All IsVisible (without_last text) → All IsVisible text
-with_last [] last front = All-nil IsVisible
-with_last (c ∷ text) last front =
-    let n = length (c ∷ text) - 1 in
-    let whole = All-more IsVisible (c ∷ text) n 0 (omega arith) front last in
-    subst (All IsVisible) (take_all (n + 1) (c ∷ text) (omega arith)) whole
+pub with_last : (c : ℕ) (text : List ℕ) → ends_in c text ≡ true → IsVisible c → All IsVisible (without_last text) → All IsVisible text
+with_last c text ends last front =
+    subst (All IsVisible) (sym (ends_in_front c text ends))
+    (All-append IsVisible (without_last text) (c ∷ []) front (All-cons IsVisible c [] last (All-nil IsVisible)))
 
 with_final : (c : ℕ) (text : List ℕ) → IsVisible c → All IsVisible (without_final c text) → All IsVisible text
 with_final c text last front = by (ends_in c text) refl front where
   by : (b : Bool) → ends_in c text ≡ b → All IsVisible (if b then without_last text else text) → All IsVisible text
-  by true is h = with_last text (rw (eqb-true (slice_index text (length text - 1)) c is) last) h
+  by true is h = with_last c text is last h
   by false is h = h
 
 -- Schemes, base64-values, numbers and algorithms

@@ -1,15 +1,16 @@
 -- The hashes that were seen, in a set of references.
-use Rattle.std.proofs.Common.{◌≡◌, ◌∙◌, sym, ap, refl, ℕ, Bool, true, false, cond, not, List, [], ◌∷◌, ◌++◌, Bor}
+use Rattle.std.proofs.Common.{◌≡◌, ◌∙◌, ap, refl, ℕ, Bool, true, cond, List, [], ◌∷◌, ◌++◌, Bor}
 use Rattle.std.specs.declared.cmp.Ordering.{Ordering}
 use Rattle.std.specs.Ordering.{is_eq}
 use Rattle.std.specs.BTreeSet.{BTreeSet, contains_by}
 use Rattle.std.proofs.lemmas.Map.Text.{is_eq-slice_cmp}
 use Rattle.csp_model.specs.contracts.source.HashOrd.TheImpl as order
+use Rattle.csp_model.specs.Same.{same_hash}
 use Rattle.csp_model.specs.declared.source.Algorithm.{Algorithm}
 use Rattle.csp_model.specs.declared.source.Algorithm.TheVariants.{Sha256, Sha384, Sha512}
 use Rattle.csp_model.specs.declared.source.Hash.{Hash}
-use Rattle.csp_atom.specs.Follows.{same_hash}
-use Rattle.csp_atom.proofs.VocabularyHashes.{has, has_more, same_hash_turned}
+use Rattle.csp_model.proofs.FirstOfEach as first
+use Rattle.csp_atom.specs.Holding.{has_hash}
 
 abbrev hash_cmp : Hash → Hash → Ordering
 hash_cmp = (order.ghosts).cmp
@@ -24,29 +25,22 @@ equal_parts Sha384 Sha384 v w = is_eq-slice_cmp v w
 equal_parts Sha512 Sha512 v w = is_eq-slice_cmp v w
 equal_parts a b v w = refl
 
-equal_hashes : (g h : Hash) → is_eq (hash_cmp g h) ≡ same_hash h g
-equal_hashes g h = equal_parts g.algorithm h.algorithm g.value h.value ∙ same_hash_turned g h
+equal_hashes : (g h : Hash) → is_eq (hash_cmp g h) ≡ same_hash g h
+equal_hashes g h = equal_parts g.algorithm h.algorithm g.value h.value
 
 -- the set has the hash
-abbrev pub has_key : BTreeSet (Bor Hash) → Hash → Bool
-has_key seen h = contains_by (λ key. hash_cmp h key.now) seen
+abbrev pub is_seen : BTreeSet (Bor Hash) → Hash → Bool
+is_seen seen h = contains_by (λ key. hash_cmp h key.now) seen
 
 -- the set has the hashes of the list
 abbrev pub Knows : BTreeSet (Bor Hash) → List Hash → Type 0
-Knows seen hs = (h : Hash) → has_key seen h ≡ has hs h
+Knows seen hs = (h : Hash) → is_seen seen h ≡ has_hash hs h
 
 -- a hash was put into a set
 abbrev pub Gains : BTreeSet (Bor Hash) → BTreeSet (Bor Hash) → Hash → Type 0
-Gains seen now h = (g : Hash) → has_key now g ≡ cond (is_eq (hash_cmp h g)) true (has_key seen g)
+Gains seen now h = (g : Hash) → is_seen now g ≡ cond (is_eq (hash_cmp h g)) true (is_seen seen g)
 
 pub knows_more : (seen now : BTreeSet (Bor Hash)) (hs : List Hash) (h : Hash) → Gains seen now h → Knows seen hs → Knows now (hs ++ h ∷ [])
-knows_more seen now hs h gains knows g =
-    gains g ∙ ap (λ b. cond b true (has_key seen g)) (equal_hashes h g) ∙ ap (cond (same_hash g h) true) (knows g) ∙ sym (has_more hs h g)
-
-not-not : (b : Bool) → not (not b) ≡ b
-not-not true = refl
-not-not false = refl
-
--- whether it was there, by the answer
-pub was_there : (seen : BTreeSet (Bor Hash)) (hs : List Hash) (h : Hash) (added : Bool) → added ≡ not (has_key seen h) → Knows seen hs → has hs h ≡ not added
-was_there seen hs h added is knows = sym (knows h) ∙ sym (not-not (has_key seen h)) ∙ sym (ap not is)
+knows_more seen now hs h gains =
+    first.knows_more (λ (k : Hash). k) same_hash (λ (k : Hash). k) (is_seen seen) (is_seen now) hs h
+    (λ g. gains g ∙ ap (λ b. cond b true (is_seen seen g)) (equal_hashes h g))

@@ -1,50 +1,26 @@
--- What a literal says of an atom: the value that the atom then has, or none.
-use Rattle.std.specs.Prelude.{ℕ, ◌==◌, ◌&&◌, Bool, true, false, not, List, ◌∷◌, Option, Some, None, if◌then◌else◌}
+-- What a literal says of an atom: the value that the atom then has, or none. And when one literal refutes
+-- another.
+use Rattle.std.specs.Prelude.{◌≡◌, ℕ, ◌==◌, Bool, true, false, not, List, ◌∷◌, Option, Some, None, if◌then◌else◌}
 use Rattle.std.specs.Str.{bytes_eq}
 use Rattle.std.specs.Cmp.Lexicographic.{pointwise}
-use Rattle.csp_model.specs.Ends.{ends_with, is_subdomain, begins_with, goes_beyond}
+use Rattle.csp_model.specs.Bytes.{dot}
+use Rattle.csp_model.specs.DecideMatching.{is_domain_host}
+use Rattle.csp_model.specs.Ends.{is_subdomain, is_host_under, begins_with, goes_beyond}
+use Rattle.csp_model.specs.Same.{same_host, same_hash}
 use Rattle.csp_model.specs.declared.check.Digest.{Digest}
 use Rattle.csp_model.specs.declared.check.Digest.TheVariants.{Sha256, Sha384, Sha512}
-use Rattle.csp_model.specs.declared.source.Algorithm.{Algorithm}
-use Rattle.csp_model.specs.declared.source.Algorithm.TheVariants as algorithm
-use Rattle.csp_model.specs.declared.source.Hash.{Hash}
-use Rattle.csp_model.specs.declared.url.Host.{Host}
-use Rattle.csp_model.specs.declared.url.Host.TheVariants.{Domain, Address}
 use Rattle.csp_atom.specs.declared.atom.Atom.{Atom}
 use Rattle.csp_atom.specs.declared.atom.Atom.TheVariants.{HostIs, HostUnder, HostDomain, PortIs, PathIs, PathUnder, SchemeIs, NonceIs, IntegrityHas, IntegrityOutside, DigestIs}
 use Rattle.csp_atom.specs.declared.atom.Literal.{Literal}
 
 -- Tests
 
-abbrev pub same_host : Host → Host → Bool
-same_host (Domain a) (Domain b) = bytes_eq a b
-same_host (Address a) (Address b) = bytes_eq a b
-same_host a b = false
-
-abbrev pub is_domain_host : Host → Bool
-is_domain_host (Domain text) = true
-is_domain_host (Address text) = false
-
--- the host is a domain that ends in "." and the suffix
-abbrev pub is_host_under : Host → List ℕ → Bool
-is_host_under (Domain text) suffix = is_subdomain text suffix
-is_host_under (Address text) suffix = false
-
--- "." and the first ends in "." and the second: the first is the second or lies under it
+-- the domain is the suffix, or lies under it: with "." before it, it ends in "." and the suffix
 abbrev pub lies_within : List ℕ → List ℕ → Bool
-lies_within domain suffix = ends_with (46 ∷ domain) (46 ∷ suffix)
+lies_within domain suffix = is_subdomain (dot ∷ domain) suffix
 
 abbrev pub same_path : List (List ℕ) → List (List ℕ) → Bool
 same_path p q = pointwise bytes_eq p q
-
-abbrev pub same_algorithm : Algorithm → Algorithm → Bool
-same_algorithm algorithm.Sha256 algorithm.Sha256 = true
-same_algorithm algorithm.Sha384 algorithm.Sha384 = true
-same_algorithm algorithm.Sha512 algorithm.Sha512 = true
-same_algorithm a b = false
-
-abbrev pub same_hash : Hash → Hash → Bool
-same_hash g h = same_algorithm g.algorithm h.algorithm && bytes_eq g.value h.value
 
 -- Answers
 
@@ -113,4 +89,9 @@ follows_false IntegrityOutside IntegrityOutside = Some false
 follows_false known asked = None
 
 abbrev pub follows : Literal → Atom → Option Bool
-follows literal asked = if literal.positive then follows_true literal.atom asked else follows_false literal.atom asked
+follows literal asked =
+    if literal.positive then follows_true literal.atom asked else follows_false literal.atom asked
+
+-- what the first literal says makes the other false
+abbrev pub Refutes : Literal → Literal → Type 0
+Refutes literal other = follows literal other.atom ≡ Some (not other.positive)

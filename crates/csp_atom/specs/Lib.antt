@@ -1,5 +1,5 @@
 pub mod Atoms
 pub mod Follows
-pub mod Literals
+pub mod Holding
 pub mod Spelling
 pub mod Vocabulary

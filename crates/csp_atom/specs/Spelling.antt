@@ -3,6 +3,7 @@ use Rattle.std.specs.Prelude.{ℕ, ◌&&◌, Bool, List, [], ◌∷◌, decimal,
 use Rattle.std.specs.List.{list_all}
 use Rattle.hex.specs.Hex.{encode_lower}
 use Rattle.csp_model.specs.Ascii.{is_nonempty}
+use Rattle.csp_model.specs.Bytes.{space, delete}
 use Rattle.csp_model.specs.Grammar.{algorithm_text}
 use Rattle.csp_model.specs.Paths.{host_text, path_text}
 use Rattle.csp_model.specs.Tokens.{algorithm_of, bytes_of}
@@ -11,7 +12,7 @@ use Rattle.csp_atom.specs.declared.atom.Atom.TheVariants.{HostIs, HostUnder, Hos
 
 -- what the atom says, and of what
 abbrev pub spelled : Atom → List (List ℕ)
-spelled (HostIs name) = codes "host-is" ∷ host_text name ∷ []
+spelled (HostIs host) = codes "host-is" ∷ host_text host ∷ []
 spelled (HostUnder suffix) = codes "host-under" ∷ suffix ∷ []
 spelled HostDomain = codes "host-domain" ∷ []
 spelled (PortIs n) = codes "port-is" ∷ decimal n ∷ []
@@ -21,11 +22,12 @@ spelled (SchemeIs scheme) = codes "scheme-is" ∷ scheme ∷ []
 spelled (NonceIs value) = codes "nonce-is" ∷ value ∷ []
 spelled (IntegrityHas hash) = codes "integrity-has" ∷ algorithm_text hash.algorithm ∷ hash.value ∷ []
 spelled IntegrityOutside = codes "integrity-outside" ∷ []
-spelled (DigestIs digest) = codes "digest-is" ∷ algorithm_text (algorithm_of digest) ∷ encode_lower (bytes_of digest) ∷ []
+spelled (DigestIs digest) =
+    codes "digest-is" ∷ algorithm_text (algorithm_of digest) ∷ encode_lower (bytes_of digest) ∷ []
 
 -- one or more visible ASCII characters
 abbrev pub is_visible : ℕ → Bool
-is_visible c = nat_lt 32 c && nat_lt c 127
+is_visible c = nat_lt space c && nat_lt c delete
 
 abbrev pub is_word : List ℕ → Bool
 is_word text = is_nonempty text && list_all is_visible text

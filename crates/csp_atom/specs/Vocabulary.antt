@@ -1,21 +1,24 @@
 -- The hashes that two lists of policies speak of, each once.
 use Rattle.std.specs.Prelude.{not, List, [], ◌∷◌, ◌++◌, filter, Option, Some, None}
 use Rattle.std.specs.List.{filter_map, flat_map}
+use Rattle.csp_model.specs.Same.{same_hash}
 use Rattle.csp_model.specs.declared.policy.Directive.{Directive}
 use Rattle.csp_model.specs.declared.policy.Policy.{Policy}
 use Rattle.csp_model.specs.declared.policy.PolicyList.{PolicyList}
 use Rattle.csp_model.specs.declared.source.Hash.{Hash}
 use Rattle.csp_model.specs.declared.source.Source.{Source}
 use Rattle.csp_model.specs.declared.source.Source.TheVariants as source
-use Rattle.csp_atom.specs.Follows.{same_hash}
 
-abbrev pub hash_in : Source → Option Hash
-hash_in (source.Digest hash) = Some hash
-hash_in other = None
+-- of a hash-source its hash
+abbrev pub hash_of_source : Source → Option Hash
+hash_of_source (source.Digest hash) = Some hash
+hash_of_source other = None
 
 -- the hash-sources of all directives of all policies, report-only ones too
 abbrev pub hashes_of : PolicyList → List Hash
-hashes_of list = flat_map (λ (p : Policy). flat_map (λ (d : Directive). filter_map hash_in d.sources) p.directives) list.policies
+hashes_of list =
+    flat_map (λ (p : Policy). flat_map (λ (d : Directive). filter_map hash_of_source d.sources) p.directives)
+    list.policies
 
 -- the first of each
 abbrev pub distinct : List Hash → List Hash

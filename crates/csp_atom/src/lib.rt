@@ -5,20 +5,13 @@
 
 mod atom;
 mod copies;
-mod laws;
-mod meaning;
-mod same;
+mod holding;
+mod hosts;
+pub mod laws;
 mod table;
 mod vocabulary;
 
 pub use atom::{Atom, Literal, Vocabulary};
-pub use laws::{
-    a_literal_decides_its_own_atom, a_valid_atom_is_told_by_its_spelling, an_atom_holds_or_not,
-    an_atom_that_holds_has_its_part, refutation_is_mutual,
-};
-pub use meaning::holds;
+pub use holding::holds;
 pub use table::follows;
 pub use vocabulary::vocabulary_of;
-
-#[cfg(test)]
-mod tests;

@@ -1,20 +1,21 @@
 //! What one literal says of an atom.
-ghost use Rattle.std.specs.Prelude.{◌≡◌, List as Items};
+ghost use Rattle.std.specs.Prelude.{◌≡◌, IfSome, IsTrue, List as Items};
 ghost use Rattle.csp_model.specs.declared.check.Check.{Check as CheckValue};
 ghost use Rattle.csp_model.specs.declared.source.Hash.{Hash as HashValue};
-ghost use Rattle.csp_atom.specs.Atoms.{Holds};
-ghost use Rattle.csp_atom.specs.Follows as table;
-ghost use Rattle.csp_atom.specs.Literals.{Agrees, IsTrueOf};
+ghost use Rattle.csp_atom.specs.Follows as spec;
+ghost use Rattle.csp_atom.specs.Holding.{holds, is_true_of};
 
 use crate::atom::{Atom, Literal};
-use crate::same::{is_domain_host, is_host_under, lies_within};
+use crate::hosts::{is_domain_host, is_host_under, lies_within};
 use csp_model::{Digest, begins_with, goes_beyond};
 
-/// What a literal says of an atom: the value that the atom has for each check of which the literal is true. None
-/// comes exactly where the table of `specs/Follows` says nothing.
+/// What a literal says of an atom: the value that the atom has for each check of which the literal is true.
+/// None comes exactly where the table of `specs/Follows` says nothing.
 pub fn follows(literal: &Literal, atom: &Atom) -> Option<bool>
-    ensures value { result ≡ table.follows literal.now atom.now }
-    ensures sound { (hashes : Items HashValue) (asked : CheckValue) → IsTrueOf hashes asked literal.now → Agrees result (Holds hashes asked atom.now) }
+    ensures value { result ≡ spec.follows literal.now atom.now }
+    ensures sound { (hashes : Items HashValue) (asked : CheckValue)
+        → IsTrue (is_true_of hashes asked literal.now)
+        → IfSome result (λ known. holds hashes asked atom.now ≡ known) }
 {
     if literal.positive {
         follows_true(&literal.atom, atom)
@@ -24,19 +25,19 @@ pub fn follows(literal: &Literal, atom: &Atom) -> Option<bool>
 }
 
 fn true_where(test: bool) -> Option<bool>
-    ensures { result ≡ table.true_where test }
+    ensures { result ≡ spec.true_where test }
 {
     if test { Some(true) } else { None }
 }
 
 fn false_where(test: bool) -> Option<bool>
-    ensures { result ≡ table.false_where test }
+    ensures { result ≡ spec.false_where test }
 {
     if test { Some(false) } else { None }
 }
 
 fn nested(inner: bool, outer: bool) -> Option<bool>
-    ensures { result ≡ table.nested inner outer }
+    ensures { result ≡ spec.nested inner outer }
 {
     if inner {
         Some(true)
@@ -46,7 +47,7 @@ fn nested(inner: bool, outer: bool) -> Option<bool>
 }
 
 fn same_digest(known: &Digest, asked: &Digest) -> Option<bool>
-    ensures { result ≡ table.same_digest known.now asked.now }
+    ensures { result ≡ spec.same_digest known.now asked.now }
 {
     match (known, asked) {
         (Digest::Sha256(known), Digest::Sha256(asked)) => Some(known == asked),
@@ -57,7 +58,7 @@ fn same_digest(known: &Digest, asked: &Digest) -> Option<bool>
 }
 
 fn false_of_digest(known: &Digest, asked: &Digest) -> Option<bool>
-    ensures { result ≡ table.false_of_digest known.now asked.now }
+    ensures { result ≡ spec.false_of_digest known.now asked.now }
 {
     match same_digest(known, asked) {
         Some(true) => Some(false),
@@ -67,7 +68,7 @@ fn false_of_digest(known: &Digest, asked: &Digest) -> Option<bool>
 
 // What an atom that holds says of another.
 fn follows_true(known: &Atom, asked: &Atom) -> Option<bool>
-    ensures { result ≡ table.follows_true known.now asked.now }
+    ensures { result ≡ spec.follows_true known.now asked.now }
 {
     match (known, asked) {
         (Atom::HostIs(host), Atom::HostIs(other)) => Some(host == other),
@@ -108,7 +109,7 @@ fn follows_true(known: &Atom, asked: &Atom) -> Option<bool>
 
 // What an atom that doesn't hold says of another.
 fn follows_false(known: &Atom, asked: &Atom) -> Option<bool>
-    ensures { result ≡ table.follows_false known.now asked.now }
+    ensures { result ≡ spec.follows_false known.now asked.now }
 {
     match (known, asked) {
         (Atom::HostIs(host), Atom::HostIs(other)) => false_where(host == other),

@@ -1,50 +1,48 @@
-//! Which directive governs (Content Security Policy Level 3, sections 6.8.3 and 6.8.4).
-ghost use Rattle.std.specs.Prelude.{◌≡◌, ◌<◌, length, IfSome, option_copied};
-ghost use Rattle.csp_model.specs.Governing as model;
+//! Which directive governs a check, and under which name (Content Security Policy Level 3, sections 6.8.3 and
+//! 6.8.4).
+ghost use Rattle.std.specs.Prelude.{◌≡◌, ◌<◌, length, IfSome};
+ghost use Rattle.std.specs.Option.{option_map};
+ghost use Rattle.csp_match.specs.Shown.{shown};
+ghost use Rattle.csp_model.specs.Governing as spec;
 
+use crate::governs::Governor;
 use csp_model::{Directive, Name, Policy, name_text};
 
-/// The place, counted from 0, of the directive that governs a check which asks for `effective` (Content Security
-/// Policy Level 3, sections 6.8.3 and 6.8.4).
+/// What governs a check that asks for the directive `effective` (Content Security Policy Level 3, sections
+/// 6.8.3 and 6.8.4): of the first name in the fallback list of `effective` that the policy has, the first
+/// directive.
 ///
-/// It is the first directive of the first name in the fallback list of `effective` that the policy has, and no
-/// other is looked at. None comes exactly where the policy has none of these names. Such a policy allows.
+/// No other directive is looked at, whatever that one says. None comes exactly where the policy has none of
+/// these names. Such a policy allows the check.
+pub fn governor(policy: &Policy, effective: Name) -> Option<Governor<'_>>
+    ensures { option_map shown result ≡ spec.governor policy.now effective }
+{
+    let directives = policy.directives.as_slice();
+    for name in fallbacks(effective) {
+        if let Some(found) = governor_named(directives, *name) {
+            return Some(found);
+        }
+    }
+    None
+}
+
+/// The place, counted from 0, of the directive that `governor` finds.
 pub fn governing(policy: &Policy, effective: Name) -> Option<usize>
-    ensures place { result ≡ model.governs policy.now.directives effective }
+    ensures place { result ≡ spec.governing_place policy.now effective }
     ensures within { IfSome result (λ place. place < length policy.now.directives) }
 {
+    let directives = policy.directives.as_slice();
     for name in fallbacks(effective) {
-        if let Some(place) = place_of(policy.directives.as_slice(), *name) {
+        if let Some(place) = place_of_name(directives, *name) {
             return Some(place);
         }
     }
     None
 }
 
-/// The name of the directive that `governing` finds, which is a name in the fallback list of `effective`.
-pub fn governing_name(policy: &Policy, effective: Name) -> Option<Name>
-    ensures { result ≡ model.governing_name policy.now.directives effective }
-{
-    let directives = policy.directives.as_slice();
-    fallbacks(effective)
-        .iter()
-        .copied()
-        .find(|name| place_of(directives, *name).is_some())
-}
-
-/// The directive that `governing` finds.
-pub fn governing_directive(policy: &Policy, effective: Name) -> Option<&Directive>
-    ensures { option_copied result ≡ model.governing_directive policy.now effective }
-{
-    match governing(policy, effective) {
-        None => None,
-        Some(place) => policy.directives.get(place),
-    }
-}
-
 // The names that may govern, the first one that the policy has before the others (section 6.8.3).
 fn fallbacks(effective: Name) -> &'static [Name]
-    ensures { result.now ≡ model.fallbacks effective }
+    ensures { result.now ≡ spec.fallbacks effective }
 {
     match effective {
         Name::ConnectSrc => &[Name::ConnectSrc, Name::DefaultSrc],
@@ -75,13 +73,30 @@ fn fallbacks(effective: Name) -> &'static [Name]
     }
 }
 
+// The first directive of a name.
+#[tactic(auto, unfolding(csp_model::specs::Governing::governor_named))]
+fn governor_named(directives: &[Directive], name: Name) -> Option<Governor<'_>>
+    ensures { option_map shown result ≡ spec.governor_named directives.now name }
+{
+    directives
+        .iter()
+        .find(|directive| is_named(name, directive))
+        .map(|directive| Governor { name, directive })
+}
+
 // The place of the first directive of a name.
-#[tactic(auto, unfolding(csp_model::specs::Governing::place_of))]
-fn place_of(directives: &[Directive], name: Name) -> Option<usize>
-    ensures place { result ≡ model.place_of directives.now name }
+#[tactic(auto, unfolding(csp_model::specs::Governing::place_of_name))]
+fn place_of_name(directives: &[Directive], name: Name) -> Option<usize>
+    ensures place { result ≡ spec.place_of_name directives.now name }
     ensures within { IfSome result (λ place. place < length directives.now) }
 {
     directives
         .iter()
-        .position(|directive| directive.name.as_str() == name_text(name))
+        .position(|directive| is_named(name, directive))
+}
+
+fn is_named(name: Name, directive: &Directive) -> bool
+    ensures { result ≡ spec.is_named name directive.now }
+{
+    directive.name.as_str() == name_text(name)
 }

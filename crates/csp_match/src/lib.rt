@@ -5,6 +5,7 @@
 #![tactic(auto)]
 
 mod fallback;
+mod governs;
 mod host;
 mod path;
 mod port;
@@ -12,8 +13,6 @@ mod scheme;
 mod self_source;
 mod source;
 
-pub use fallback::{governing, governing_directive, governing_name};
+pub use fallback::{governing, governor};
+pub use governs::Governor;
 pub use source::{list_matches, source_matches};
-
-#[cfg(test)]
-mod tests;

@@ -1,13 +1,13 @@
-//! The keyword `'self'` (Content Security Policy Level 3, section 6.7.2, "Does url match expression in origin with
-//! redirect count?").
-ghost use Rattle.std.specs.Prelude.{◌↔◌, IsTrue};
-ghost use Rattle.csp_model.specs.Matching.{SelfMatches, SelfScheme};
+//! The keyword `'self'` (Content Security Policy Level 3, section 6.7.2, "Does url match expression in origin
+//! with redirect count?").
+ghost use Rattle.std.specs.Prelude.{◌≡◌};
+ghost use Rattle.csp_model.specs.DecideMatching as spec;
 
 use csp_model::{Origin, Scheme, Url};
 
 // Whether `'self'` matches a URL: the same host and port, and the same scheme or one that is safe to take.
 pub fn self_matches(origin: &Origin, url: &Url) -> bool
-    ensures { IsTrue result ↔ (SelfMatches origin.now url.now) }
+    ensures { result ≡ spec.self_matches origin.now url.now }
 {
     match (origin, url) {
         (
@@ -28,7 +28,7 @@ pub fn self_matches(origin: &Origin, url: &Url) -> bool
 }
 
 fn self_scheme_matches(own: Scheme, scheme: Scheme) -> bool
-    ensures { IsTrue result ↔ (SelfScheme own scheme) }
+    ensures { result ≡ spec.self_scheme_matches own scheme }
 {
     match scheme {
         Scheme::Https | Scheme::Wss => true,

@@ -5,7 +5,7 @@ use Rattle.std.specs.Option.{MatchOption}
 use Rattle.std.proofs.lemmas.Bool.Decides.{Decides-and, Decides-or, Decides-not}
 use Rattle.csp_model.specs.Names.{group_directive}
 use Rattle.csp_model.specs.Governing.{Governor, governor, allows_by, where_governed, WhereGoverned}
-use Rattle.csp_model.specs.Fetch.{is_redirected, Rule, ScriptRule, StyleRule, ListRule, fetch_rule, DynamicOrListed, SourcesAllow, FetchAllows}
+use Rattle.csp_model.specs.Fetch.{is_redirected, fetch_rule, DynamicOrListed, SourcesAllow, FetchAllows}
 use Rattle.csp_model.specs.Matching.{ListMatches}
 use Rattle.csp_model.specs.DecideFetch.{dynamic_or_listed, sources_allow, fetch_allows}
 use Rattle.csp_model.specs.DecideMatching.{list_matches}
@@ -14,6 +14,8 @@ use Rattle.csp_model.proofs.Deciding.{yes, is_false}
 use Rattle.csp_model.proofs.MatchingDecided.{list_decides}
 use Rattle.csp_model.proofs.TokensDecided.{keyword_decides, nonce_decides, integrity_decides}
 use Rattle.csp_model.specs.declared.name.Name.{Name}
+use Rattle.csp_model.specs.declared.check.FetchRule.{FetchRule}
+use Rattle.csp_model.specs.declared.check.FetchRule.TheVariants as rule
 use Rattle.csp_model.specs.declared.check.Group.{Group}
 use Rattle.csp_model.specs.declared.source.Hash.{Hash}
 use Rattle.csp_model.specs.declared.source.Keyword.TheVariants as keyword
@@ -44,18 +46,18 @@ dynamic_decides sources parser_inserted listed Listed is =
     (Decides-and dynamic (not parser_inserted) decided (is_false parser_inserted))
     (Decides-and (not dynamic) listed (Decides-not dynamic decided) is)
 
-pub sources_decide : (rule : Rule) (sources : List Source) (nonce : List ℕ) (integrity : List Hash)
+pub sources_decide : (which : FetchRule) (sources : List Source) (nonce : List ℕ) (integrity : List Hash)
     (parser_inserted listed : Bool) (Listed : Type 0) → Decides listed Listed
-    → Decides (sources_allow rule sources nonce integrity parser_inserted listed)
-    (SourcesAllow rule sources nonce integrity parser_inserted Listed)
-sources_decide ScriptRule sources nonce integrity parser_inserted listed Listed is =
+    → Decides (sources_allow which sources nonce integrity parser_inserted listed)
+    (SourcesAllow which sources nonce integrity parser_inserted Listed)
+sources_decide rule.Script sources nonce integrity parser_inserted listed Listed is =
     Decides-or (nonce_matches nonce sources) (integrity_matches integrity sources || dynamic_or_listed sources parser_inserted listed)
     (nonce_decides nonce sources)
     (Decides-or (integrity_matches integrity sources) (dynamic_or_listed sources parser_inserted listed)
     (integrity_decides integrity sources) (dynamic_decides sources parser_inserted listed Listed is))
-sources_decide StyleRule sources nonce integrity parser_inserted listed Listed is =
+sources_decide rule.Style sources nonce integrity parser_inserted listed Listed is =
     Decides-or (nonce_matches nonce sources) listed (nonce_decides nonce sources) is
-sources_decide ListRule sources nonce integrity parser_inserted listed Listed is = is
+sources_decide rule.List sources nonce integrity parser_inserted listed Listed is = is
 
 pub fetch_decides : (policy : Policy) (kind : Group) (there : Url) (redirects : ℕ) (nonce : List ℕ)
     (integrity : List Hash) (parser_inserted : Bool)

@@ -9,8 +9,8 @@ use Rattle.base64.specs.GeneralPurpose.{encode_of}
 use Rattle.base64.specs.Engines.{standard}
 use Rattle.csp_model.specs.Ascii.{is_nonempty}
 use Rattle.csp_model.specs.Same.{same_keyword, same_hash}
-use Rattle.csp_model.specs.Tokens.{HasKeyword, NonceMatches, IntegrityMatches, digest_by, plain_value, IsHashOf, DigestsMatch}
-use Rattle.csp_model.specs.DecideTokens.{is_keyword, has_keyword, is_nonce, nonce_matches, is_hash, integrity_matches, is_hash_of, digests_match}
+use Rattle.csp_model.specs.Tokens.{HasKeyword, NonceMatches, IntegrityMatches, HashMatches, digest_by, plain_value, IsHashOf, DigestsMatch}
+use Rattle.csp_model.specs.DecideTokens.{is_keyword, has_keyword, is_nonce, nonce_matches, is_hash, integrity_matches, hash_matches, is_hash_of, digests_match}
 use Rattle.csp_model.proofs.Deciding.{no, any_decides, all_decides, has_decides, nonempty_decides}
 use Rattle.csp_model.proofs.SameLaws.{same_keyword_decides, same_hash_decides}
 use Rattle.csp_model.specs.declared.source.Hash.{Hash}
@@ -52,9 +52,11 @@ integrity_decides integrity sources =
     (all_decides (λ h. list_any (is_hash h) sources) (λ h. Contains sources (source.Digest h))
     (λ h. has_decides (is_hash h) (source.Digest h) (is_hash_decides h) sources) integrity)
 
+pub hash_decides : (hash : Hash) (digests : Digests) → Decides (hash_matches hash digests) (HashMatches hash digests)
+hash_decides hash digests = bytes_eq-Decides (plain_value hash.value) (encode_of standard (digest_by hash.algorithm digests))
+
 is_hash_of_decides : (digests : Digests) (s : Source) → Decides (is_hash_of digests s) (IsHashOf digests s)
-is_hash_of_decides digests (source.Digest hash) =
-    bytes_eq-Decides (plain_value hash.value) (encode_of standard (digest_by hash.algorithm digests))
+is_hash_of_decides digests (source.Digest hash) = hash_decides hash digests
 is_hash_of_decides digests s = no (λ h. h)
 
 pub digests_decide : (digests : Digests) (sources : List Source) → Decides (digests_match digests sources) (DigestsMatch digests sources)

@@ -36,10 +36,12 @@ abbrev pub integrity_matches : List Hash → List Source → Bool
 integrity_matches integrity sources =
     is_nonempty integrity && list_all (λ h. list_any (is_hash h) sources) integrity
 
+abbrev pub hash_matches : Hash → Digests → Bool
+hash_matches hash digests = bytes_eq (plain_value hash.value) (encode_of standard (digest_by hash.algorithm digests))
+
 -- a hash-source that stands for one of these digests
 abbrev pub is_hash_of : Digests → Source → Bool
-is_hash_of digests (source.Digest hash) =
-    bytes_eq (plain_value hash.value) (encode_of standard (digest_by hash.algorithm digests))
+is_hash_of digests (source.Digest hash) = hash_matches hash digests
 is_hash_of digests s = false
 
 abbrev pub digests_match : Digests → List Source → Bool

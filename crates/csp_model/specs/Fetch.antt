@@ -6,6 +6,8 @@ use Rattle.csp_model.specs.Matching.{ListMatches}
 use Rattle.csp_model.specs.Tokens.{HasKeyword, NonceMatches, IntegrityMatches}
 use Rattle.csp_model.specs.declared.name.Name.{Name}
 use Rattle.csp_model.specs.declared.name.Name.TheVariants.{ScriptSrc}
+use Rattle.csp_model.specs.declared.check.FetchRule.{FetchRule}
+use Rattle.csp_model.specs.declared.check.FetchRule.TheVariants as rule
 use Rattle.csp_model.specs.declared.check.Group.{Group}
 use Rattle.csp_model.specs.declared.check.Group.TheVariants as group
 use Rattle.csp_model.specs.declared.source.Hash.{Hash}
@@ -17,28 +19,22 @@ use Rattle.csp_model.specs.declared.url.Url.{Url}
 abbrev pub is_redirected : ℕ → Bool
 is_redirected redirects = not (redirects == 0)
 
--- how a directive decides on a fetch: as on a script, as on a style, or by its list alone
-pub data Rule : Type 0 where
-  ScriptRule : Rule
-  StyleRule : Rule
-  ListRule : Rule
-
 -- a worker is decided on as a script where script-src governs it
-abbrev pub worker_rule : Name → Rule
-worker_rule ScriptSrc = ScriptRule
-worker_rule governing = ListRule
+abbrev pub worker_rule : Name → FetchRule
+worker_rule ScriptSrc = rule.Script
+worker_rule governing = rule.List
 
 -- the rule for a fetch that a directive of this name governs
-abbrev pub fetch_rule : Group → Name → Rule
-fetch_rule group.Connect governing = ListRule
-fetch_rule group.Font governing = ListRule
-fetch_rule group.Frame governing = ListRule
-fetch_rule group.Img governing = ListRule
-fetch_rule group.Manifest governing = ListRule
-fetch_rule group.Media governing = ListRule
-fetch_rule group.Object governing = ListRule
-fetch_rule group.StyleElem governing = StyleRule
-fetch_rule group.ScriptElem governing = ScriptRule
+abbrev pub fetch_rule : Group → Name → FetchRule
+fetch_rule group.Connect governing = rule.List
+fetch_rule group.Font governing = rule.List
+fetch_rule group.Frame governing = rule.List
+fetch_rule group.Img governing = rule.List
+fetch_rule group.Manifest governing = rule.List
+fetch_rule group.Media governing = rule.List
+fetch_rule group.Object governing = rule.List
+fetch_rule group.StyleElem governing = rule.Style
+fetch_rule group.ScriptElem governing = rule.Script
 fetch_rule group.Worker governing = worker_rule governing
 
 -- what the list decides, or 'strict-dynamic' in its place
@@ -49,12 +45,12 @@ DynamicOrListed sources parser_inserted Listed =
 
 -- a governing list allows the fetch, where Listed says that the list matches its URL; the script check is
 -- 6.7.1.1: a nonce allows, or integrity, or else 'strict-dynamic' or the list decides
-abbrev pub SourcesAllow : Rule → List Source → List ℕ → List Hash → Bool → Type 0 → Type 0
-SourcesAllow ScriptRule sources nonce integrity parser_inserted Listed =
+abbrev pub SourcesAllow : FetchRule → List Source → List ℕ → List Hash → Bool → Type 0 → Type 0
+SourcesAllow rule.Script sources nonce integrity parser_inserted Listed =
     NonceMatches nonce sources
     ⊎ (IntegrityMatches integrity sources ⊎ DynamicOrListed sources parser_inserted Listed)
-SourcesAllow StyleRule sources nonce integrity parser_inserted Listed = NonceMatches nonce sources ⊎ Listed
-SourcesAllow ListRule sources nonce integrity parser_inserted Listed = Listed
+SourcesAllow rule.Style sources nonce integrity parser_inserted Listed = NonceMatches nonce sources ⊎ Listed
+SourcesAllow rule.List sources nonce integrity parser_inserted Listed = Listed
 
 -- the policy allows the fetch
 abbrev pub FetchAllows : Policy → Group → Url → ℕ → List ℕ → List Hash → Bool → Type 0

@@ -48,9 +48,13 @@ size_of Sha256 = 32
 size_of Sha384 = 48
 size_of Sha512 = 64
 
--- a base64-value in the standard alphabet: "-" read as "+", and "_" as "/"
+-- a symbol of base64 in the standard alphabet: "-" is read as "+", and "_" as "/"
+abbrev pub plain_symbol : ℕ → ℕ
+plain_symbol c = if c == hyphen then plus else if c == underscore then slash else c
+
+-- a base64-value in the standard alphabet
 abbrev pub plain_value : List ℕ → List ℕ
-plain_value value = map (λ c. if c == hyphen then plus else if c == underscore then slash else c) value
+plain_value value = map plain_symbol value
 
 -- a hash's value is the standard base64 of this digest
 abbrev pub StandsFor : List ℕ → List ℕ → Type 0

@@ -1,5 +1,6 @@
 //! What a policy is asked: one check of one request.
 ghost use Rattle.std.specs.Prelude.{◌≡◌, option_copied};
+ghost use Rattle.csp_model.specs.Fetch.{fetch_rule};
 ghost use Rattle.csp_model.specs.Names.{group_directive, inline_directive, capability_text, capability_named};
 ghost use Rattle.csp_model.specs.Parts as spec;
 
@@ -42,6 +43,30 @@ impl Group {
             Group::Worker => Name::WorkerSrc,
         }
     }
+
+    /// How a directive of this name decides on the group's fetches, where it governs them. A worker is decided on as a
+    /// script where `script-src` governs it (Content Security Policy Level 3, sections 6.1 and 6.7.1).
+    pub fn rule(self, governing: Name) -> FetchRule
+        ensures { result ≡ fetch_rule self governing }
+    {
+        match self {
+            Group::ScriptElem => FetchRule::Script,
+            Group::Worker if governing == Name::ScriptSrc => FetchRule::Script,
+            Group::StyleElem => FetchRule::Style,
+            _ => FetchRule::List,
+        }
+    }
+}
+
+/// How a directive decides on a fetch that it governs.
+#[derive(Clone, Copy, Debug, PartialEq, Eq)]
+pub enum FetchRule {
+    /// By nonce, integrity, `'strict-dynamic'` and its list.
+    Script,
+    /// By nonce and its list.
+    Style,
+    /// By its list alone.
+    List,
 }
 
 /// What inline code or style it is.

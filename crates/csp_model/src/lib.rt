@@ -16,7 +16,7 @@ mod text;
 mod url;
 mod verdict;
 
-pub use check::{Capability, Check, CheckPart, Digest, Digests, Group, InlineKind};
+pub use check::{Capability, Check, CheckPart, Digest, Digests, FetchRule, Group, InlineKind};
 pub use copies::Duplicate;
 pub use ends::{begins_with, goes_beyond, is_subdomain};
 pub use grammar::{are_digits, decimal_value, is_scheme, is_scheme_char};
@@ -29,6 +29,3 @@ pub use source::{Algorithm, Hash, HostPart, Keyword, PathPart, PortPart, Source}
 pub use text::{Bytes, Text, is_ascii_text};
 pub use url::{Host, Origin, Scheme, Url};
 pub use verdict::{Described, Item, Verdict, Violation};
-
-#[cfg(test)]
-mod tests;

@@ -2,15 +2,13 @@
 #![tactic(auto)]
 
 mod block;
+mod caseless_name;
 mod directive;
 mod error;
 mod lines;
 mod longest;
-mod names;
-mod policy;
 mod print;
-#[cfg(test)]
-mod tests;
+mod reader;
 mod words;
 
 pub use block::read_block;

@@ -1,5 +1,6 @@
 -- JSON values as the code holds them.
-use Rattle.std.proofs.Common.{◌≡◌, ◌+◌, ℕ, List, [], ◌∷◌, length, map, String, refl, ap, ◌∙◌, sym, add-one, true, false, IsUtf8, Some, None, cond}
+use Rattle.std.proofs.Common.{◌≡◌, ◌+◌, ℕ, List, [], ◌∷◌, length, map, String, refl, ap, ◌∙◌, sym, add-one}
+use Rattle.std.proofs.Common.{true, false, IsUtf8, Some, None, cond}
 use Rattle.std.specs.Prelude.{◌==◌}
 use Rattle.std.proofs.lemmas.List.{length-map}
 use Rattle.std.proofs.lemmas.Bool.{false≢true}
@@ -17,9 +18,11 @@ counted : (ms : List (String Global × Data)) → member_count (members_of ms) �
 counted [] = refl
 counted (m ∷ ms) = ap (λ (n : ℕ). n + 1) (counted ms) ∙ add-one (length ms)
 
-pub three_members : (ms : List (String Global × Value)) → (length ms == 3) ≡ (member_count (members_view ms) == 3)
+pub three_members : (ms : List (String Global × Value))
+    → (length ms == 3) ≡ (member_count (members_view ms) == 3)
 three_members ms =
-    ap (λ (n : ℕ). n == 3) (sym (length-map ms (λ (m : String Global × Value). (m.0, view m.1))) ∙ sym (counted (map (λ (m : String Global × Value). (m.0, view m.1)) ms)))
+    ap (λ (n : ℕ). n == 3) (sym (length-map ms (λ (m : String Global × Value). (m.0, view m.1)))
+    ∙ sym (counted (map (λ (m : String Global × Value). (m.0, view m.1)) ms)))
 
 -- what is read of UTF-8 is its JSON value
 pub is_json : (bytes : List ℕ) (d : Data) → IsUtf8 bytes → read bytes ≡ Some d → Some d ≡ json_of bytes
@@ -33,6 +36,7 @@ no_json bytes none =
     ] refl
 
 -- more than one item is not one alone
-pub not_single : (v : Value) (rest : List Value) → false ≡ (length rest == 0) → None ≡ only_item (items_view (v ∷ rest))
+pub not_single : (v : Value) (rest : List Value) → false ≡ (length rest == 0)
+    → None ≡ only_item (items_view (v ∷ rest))
 not_single v [] some = absurd (false≢true some)
 not_single v (w ∷ rest) some = refl

@@ -2,6 +2,10 @@ pub mod Pieces
 pub mod Json
 pub mod Items
 pub mod Judgment
-pub mod Outcomes
-pub mod Causes
-pub mod Limits
+pub mod Reading
+pub mod Fitting
+pub mod Quiet
+pub mod Statuses
+pub mod Usage
+pub mod ToldFault
+pub mod ExitCodes

@@ -1,8 +1,9 @@
-pub mod Answer
-pub mod Commands
 pub mod Due
+pub mod Files
+pub mod Laws
 pub mod Lines
+pub mod Outputs
 pub mod Requests
 pub mod Shown
-pub mod Tests
 pub mod Texts
+pub mod Words

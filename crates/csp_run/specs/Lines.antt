@@ -9,6 +9,7 @@ use Rattle.csp_model.specs.declared.policy.Disposition.TheVariants.{Enforce, Rep
 use Rattle.csp_model.specs.declared.policy.PolicyList.{PolicyList}
 use Rattle.csp_model.specs.declared.verdict.Item.{Item}
 use Rattle.csp_model.specs.declared.verdict.Verdict.{Verdict}
+use Rattle.csp_run.specs.declared.output.Built.{Built}
 use Rattle.csp_run.specs.declared.status.Status.{Status}
 use Rattle.csp_run.specs.declared.status.Status.TheVariants.{Clean, Found}
 
@@ -18,7 +19,9 @@ disposition_text Report = codes "report"
 
 -- as " 0:enforce:script-src-elem/default-src"
 abbrev pub item_pieces : Item → List (List ℕ)
-item_pieces item = codes " " ∷ decimal item.policy ∷ codes ":" ∷ disposition_text item.disposition ∷ codes ":" ∷ name_text item.effective ∷ codes "/" ∷ name_text item.governing ∷ []
+item_pieces item =
+    codes " " ∷ decimal item.policy ∷ codes ":" ∷ disposition_text item.disposition ∷ codes ":"
+    ∷ name_text item.effective ∷ codes "/" ∷ name_text item.governing ∷ []
 
 unfoldable pub item_text : Item → List ℕ
 item_text item = flat_map (λ piece. piece) (item_pieces item)
@@ -26,26 +29,28 @@ item_text item = flat_map (λ piece. piece) (item_pieces item)
 abbrev pub outcome_text : Bool → List ℕ
 outcome_text blocked = if blocked then codes " blocked" else codes " allowed"
 
--- "1 blocked", the items, and a line feed
+-- the line of the request of this number: "1 blocked", the items, and a line feed
 abbrev pub verdict_line : ℕ → Verdict → List ℕ
-verdict_line number verdict = decimal number ++ (outcome_text verdict.blocked ++ (flat_map item_text verdict.items ++ 10 ∷ []))
+verdict_line request verdict =
+    decimal request ++ (outcome_text verdict.blocked ++ (flat_map item_text verdict.items ++ 10 ∷ []))
 
 abbrev pub lines_from : ℕ → List Verdict → List ℕ
-lines_from number [] = []
-lines_from number (v ∷ vs) = verdict_line number v ++ lines_from (number + 1) vs
+lines_from request [] = []
+lines_from request (v ∷ vs) = verdict_line request v ++ lines_from (request + 1) vs
 
 -- the verdict on each request, in order
 abbrev pub AreVerdicts : PolicyList → List (List Check) → List Verdict → Type 0
 AreVerdicts list [] verdicts = verdicts ≡ []
-AreVerdicts list (checks ∷ rest) verdicts = (first : Verdict) × (later : List Verdict) × (verdicts ≡ first ∷ later)
+AreVerdicts list (checks ∷ rest) verdicts = (first : Verdict) × (later : List Verdict)
+    × (verdicts ≡ first ∷ later)
     × IsVerdict list checks first × AreVerdicts list rest later
 
 abbrev pub judged_status : List Verdict → Status
 judged_status verdicts = if list_any (λ (v : Verdict). v.blocked) verdicts then Found else Clean
 
 -- the output of `judge` for these requests
-pub record IsJudgment (list : PolicyList) (requests : List (List Check)) (status : Status) (text : List ℕ) : Type 0 where
+pub record IsJudgment (list : PolicyList) (requests : List (List Check)) (built : Built) : Type 0 where
   pub verdicts : List Verdict
   pub judged : AreVerdicts list requests verdicts
-  pub status_is : status ≡ judged_status verdicts
-  pub text_is : text ≡ lines_from 1 verdicts
+  pub status : built.status ≡ judged_status verdicts
+  pub text : built.text ≡ lines_from 1 verdicts

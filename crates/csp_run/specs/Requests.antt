@@ -1,5 +1,6 @@
 -- The requests of a request file: for now one fetch of an image.
-use Rattle.std.specs.Prelude.{ℕ, ◌+◌, ◌==◌, ◌&&◌, if◌then◌else◌, nat_lt, Bool, true, false, List, [], Option, Some, None, is_some, option_and_then, unwrap_or, codes}
+use Rattle.std.specs.Prelude.{ℕ, ◌+◌, ◌==◌, ◌&&◌, if◌then◌else◌, nat_lt, Bool, true, false, List, [], codes}
+use Rattle.std.specs.Prelude.{Option, Some, None, is_some, option_and_then, unwrap_or, Result, Ok, Err}
 use Rattle.std.specs.Option.{option_map}
 use Rattle.std.specs.Result.{result_ok}
 use Rattle.std.specs.Str.{bytes_eq, is_utf8}
@@ -12,6 +13,8 @@ use Rattle.csp_model.specs.declared.check.Check.{Check}
 use Rattle.csp_model.specs.declared.check.Check.TheVariants.{Fetch}
 use Rattle.csp_model.specs.declared.check.Group.TheVariants.{Img}
 use Rattle.csp_model.specs.declared.url.Url.{Url}
+use Rattle.csp_run.specs.declared.request.RequestError.{RequestError}
+use Rattle.csp_run.specs.declared.request.RequestError.TheVariants.{NotBuilt, BadUrl}
 
 -- the JSON value of bytes
 abbrev pub json_of : List ℕ → Option Data
@@ -38,7 +41,8 @@ port_or_absent None = Some None
 port_or_absent (Some value) = option_and_then small_number (option_and_then as_u64 (as_number value))
 
 -- the URL of a scheme, a host, a port and a path, where each has its form
-abbrev pub url_with : Option (List ℕ) → Option (Option (List ℕ)) → Option (Option ℕ) → Option (Option (List ℕ)) → Option Url
+abbrev pub url_with : Option (List ℕ) → Option (Option (List ℕ)) → Option (Option ℕ)
+    → Option (Option (List ℕ)) → Option Url
 url_with scheme host port path =
     option_and_then (λ s. option_and_then (λ h. option_and_then (λ n. option_and_then (λ p.
     result_ok (parts_answer s h n (unwrap_or p (codes "/")))) path) port) host) scheme
@@ -46,7 +50,8 @@ url_with scheme host port path =
 -- the URL of an object in parts: scheme, and host, port and path, which may be absent
 abbrev pub url_of_parts : Data → Option Url
 url_of_parts value =
-    url_with (option_and_then as_str (present (codes "scheme") value)) (text_or_absent (present (codes "host") value))
+    url_with (option_and_then as_str (present (codes "scheme") value))
+    (text_or_absent (present (codes "host") value))
     (port_or_absent (present (codes "port") value)) (text_or_absent (present (codes "path") value))
 
 abbrev pub url_by_text : Option (List ℕ) → Data → Option Url
@@ -82,7 +87,8 @@ text_member name value = option_and_then as_str (get name value)
 -- what stands for the URL in exactly the members kind, destination and url of an image's fetch
 abbrev pub image_value : Data → Option Data
 image_value value =
-    if has_three (as_object value) && is_text (codes "fetch") (text_member (codes "kind") value) && is_text (codes "image") (text_member (codes "destination") value)
+    if has_three (as_object value) && is_text (codes "fetch") (text_member (codes "kind") value) && is_text
+    (codes "image") (text_member (codes "destination") value)
     then option_and_then text_or_object (get (codes "url") value)
     else None
 
@@ -92,12 +98,21 @@ only_item items = None
 
 -- what stands for the URL in a request file of one image's fetch
 unfoldable pub requested_value : List ℕ → Option Data
-requested_value bytes = option_and_then image_value (option_and_then only_item (option_and_then as_array (json_of bytes)))
+requested_value bytes =
+    option_and_then image_value (option_and_then only_item (option_and_then as_array (json_of bytes)))
 
 -- the check of an image's fetch
 abbrev pub image_check : Url → Check
 image_check there = Fetch Img there 0 [] [] false
 
--- the URL that a request file asks for
-abbrev pub requested_url : List ℕ → Option Url
-requested_url bytes = option_and_then url_of_value (requested_value bytes)
+abbrev pub url_or_bad : Option Url → Result Url RequestError
+url_or_bad None = Err BadUrl
+url_or_bad (Some there) = Ok there
+
+abbrev pub url_or_unbuilt : Option Data → Result Url RequestError
+url_or_unbuilt None = Err NotBuilt
+url_or_unbuilt (Some value) = url_or_bad (url_of_value value)
+
+-- the URL that a request file asks for, or why there is none
+abbrev pub requested_url : List ℕ → Result Url RequestError
+requested_url bytes = url_or_unbuilt (requested_value bytes)

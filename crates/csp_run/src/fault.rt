@@ -1,109 +1,73 @@
-//! The texts of faults, which are written in pieces that take no memory.
-ghost use Rattle.std.specs.Prelude.{◌≡◌, ◌≤◌, OnOk, OnErr, map};
-ghost use Rattle.std.specs.List.{flat_map};
-ghost use Rattle.csp_io.specs.Told.{Rose, GrewBy, GrewByPrefix};
+//! The faults that end a run, with the files and the limits that they name.
+ghost use Rattle.std.specs.Prelude.{◌≡◌};
 ghost use Rattle.csp_run.specs.Texts as texts;
 
-use crate::status::{Fault, Limit, Part, Role};
-use csp_io::{Failed, Sink, write_all};
-use itoa::Buffer;
+use crate::status::Status;
 
-#[tactic(auto, unfolding(crate::specs::Texts::part_text))]
-fn part_text<'a>(part: Part) -> &'a str
-    ensures { result.now ≡ texts.part_text part }
-{
-    match part {
-        Part::Command => "command",
-        Part::Requests => "requests",
-    }
+/// What isn't built yet.
+#[derive(Clone, Copy, Debug, PartialEq, Eq)]
+pub enum Unbuilt {
+    /// The command that the words name.
+    Command,
+    /// The requests of a request file.
+    Requests,
 }
 
-#[tactic(auto, unfolding(crate::specs::Texts::role_text))]
-fn role_text<'a>(role: Role) -> &'a str
-    ensures { result.now ≡ texts.role_text role }
-{
-    match role {
-        Role::Policy => "policy",
-        Role::Requests => "requests",
-    }
+/// What a file is to a command.
+#[derive(Clone, Copy, Debug, PartialEq, Eq)]
+pub enum Role {
+    /// A header block.
+    Policy,
+    /// A request file.
+    Requests,
 }
 
-#[tactic(auto, unfolding(crate::specs::Texts::limit_text))]
-fn limit_text<'a>(limit: Limit) -> &'a str
-    ensures { result.now ≡ texts.limit_text limit }
-{
-    match limit {
-        Limit::Bytes => "bytes",
-        Limit::Policies => "policies",
-        Limit::Sources => "sources",
-        Limit::Token => "token",
-    }
+/// What is limited.
+#[derive(Clone, Copy, Debug, PartialEq, Eq)]
+pub enum Limit {
+    /// The bytes of a file: 8,388,608.
+    Bytes,
+    /// The policies of a list: 64.
+    Policies,
+    /// The value tokens of a list: 1,024.
+    Sources,
+    /// The bytes of a directive's name or a value token: 4,096.
+    Token,
 }
 
-#[tactic(auto, unfolding(crate::specs::Texts::usage_text))]
-fn usage_text<'a>() -> &'a str
-    ensures { result.now ≡ texts.usage_text }
-{
-    "usage: judge ORIGIN POLICY REQUESTS | report ORIGIN POLICY REQUESTS | compare ORIGIN FIRST SECOND | check ORIGIN FIRST SECOND PROOF | drill N"
+/// Why a run has no output.
+#[derive(Clone, Copy, Debug, PartialEq, Eq)]
+pub enum Fault {
+    /// The words have none of the forms.
+    Usage,
+    /// The word for the origin is none.
+    BadOrigin,
+    /// The words or a file ask for what isn't built yet.
+    NotBuilt { what: Unbuilt },
+    /// The line of this number, counted from 1, is the first bad one of a policy file.
+    BadPolicy { file: Role, line: u32 },
+    /// A count of a file passes its limit.
+    TooLarge { file: Role, limit: Limit },
+    /// The URL of the request of this number, counted from 1, is none.
+    BadUrl { request: u32 },
+    /// A file couldn't be read.
+    Read { file: Role },
+    /// There was no memory.
+    Memory,
 }
 
-// Writes the pieces one after the other.
-fn write_pieces<S: Sink>(out: &mut S, pieces: &[&str]) -> Result<(), Failed>
-    ensures taken { OnOk result (GrewBy (S.taken out.old) (S.taken out.new) (flat_map (λ piece. piece.now) pieces.now)) }
-    ensures prefix { OnErr result (GrewByPrefix (S.taken out.old) (S.taken out.new) (flat_map (λ piece. piece.now) pieces.now)) }
-    ensures later { S.faults out.old ≤ S.faults out.new }
-    ensures cause { OnErr result (Rose (S.faults out.old) (S.faults out.new)) }
-{
-    for piece in pieces {
-        match write_all(out, piece.as_bytes()) {
-            Err(failed) => return Err(failed),
-            Ok(()) => {}
-        }
-    }
-    Ok(())
-}
-
-// The pieces of a fault's text. A number is printed into the buffer.
-#[tactic(auto, unfolding(crate::specs::Texts::fault_pieces))]
-fn pieces<'a>(fault: Fault, digits: &'a mut Buffer) -> [&'a str; 5]
-    ensures { map (λ piece. piece.now) result ≡ texts.fault_pieces fault }
+/// The status that a fault ends with.
+pub fn status_of(fault: Fault) -> Status
+    ensures { result ≡ texts.status_of fault }
 {
     match fault {
-        Fault::Usage => [usage_text(), "", "", "", "\n"],
-        Fault::BadOrigin => ["bad origin", "", "", "", "\n"],
-        Fault::NotBuilt { part } => ["not built: ", part_text(part), "", "", "\n"],
-        Fault::BadPolicy { file, line } => {
-            [
-                "bad policy: ",
-                role_text(file),
-                " line ",
-                digits.format(line),
-                "\n",
-            ]
-        }
-        Fault::TooLarge { file, limit } => {
-            ["too large: ", role_text(file), " ", limit_text(limit), "\n"]
-        }
-        Fault::BadUrl { request } => [
-            "bad requests: request ",
-            digits.format(request),
-            " ",
-            "url",
-            "\n",
-        ],
-        Fault::Read { file } => ["read fault: ", role_text(file), "", "", "\n"],
-        Fault::Memory => ["no memory", "", "", "", "\n"],
+        Fault::Usage => Status::Usage,
+        Fault::BadOrigin => Status::BadOrigin,
+        Fault::NotBuilt { .. } => Status::NotBuilt,
+        Fault::BadPolicy { .. } => Status::BadPolicy,
+        Fault::TooLarge { .. } => Status::TooLarge,
+        Fault::BadUrl { .. } => Status::BadRequests,
+        Fault::Read { .. } => Status::ReadFault,
+        Fault::Memory => Status::NoMemory,
     }
-}
-
-/// Writes the text of a fault. It takes no memory.
-pub fn write_fault<S: Sink>(out: &mut S, fault: Fault) -> Result<(), Failed>
-    ensures taken { OnOk result (GrewBy (S.taken out.old) (S.taken out.new) (texts.fault_text fault)) }
-    ensures prefix { OnErr result (GrewByPrefix (S.taken out.old) (S.taken out.new) (texts.fault_text fault)) }
-    ensures later { S.faults out.old ≤ S.faults out.new }
-    ensures cause { OnErr result (Rose (S.faults out.old) (S.faults out.new)) }
-{
-    let mut digits = Buffer::new();
-    let pieces = pieces(fault, &mut digits);
-    write_pieces(out, &pieces)
 }

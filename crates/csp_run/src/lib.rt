@@ -2,9 +2,13 @@
 #![tactic(auto)]
 
 mod answer;
-mod command;
 mod fault;
+mod fault_text;
+mod files;
+pub mod laws;
 mod lines;
+mod output;
+mod plan;
 mod request;
 mod status;
 mod top;
@@ -12,6 +16,3 @@ mod verdict;
 
 pub use status::{Status, exit_code};
 pub use top::run;
-
-#[cfg(test)]
-mod tests;

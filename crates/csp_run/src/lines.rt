@@ -65,14 +65,14 @@ fn outcome_text(blocked: bool) -> &'static str
 }
 
 /// The line of the request of this number.
-pub fn verdict_line(alloc: Global, number: u32, verdict: &Verdict) -> Result<Bytes, Memory>
-    ensures { IfOk result (λ line. line ≡ lines.verdict_line number verdict.now) }
+pub fn verdict_line(alloc: Global, request: u32, verdict: &Verdict) -> Result<Bytes, Memory>
+    ensures { IfOk result (λ line. line ≡ lines.verdict_line request verdict.now) }
 {
     let mut digits = Buffer::new();
     let mut text = Vec::new(alloc);
     push_all(
         &mut text,
-        &[digits.format(number), outcome_text(verdict.blocked)],
+        &[digits.format(request), outcome_text(verdict.blocked)],
     )?;
     push_items(&mut text, verdict.items.as_slice())?;
     text.extend_from_slice(b"\n")?;

@@ -1,11 +1,9 @@
 //! The requests of a request file: for now one fetch of an image.
-ghost use Rattle.std.specs.Prelude.{◌≡◌, IfOk, OnOk, IsErrOf, Some, option_map, option_copied, option_and_then, None};
+ghost use Rattle.std.specs.Prelude.{◌≡◌, ◌≢◌, IfOk, option_map, option_copied, option_and_then};
 ghost use Rattle.serde_json.specs.Find.{as_array, as_object, as_str};
 ghost use Rattle.serde_json.specs.View.{view, items_view};
 ghost use Rattle.csp_run.specs.Requests as requests;
-ghost use Rattle.csp_run.specs.Tests.{request_fault};
 
-use crate::status::{Fault, Part};
 use csp_model::{Memory, Url};
 use csp_url::{PartsError, UrlError, read_url, url_from_parts};
 use serde_json::Value;
@@ -18,16 +16,14 @@ pub enum RequestError {
     NotBuilt,
     /// What stands for the URL is none.
     BadUrl,
+    /// There was no memory.
     Memory,
 }
 
 /// The URL of the one image that a request file asks for.
 #[tactic(auto, unfolding(crate::specs::Requests::requested_value))]
 pub fn requested_url(alloc: Global, bytes: &[u8]) -> Result<Url, RequestError>
-    ensures passes { OnOk result (request_fault (requests.requested_value bytes.now) ≡ None) }
-    ensures url { IfOk result (λ url. requests.requested_url bytes.now ≡ Some url) }
-    ensures not_built { IsErrOf result RequestError.NotBuilt → request_fault (requests.requested_value bytes.now) ≡ Some (Fault.NotBuilt Part.Requests) }
-    ensures bad_url { IsErrOf result RequestError.BadUrl → request_fault (requests.requested_value bytes.now) ≡ Some (Fault.BadUrl 1) }
+    ensures { result ≢ Err RequestError.Memory → result ≡ requests.requested_url bytes.now }
 {
     match json_of(alloc, bytes) {
         Err(_) => Err(RequestError::Memory),

@@ -1,13 +1,13 @@
 //! The top call.
 ghost use Rattle.std.specs.Prelude.{◌≡◌, ◌≢◌, ◌≤◌, ℕ, List as Items};
 ghost use Rattle.csp_io.specs.Told.{Rose, GrewBy, GrewByPrefix};
-ghost use Rattle.csp_run.specs.Answer.{IsAnswer};
-ghost use Rattle.csp_run.specs.Due.{IsDue, IsQuiet};
-ghost use Rattle.csp_run.specs.declared.status.Status.{Status as Statuses};
+ghost use Rattle.csp_run.specs.Due.{End, IsAnswer, IsDue, IsQuiet, end_status, end_text};
+ghost use Rattle.csp_run.specs.Files.{world};
 
 use crate::answer::answer;
-use crate::fault::write_fault;
-use crate::status::{Status, status_of};
+use crate::fault::status_of;
+use crate::fault_text::write_fault;
+use crate::status::Status;
 use csp_io::{Inputs, Sink, write_all};
 use csp_model::{List, Text};
 use std::alloc::Global;
@@ -20,22 +20,24 @@ pub fn run<I: Inputs, S: Sink>(
     inputs: &mut I,
     out: &mut S,
 ) -> Status
-    // After every status but one, exactly the text was written that is due with it.
-    ensures written { result ≢ Status.WriteFault → (text : Items ℕ)
-        × IsDue words.now (I.contents inputs.old) (I.faults inputs.old) (I.faults inputs.new) result text
-        × GrewBy (S.taken out.old) (S.taken out.new) text }
+    // After every status but one, exactly the text was written of a due end with that status.
+    ensures written { result ≢ Status.WriteFault → (end : End)
+        × IsDue (world I.Inputs inputs.old inputs.new) words.now end
+        × (result ≡ end_status end)
+        × GrewBy (S.taken out.old) (S.taken out.new) (end_text end) }
 
-    // A write failed, and a prefix was written of a text that is due.
+    // A write failed, and a prefix was written of the text of a due end.
     ensures write_fault { result ≡ Status.WriteFault → Rose (S.faults out.old) (S.faults out.new) }
-    ensures prefix { result ≡ Status.WriteFault → (status : Statuses) × (text : Items ℕ)
-        × IsDue words.now (I.contents inputs.old) (I.faults inputs.old) (I.faults inputs.new) status text
-        × GrewByPrefix (S.taken out.old) (S.taken out.new) text }
+    ensures prefix { result ≡ Status.WriteFault → (end : End)
+        × IsDue (world I.Inputs inputs.old inputs.new) words.now end
+        × GrewByPrefix (S.taken out.old) (S.taken out.new) (end_text end) }
 
-    // It doesn't give up by itself: where no count rose and memory sufficed, status and text are an answer.
-    ensures complete { IsQuiet words.now (I.faults inputs.old) (I.faults inputs.new) (S.faults out.old) (S.faults out.new)
-        → result ≢ Status.NoMemory → (text : Items ℕ)
-        × IsAnswer words.now (I.contents inputs.old) result text
-        × GrewBy (S.taken out.old) (S.taken out.new) text }
+    // It doesn't give up by itself: where no count rose and memory sufficed, the end is an answer.
+    ensures complete { let w = world I.Inputs inputs.old inputs.new in
+        IsQuiet w words.now (S.faults out.old) (S.faults out.new) → result ≢ Status.NoMemory → (end : End)
+        × IsAnswer w words.now end
+        × (result ≡ end_status end)
+        × GrewBy (S.taken out.old) (S.taken out.new) (end_text end) }
 
     ensures contents { (n : Items ℕ) → I.contents inputs.new n ≡ I.contents inputs.old n }
     ensures later { (n : Items ℕ) → I.faults inputs.old n ≤ I.faults inputs.new n }

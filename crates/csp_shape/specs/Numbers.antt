@@ -1,5 +1,5 @@
--- The numbers of the shapes, from 0 to 188: fetches by group, then forms, bases, ancestors, inline code and style, and
--- the rest. Within a kind with URLs each scheme has its place.
+-- The numbers of the shapes, from 0 to 188: fetches by group, then forms, bases, ancestors, inline code and
+-- style, and the rest. Within a kind with URLs each scheme has its place.
 use Rattle.std.specs.Prelude.{ℕ, ◌+◌, ◌*◌, Bool, true, false, if◌then◌else◌, Option, Some, None}
 use Rattle.csp_model.specs.declared.check.Capability.{Capability}
 use Rattle.csp_model.specs.declared.check.Capability.TheVariants as capability
@@ -64,7 +64,8 @@ capability_number capability.Presentation = 186
 capability_number capability.Downloads = 187
 
 abbrev pub number : Shape → ℕ
-number (shape.Fetch kind scheme redirected parser_inserted) = group_number kind parser_inserted + url_number scheme redirected
+number (shape.Fetch kind scheme redirected parser_inserted) =
+    group_number kind parser_inserted + url_number scheme redirected
 number (shape.Form scheme redirected) = 144 + url_number scheme redirected
 number (shape.Base scheme) = 156 + scheme_number scheme
 number (shape.Ancestor scheme) = 162 + scheme_number scheme

@@ -3,17 +3,11 @@
 //! There are 189, numbered from 0 to 188, and each valid check has exactly one. No call takes memory.
 #![tactic(auto)]
 
-mod laws;
+pub mod laws;
 mod number;
 mod of_check;
 mod shape;
 
-pub use laws::{
-    a_check_has_one_shape, a_shape_looks_at_parts_of_its_checks, each_number_is_one_shape,
-};
 pub use number::{shape_at, shape_number};
 pub use of_check::shape_of;
 pub use shape::Shape;
-
-#[cfg(test)]
-mod tests;

@@ -1,6 +1,6 @@
 //! The numbers of the shapes, from 0 to 188.
 ghost use Rattle.std.specs.Prelude.{◌≡◌, ◌<◌, ◌≤◌, ◌+◌, ◌*◌, ◌||◌, not, IsTrue, MatchOption};
-ghost use Rattle.csp_shape.specs.Numbers.{capability_number, group_number, inline_number, number, scheme_number, shape_count, url_number};
+ghost use Rattle.csp_shape.specs.Numbers as spec;
 ghost use Rattle.csp_shape.specs.Shapes.{is_shape, tells_parser};
 
 use crate::shape::Shape;
@@ -8,7 +8,8 @@ use csp_model::{Capability, Group, InlineKind, Scheme};
 
 /// The shape of a number. None comes exactly where the number is above 188.
 pub fn shape_at(place: u8) -> Option<Shape>
-    ensures { MatchOption result (shape_count ≤ place) (λ shape. IsTrue (is_shape shape) × (number shape ≡ place)) }
+    ensures { MatchOption result (spec.shape_count ≤ place)
+        (λ shape. IsTrue (is_shape shape) × (spec.number shape ≡ place)) }
 {
     match place {
         0..=143 => Some(fetch_at(place)),
@@ -36,10 +37,10 @@ pub fn shape_at(place: u8) -> Option<Shape>
     }
 }
 
-/// The number of a shape. A fetch of a group that isn't told apart by the parser has the number of the shape without
-/// that flag.
+/// The number of a shape. A fetch of a group that isn't told apart by the parser has the number of the shape
+/// without that flag.
 pub fn shape_number(shape: Shape) -> u8
-    ensures { result ≡ number shape }
+    ensures { result ≡ spec.number shape }
 {
     match shape {
         Shape::Fetch {
@@ -63,7 +64,7 @@ pub fn shape_number(shape: Shape) -> u8
 fn fetch_at(place: u8) -> Shape
     requires { place < 144 }
     ensures listed { IsTrue (is_shape result) }
-    ensures place { number result ≡ place }
+    ensures place { spec.number result ≡ place }
 {
     let (group, parser_inserted) = group_at(place / 12);
     let (scheme, redirected) = url_at(place % 12);
@@ -79,7 +80,7 @@ fn fetch_at(place: u8) -> Shape
 fn group_at(row: u8) -> (Group, bool)
     requires { row < 12 }
     ensures listed { IsTrue (not result.1 || tells_parser result.0) }
-    ensures row { group_number result.0 result.1 ≡ 12 * row }
+    ensures row { spec.group_number result.0 result.1 ≡ 12 * row }
 {
     match row {
         0 => (Group::Connect, false),
@@ -98,7 +99,7 @@ fn group_at(row: u8) -> (Group, bool)
 }
 
 fn group_number(group: Group, parser_inserted: bool) -> u8
-    ensures value { result ≡ group_number group parser_inserted }
+    ensures value { result ≡ spec.group_number group parser_inserted }
     ensures bound { result ≤ 132 }
 {
     match (group, parser_inserted) {
@@ -120,14 +121,14 @@ fn group_number(group: Group, parser_inserted: bool) -> u8
 // The scheme of a URL, and whether it was redirected.
 fn url_at(place: u8) -> (Option<Scheme>, bool)
     requires { place < 12 }
-    ensures { url_number result.0 result.1 ≡ place }
+    ensures { spec.url_number result.0 result.1 ≡ place }
 {
     (scheme_at(place / 2), place % 2 == 1)
 }
 
 // Two numbers for each scheme: not redirected, redirected.
 fn url_number(scheme: Option<Scheme>, redirected: bool) -> u8
-    ensures value { result ≡ url_number scheme redirected }
+    ensures value { result ≡ spec.url_number scheme redirected }
     ensures bound { result < 12 }
 {
     2 * scheme_number(scheme) + u8::from(redirected)
@@ -135,7 +136,7 @@ fn url_number(scheme: Option<Scheme>, redirected: bool) -> u8
 
 fn scheme_at(place: u8) -> Option<Scheme>
     requires { place < 6 }
-    ensures { scheme_number result ≡ place }
+    ensures { spec.scheme_number result ≡ place }
 {
     match place {
         0 => Some(Scheme::Http),
@@ -148,7 +149,7 @@ fn scheme_at(place: u8) -> Option<Scheme>
 }
 
 fn scheme_number(scheme: Option<Scheme>) -> u8
-    ensures value { result ≡ scheme_number scheme }
+    ensures value { result ≡ spec.scheme_number scheme }
     ensures bound { result < 6 }
 {
     match scheme {
@@ -163,7 +164,7 @@ fn scheme_number(scheme: Option<Scheme>) -> u8
 
 fn inline_at(place: u8) -> InlineKind
     requires { (169 ≤ place) × (place < 174) }
-    ensures { inline_number result ≡ place }
+    ensures { spec.inline_number result ≡ place }
 {
     match place {
         169 => InlineKind::Script,
@@ -175,7 +176,7 @@ fn inline_at(place: u8) -> InlineKind
 }
 
 fn inline_number(kind: InlineKind) -> u8
-    ensures { result ≡ inline_number kind }
+    ensures { result ≡ spec.inline_number kind }
 {
     match kind {
         InlineKind::Script => 169,
@@ -188,7 +189,7 @@ fn inline_number(kind: InlineKind) -> u8
 
 fn capability_at(place: u8) -> Capability
     requires { (176 ≤ place) × (place < 188) }
-    ensures { capability_number result ≡ place }
+    ensures { spec.capability_number result ≡ place }
 {
     match place {
         176 => Capability::Forms,
@@ -207,7 +208,7 @@ fn capability_at(place: u8) -> Capability
 }
 
 fn capability_number(capability: Capability) -> u8
-    ensures { result ≡ capability_number capability }
+    ensures { result ≡ spec.capability_number capability }
 {
     match capability {
         Capability::Forms => 176,

@@ -1,15 +1,15 @@
 //! The shape of a check.
 ghost use Rattle.std.specs.Prelude.{◌≡◌, IsTrue};
-ghost use Rattle.csp_shape.specs.Shapes.{HasShape, hosted_scheme, is_shape, tells_parser};
+ghost use Rattle.csp_shape.specs.Shapes as spec;
 
 use crate::shape::Shape;
 use csp_model::{Check, Group, Scheme, Url};
 
-/// The shape of a check, which is one of the 189. For a fetch of a group that isn't told apart by the parser the
-/// shape leaves that flag aside.
+/// The shape of a check, which is one of the 189. For a fetch of a group that isn't told apart by the parser
+/// the shape leaves that flag aside.
 pub fn shape_of(check: &Check) -> Shape
-    ensures shape { HasShape check.now result }
-    ensures listed { IsTrue (is_shape result) }
+    ensures shape { spec.HasShape check.now result }
+    ensures listed { IsTrue (spec.is_shape result) }
 {
     match check {
         Check::Fetch {
@@ -46,7 +46,7 @@ pub fn shape_of(check: &Check) -> Shape
 }
 
 fn hosted_scheme(url: &Url) -> Option<Scheme>
-    ensures { result ≡ hosted_scheme url.now }
+    ensures { result ≡ spec.hosted_scheme url.now }
 {
     match url {
         Url::Plain { .. } => None,
@@ -56,7 +56,7 @@ fn hosted_scheme(url: &Url) -> Option<Scheme>
 
 // Whether fetches of the group are told apart by whether the parser inserted them.
 fn tells_parser(group: Group) -> bool
-    ensures { result ≡ tells_parser group }
+    ensures { result ≡ spec.tells_parser group }
 {
     matches!(group, Group::ScriptElem | Group::Worker)
 }

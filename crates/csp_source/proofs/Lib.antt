@@ -1,4 +1,3 @@
-mod EndLaws
 mod HostLaws
 mod KindLaws
 mod LowerLaws

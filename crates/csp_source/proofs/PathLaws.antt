@@ -8,7 +8,7 @@ use Rattle.percent_encoding.specs.Percent.{percent_decode}
 use Rattle.csp_model.specs.Ascii.{split_at, is_nonempty, without_last}
 use Rattle.csp_model.specs.Grammar.{is_segment, are_segments, pieces_of, path_part_of}
 use Rattle.csp_model.specs.declared.source.PathPart.TheVariants as path
-use Rattle.csp_source.proofs.EndLaws.{without_last-push, ends_in-push}
+use Rattle.csp_model.proofs.FinalBytes.{without_last-push, ends_in-push}
 
 -- a text has a first part
 pick : {X : Type 0} (b : Bool) (c : X) (parts : List (List X)) → (q : List X) × (qs : List (List X)) × (cond b ([] ∷ parts) (onto_first c parts) ≡ q ∷ qs)

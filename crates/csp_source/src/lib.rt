@@ -3,17 +3,15 @@
 
 mod host;
 mod hosted;
-mod law;
+pub mod laws;
 mod path;
 mod port;
 mod quoted;
 mod read;
 mod scheme;
 mod spelling;
-#[cfg(test)]
-mod tests;
 mod texts;
 
-pub use law::each_token_has_one_source;
+pub use laws::each_token_has_one_source;
 pub use read::read_source;
 pub use spelling::source_text;

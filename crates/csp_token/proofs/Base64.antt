@@ -9,13 +9,12 @@ use Rattle.base64.specs.Rfc4648.{unpadded_len, padding_len}
 use Rattle.base64.specs.declared.decode.DecodeError.{DecodeError}
 use Rattle.base64.proofs.EngineFacts.{decode_of-encode_of}
 use Rattle.base64.proofs.RoundTrip.{length-encode_symbols}
-use Rattle.csp_model.specs.Tokens.{plain_value}
-use Rattle.csp_token.specs.Digests.{plain_symbol}
+use Rattle.csp_model.specs.Tokens.{plain_symbol, plain_value}
 
-pub length-encode_of : (d : List ℕ) → length (encode_of standard d) ≡ unpadded_len (length d) + padding_len (length d)
+length-encode_of : (d : List ℕ) → length (encode_of standard d) ≡ unpadded_len (length d) + padding_len (length d)
 length-encode_of d = simp (length-append, length-encode_symbols, length-replicate)
 
-pub length-plain_value : (v : List ℕ) → length (plain_value v) ≡ length v
+length-plain_value : (v : List ℕ) → length (plain_value v) ≡ length v
 length-plain_value v = simp length-map
 
 pub short : (v d : List ℕ) (n : ℕ) → length d ≡ n → n ≤ 64 → plain_value v ≡ encode_of standard d → length v ≤ 88
@@ -25,25 +24,21 @@ short v d n len small eq =
     omega arith
 
 -- what decodes to bytes is the encoding of no others
-pub decodes_back : (d : List ℕ) → IsBytes d → decode_of standard (encode_of standard d) ≡ Ok d
+decodes_back : (d : List ℕ) → IsBytes d → decode_of standard (encode_of standard d) ≡ Ok d
 decodes_back d bytes = decode_of-encode_of standard d refl bytes
 
-pub encode_of_injective : (d e : List ℕ) → IsBytes d → IsBytes e → encode_of standard d ≡ encode_of standard e → d ≡ e
-encode_of_injective d e db eb eq =
-    let a = decodes_back d db in
-    let b = rw (← eq) at (decodes_back e eb) in
-    cc (a, b)
-
-pub refused : (v d : List ℕ) (e : DecodeError) → IsBytes d → plain_value v ≡ encode_of standard d → decode_of standard (plain_value v) ≡ Err e → ⊥
+pub refused : (v d : List ℕ) (e : DecodeError) → IsBytes d → plain_value v ≡ encode_of standard d
+    → decode_of standard (plain_value v) ≡ Err e → ⊥
 refused v d e bytes eq err =
     let a = decodes_back d bytes in
     let b : decode_of standard (encode_of standard d) ≡ Err e = rw eq at err in
     cc (a, b)
 
-pub plain_small : (b : ℕ) → b < 256 → plain_symbol b < 256
+plain_small : (b : ℕ) → b < 256 → plain_symbol b < 256
 plain_small b h = grind (arith, common_steps)
 
-pub same_size : (v d old new : List ℕ) (n count : ℕ) → IsBytes d → length d ≡ n → length new ≡ length old → plain_value v ≡ encode_of standard d → IsDecodedInto standard (plain_value v) count old new → count ≡ n
+pub same_size : (v d old new : List ℕ) (n count : ℕ) → IsBytes d → length d ≡ n → length new ≡ length old
+    → plain_value v ≡ encode_of standard d → IsDecodedInto standard (plain_value v) count old new → count ≡ n
 same_size v d old new n count bytes len same eq into =
     let a = decodes_back d bytes in
     let b : decode_of standard (encode_of standard d) ≡ Ok (take count new) = rw eq at into.0 in

@@ -1,6 +1,7 @@
 pub mod Base64
 pub mod Cuts
-pub mod Each
 pub mod ReadsBack
+pub mod Sizes
 pub mod Tokens
+pub mod Values
 pub mod Words

@@ -21,7 +21,7 @@ gap_passed (b ∷ gap) s h =
 only_gap : (s : List ℕ) → AllPass is_ascii_whitespace s → words s ≡ []
 only_gap s h = ap words (sym (append-nil s)) ∙ gap_passed s [] h
 
-solid : (x : List ℕ) → NoCharPasses is_ascii_whitespace x → IsSolid x
+pub solid : (x : List ℕ) → NoCharPasses is_ascii_whitespace x → IsSolid x
 solid x h = All-from_get_or (λ b. is_ascii_whitespace b ≡ false) x 0 (λ i within. elim (cases_lt (get_or x i 0) 128) [
   | inl lt ↦ NoCharPasses-byte is_ascii_whitespace x i h within lt
   | inr ge ↦ grind (arith, common_steps)

@@ -1,9 +1,9 @@
 -- Digests and the hashes that stand for them (Content Security Policy Level 3, section 6.7.3.3; FIPS 180-4).
-use Rattle.std.specs.Prelude.{◌≡◌, ℕ, ◌==◌, List, length, if◌then◌else◌}
+use Rattle.std.specs.Prelude.{◌≡◌, ℕ, List}
 use Rattle.sha2.specs.Sha256.{sha256}
 use Rattle.sha2.specs.Sha512.{sha384, sha512}
-use Rattle.base64.specs.GeneralPurpose.{IsBytes}
 use Rattle.csp_model.specs.Tokens.{StandsFor, algorithm_of, bytes_of, size_of}
+use Rattle.csp_model.specs.Validity.{IsOfSize}
 use Rattle.csp_model.specs.declared.check.Digests.{Digests}
 use Rattle.csp_model.specs.declared.check.Digest.{Digest}
 use Rattle.csp_model.specs.declared.source.Hash.{Hash}
@@ -12,14 +12,10 @@ use Rattle.csp_model.specs.declared.source.Hash.{Hash}
 abbrev pub digests_of : List ℕ → Digests
 digests_of source = record { sha256 = sha256 source; sha384 = sha384 source; sha512 = sha512 source }
 
--- "-" is read as "+", and "_" as "/"
-abbrev pub plain_symbol : ℕ → ℕ
-plain_symbol c = if c == 45 then 43 else if c == 95 then 47 else c
-
 -- a digest has as many bytes as its algorithm gives
 abbrev pub IsDigest : Digest → Type 0
-IsDigest d = (length (bytes_of d) ≡ size_of (algorithm_of d)) × IsBytes (bytes_of d)
+IsDigest digest = IsOfSize (size_of (algorithm_of digest)) (bytes_of digest)
 
 -- the hash has the digest's algorithm, and its value is the digest's base64
 abbrev pub IsDigestOf : Hash → Digest → Type 0
-IsDigestOf hash d = (algorithm_of d ≡ hash.algorithm) × StandsFor hash.value (bytes_of d)
+IsDigestOf hash digest = (algorithm_of digest ≡ hash.algorithm) × StandsFor hash.value (bytes_of digest)

@@ -1,17 +1,21 @@
-//! Base64-values (Content Security Policy Level 3, section 2.3.1), whose symbols are of either alphabet of RFC 4648.
-ghost use Rattle.std.specs.Prelude.{◌≡◌, ◌≤◌, ◌↔◌, ℕ, List, length, IsTrue, IsNone, IfSome};
-ghost use Rattle.base64.specs.GeneralPurpose.{IsBytes};
-ghost use Rattle.csp_model.specs.Tokens.{plain_value, StandsFor};
-ghost use Rattle.csp_token.specs.Digests.{plain_symbol};
+//! Base64-values (Content Security Policy Level 3, section 2.3.1), whose symbols are of either alphabet of
+//! RFC 4648.
+ghost use Rattle.std.specs.Prelude.{◌≡◌, ◌≤◌, ℕ, List, length, IsNone, IfSome};
+ghost use Rattle.std.specs.Str.{bytes_eq};
+ghost use Rattle.base64.specs.Engines.{standard};
+ghost use Rattle.base64.specs.GeneralPurpose.{encode_of};
+ghost use Rattle.csp_model.specs.Tokens as spec;
+ghost use Rattle.csp_model.specs.Validity.{IsOfSize};
 
+use crate::size::slice_is_bytes;
 use base64::engine::general_purpose::STANDARD;
 
-/// The most symbols that the base64 of 64 bytes has.
+// The most symbols that the base64 of 64 bytes has.
 const MOST_SYMBOLS: usize = 88;
 
-/// A symbol in the standard alphabet.
+// A symbol in the standard alphabet.
 fn plain(symbol: u8) -> u8
-    ensures { result ≡ plain_symbol symbol }
+    ensures { result ≡ spec.plain_symbol symbol }
 {
     match symbol {
         b'-' => b'+',
@@ -20,21 +24,22 @@ fn plain(symbol: u8) -> u8
     }
 }
 
-/// Writes a value in the standard alphabet.
+// Writes a value in the standard alphabet.
 fn write_plain(value: &[u8], out: &mut [u8])
     requires { length out.old ≡ length value.now }
-    ensures { out.new ≡ plain_value value.now }
+    ensures { out.new ≡ spec.plain_value value.now }
 {
     for i in 0..value.len() {
         out[i] = plain(value[i]);
     }
 }
 
-/// The `N` bytes that a value stands for.
-pub fn decoded<const N: usize>(value: &str) -> Option<[u8; N]>
+// The `N` bytes that a value stands for.
+pub(crate) fn decoded<const N: usize>(value: &str) -> Option<[u8; N]>
     requires { N ≤ 64 }
-    ensures some { IfSome result (StandsFor value.now) }
-    ensures none { IsNone result → (bytes : List ℕ) → IsBytes bytes → length bytes ≡ N → ¬ StandsFor value.now bytes }
+    ensures some { IfSome result (spec.StandsFor value.now) }
+    ensures size { IfSome result (IsOfSize N) }
+    ensures none { IsNone result → (bytes : List ℕ) → IsOfSize N bytes → ¬ spec.StandsFor value.now bytes }
 {
     if value.len() > MOST_SYMBOLS {
         return None;
@@ -52,19 +57,14 @@ pub fn decoded<const N: usize>(value: &str) -> Option<[u8; N]>
     }
     let mut bytes = [0; N];
     bytes.copy_from_slice(&room[..N]);
+    slice_is_bytes(&bytes);
     Some(bytes)
 }
 
-fn is_same(a: &[u8], b: &[u8]) -> bool
-    ensures { IsTrue result ↔ (a.now ≡ b.now) }
-{
-    a == b
-}
-
-/// Whether a value stands for these bytes.
-pub fn stands_for(value: &str, bytes: &[u8]) -> bool
+// Whether a value stands for these bytes.
+pub(crate) fn stands_for(value: &str, bytes: &[u8]) -> bool
     requires { length bytes.now ≤ 64 }
-    ensures { IsTrue result ↔ StandsFor value.now bytes.now }
+    ensures { result ≡ bytes_eq (spec.plain_value value.now) (encode_of standard bytes.now) }
 {
     if value.len() > MOST_SYMBOLS {
         return false;
@@ -76,5 +76,6 @@ pub fn stands_for(value: &str, bytes: &[u8]) -> bool
     let Ok(count) = STANDARD.encode_slice(bytes, &mut room) else {
         return false;
     };
-    is_same(text, &room[..count])
+    let encoded = &room[..count];
+    *text == *encoded
 }

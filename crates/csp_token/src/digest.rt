@@ -1,27 +1,41 @@
 //! Digests and the hashes that stand for them (Content Security Policy Level 3, section 6.7.3.3).
-ghost use Rattle.std.specs.Prelude.{◌≡◌, ◌↔◌, IsTrue, MatchOption};
-ghost use Rattle.csp_model.specs.Tokens.{HashMatches};
-ghost use Rattle.csp_token.specs.Digests.{digests_of, IsDigest, IsDigestOf};
+ghost use Rattle.std.specs.Prelude.{◌≡◌, ◌↔◌, IsTrue, IsNone, IfSome};
+ghost use Rattle.csp_model.specs.DecideTokens as tests;
+ghost use Rattle.csp_model.specs.Tokens.{HashMatches, DigestsMatch};
+ghost use Rattle.csp_model.specs.Validity.{IsValidDigests};
+ghost use Rattle.csp_token.specs.Digests as spec;
 
 use crate::base64_value::{decoded, stands_for};
-use csp_model::{Algorithm, Digest, Digests, Hash};
+use crate::size::slice_is_bytes;
+use csp_model::{Algorithm, Digest, Digests, Hash, List, Source};
 use sha2::Digest as _;
 
 /// The three digests of a source text's bytes (FIPS 180-4).
 pub fn digests(source: &[u8]) -> Digests
-    ensures { result ≡ digests_of source.now }
+    ensures digests { result ≡ spec.digests_of source.now }
+    ensures valid { IsValidDigests result }
 {
+    let sha256 = sha2::Sha256::digest(source);
+    let sha384 = sha2::Sha384::digest(source);
+    let sha512 = sha2::Sha512::digest(source);
+    slice_is_bytes(&sha256);
+    slice_is_bytes(&sha384);
+    slice_is_bytes(&sha512);
     Digests {
-        sha256: sha2::Sha256::digest(source),
-        sha384: sha2::Sha384::digest(source),
-        sha512: sha2::Sha512::digest(source),
+        sha256,
+        sha384,
+        sha512,
     }
 }
 
-/// The digest that a hash stands for: its value, with `-` read as `+` and `_` as `/`, is the digest's standard
-/// base64, padding and all. None comes exactly where no digest of the hash's algorithm has that base64.
+/// The digest that a hash stands for: its value, with `-` read as `+` and `_` as `/`, is the digest's
+/// standard base64, padding and all. None comes exactly where no digest of the hash's algorithm has that
+/// base64.
 pub fn hash_of(hash: &Hash) -> Option<Digest>
-    ensures { MatchOption result ((d : Digest) → IsDigest d → ¬ IsDigestOf hash.now d) (IsDigestOf hash.now) }
+    ensures digest { IfSome result (spec.IsDigestOf hash.now) }
+    ensures size { IfSome result spec.IsDigest }
+    ensures none { IsNone result
+        → (digest : Digest) → spec.IsDigest digest → ¬ spec.IsDigestOf hash.now digest }
 {
     let value = hash.value.as_str();
     match hash.algorithm {
@@ -32,13 +46,38 @@ pub fn hash_of(hash: &Hash) -> Option<Digest>
 }
 
 /// Whether a hash stands for the digest of its algorithm.
+#[tactic(auto, using(csp_model::proofs::TokensDecided::hash_decides))]
 pub fn digest_matches(hash: &Hash, digests: &Digests) -> bool
-    ensures { IsTrue result ↔ HashMatches hash.now digests.now }
+    ensures value { result ≡ tests.hash_matches hash.now digests.now }
+    ensures matches { IsTrue result ↔ HashMatches hash.now digests.now }
 {
     let value = hash.value.as_str();
     match hash.algorithm {
         Algorithm::Sha256 => stands_for(value, &digests.sha256),
         Algorithm::Sha384 => stands_for(value, &digests.sha384),
         Algorithm::Sha512 => stands_for(value, &digests.sha512),
+    }
+}
+
+/// Whether some hash-source of a source list stands for the digest of its algorithm (Content Security Policy Level 3,
+/// section 6.7.3.3).
+#[tactic(auto, using(csp_model::proofs::TokensDecided::digests_decide))]
+pub fn digests_match(digests: &Digests, sources: &List<Source>) -> bool
+    ensures value { result ≡ tests.digests_match digests.now sources.now }
+    ensures matches { IsTrue result ↔ DigestsMatch digests.now sources.now }
+{
+    sources
+        .as_slice()
+        .iter()
+        .any(|source| is_hash_of(source, digests))
+}
+
+// The source is a hash-source that stands for one of the digests.
+fn is_hash_of(source: &Source, digests: &Digests) -> bool
+    ensures { result ≡ tests.is_hash_of digests.now source.now }
+{
+    match source {
+        Source::Digest { hash } => digest_matches(hash, digests),
+        _ => false,
     }
 }

@@ -1,14 +1,15 @@
-//! Nonces, digests and integrity metadata (Content Security Policy Level 3, sections 6.7.2.3, 6.7.2.4 and 6.7.3.3;
-//! Subresource Integrity, section 3.3).
+//! Nonces, digests and integrity metadata (Content Security Policy Level 3, sections 6.7.2.3, 6.7.2.4 and
+//! 6.7.3.3; Subresource Integrity, section 3.3).
 #![tactic(auto)]
 
 mod base64_value;
 mod digest;
 mod integrity;
+mod keyword;
 mod matching;
-#[cfg(test)]
-mod tests;
+mod size;
 
-pub use digest::{digest_matches, digests, hash_of};
+pub use digest::{digest_matches, digests, digests_match, hash_of};
 pub use integrity::{integrity_text, read_integrity};
+pub use keyword::has_keyword;
 pub use matching::{integrity_matches, nonce_matches};

@@ -2,5 +2,4 @@ mod Bytes
 mod Examples
 mod Labels
 mod PathText
-mod Steps
 mod Valid

@@ -8,15 +8,15 @@ use Rattle.csp_model.specs.declared.url.Url.{Url}
 use Rattle.csp_model.specs.declared.url.Url.TheVariants as url
 use Rattle.csp_model.proofs.PieceBytes.{pieces_bytes}
 use Rattle.csp_model.proofs.PathText.{split_at-path_text, decoded_again}
-use Rattle.csp_url.specs.Reading.{whole_pieces, path_of}
+use Rattle.csp_url.specs.Reading.{whole_pieces, found_path}
 use Rattle.csp_url.specs.Texts.{ReadsBack}
 
-path_back : (pieces : List (List ℕ)) → pieces ≢ [] → list_all is_piece pieces ≡ true → path_of (path_text pieces) ≡ Some pieces
-unfolding path_of
+path_back : (pieces : List (List ℕ)) → pieces ≢ [] → list_all is_piece pieces ≡ true → found_path (path_text pieces) ≡ Some pieces
+unfolding found_path
 path_back [] some h = absurd (some refl)
 path_back (piece ∷ pieces) some h =
     ap whole_pieces (ap (map percent_decode) (split_at-path_text piece pieces) ∙ decoded_again (piece ∷ pieces) (pieces_bytes (piece ∷ pieces) h)) ∙ rw h refl
 
 pub reads_back : (there : Url) → IsValidUrl there → ReadsBack there
 reads_back (url.Plain scheme) valid = tt
-reads_back (url.Hosted scheme name port path) valid = path_back path valid.2 valid.3
+reads_back (url.Hosted scheme host port path) valid = path_back path valid.2 valid.3

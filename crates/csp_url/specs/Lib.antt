@@ -1,4 +1,4 @@
-pub mod Reading
-pub mod Parts
 pub mod Origins
+pub mod Parts
+pub mod Reading
 pub mod Texts

@@ -1,29 +1,33 @@
 -- The URL that a text is (URL Standard, sections 3.2 to 3.6 and 4.4), as far as a policy looks at it.
-use Rattle.std.specs.Prelude.{◌≡◌, ℕ, ◌==◌, ◌&&◌, not, nat_lt, Bool, true, List, [], ◌∷◌, Option, Some, None, option_and_then, option_map, Result, Ok, Err, ⊤, if◌then◌else◌}
+use Rattle.std.specs.Prelude.{ℕ, ◌==◌, ◌&&◌, not, nat_lt, Bool, true, List, [], ◌∷◌, Option, Some, None, option_and_then, option_map, if◌then◌else◌}
 use Rattle.std.specs.List.{list_all}
-use Rattle.url.specs.Parser.{Parsed, parse_url}
+use Rattle.std.specs.Result.{result_ok}
+use Rattle.url.specs.Parser.{parse_url}
 use Rattle.url.specs.Parts.{Parts, nonempty_host}
 use Rattle.url.specs.Host.{host_text}
 use Rattle.url.specs.declared.host.Host as web
 use Rattle.url.specs.declared.host.Host.TheVariants as web_host
+use Rattle.csp_model.specs.Bytes.{slash}
 use Rattle.csp_model.specs.Grammar.{pieces_of}
 use Rattle.csp_model.specs.Schemes.{scheme_named, default_port}
 use Rattle.csp_model.specs.Validity.{is_domain, is_address, is_piece, is_lower_scheme}
 use Rattle.csp_model.specs.declared.url.Scheme.{Scheme}
 use Rattle.csp_model.specs.declared.url.Host.{Host}
-use Rattle.csp_model.specs.declared.url.Host.TheVariants as host
+use Rattle.csp_model.specs.declared.url.Host.TheVariants.{Domain, Address}
 use Rattle.csp_model.specs.declared.url.Url.{Url}
 use Rattle.csp_model.specs.declared.url.Url.TheVariants as url
-use Rattle.csp_url.specs.declared.error.UrlError.{UrlError}
-use Rattle.csp_url.specs.declared.error.UrlError.TheVariants.{NotAUrl, Memory}
 
 -- the domain, where it is valid
 abbrev pub domain_of : List ℕ → Option Host
-domain_of text = if is_domain text then Some (host.Domain text) else None
+domain_of text = if is_domain text then Some (Domain text) else None
 
 -- the address, where it is valid
 abbrev pub address_of : List ℕ → Option Host
-address_of text = if is_address text then Some (host.Address text) else None
+address_of text = if is_address text then Some (Address text) else None
+
+-- the domain or the address that a text is
+abbrev pub host_of : List ℕ → Option Host
+host_of text = if is_domain text then Some (Domain text) else address_of text
 
 -- the host that was found, where it is valid
 abbrev pub found_host : web.Host (List ℕ) → Option Host
@@ -45,15 +49,16 @@ abbrev pub whole_pieces : List (List ℕ) → Option (List (List ℕ))
 whole_pieces pieces = if list_all is_piece pieces then Some pieces else None
 
 -- the decoded pieces behind the slashes of a path, where they are valid
-unfoldable pub path_of : List ℕ → Option (List (List ℕ))
-path_of [] = None
-path_of (b ∷ text) = if b == 47 then whole_pieces (pieces_of text) else None
+unfoldable pub found_path : List ℕ → Option (List (List ℕ))
+found_path [] = None
+found_path (b ∷ text) = if b == slash then whole_pieces (pieces_of text) else None
 
 -- the URL of a scheme that has hosts
 abbrev pub hosted_from : Scheme → Parts → Option Url
 hosted_from scheme parts =
-    option_and_then (λ name. option_and_then (λ number. option_map (λ pieces. url.Hosted scheme name number pieces)
-    (path_of parts.path)) (found_port scheme parts.port)) (option_and_then found_host (nonempty_host parts))
+    option_and_then (λ host. option_and_then (λ port. option_map (λ path. url.Hosted scheme host port path)
+    (found_path parts.path)) (found_port scheme parts.port))
+    (option_and_then found_host (nonempty_host parts))
 
 -- the URL of any other scheme
 abbrev pub plain_from : List ℕ → Option Url
@@ -67,17 +72,10 @@ url_by None parts = plain_from parts.scheme
 abbrev pub url_from : Parts → Option Url
 url_from parts = url_by (scheme_named parts.scheme) parts
 
--- what the parts give, where parsing found some
-abbrev pub from_parsed : {T : Type 0} → (Parts → Option T) → Parsed Parts → Option T
-from_parsed f (Ok parts) = f parts
-from_parsed f (Err e) = None
+-- the parts that parsing finds in a text, without a base
+abbrev pub parts_of : List ℕ → Option Parts
+parts_of text = result_ok (parse_url None text)
 
--- the URL that a text is, read without a base
+-- the URL that a text is
 abbrev pub url_of : List ℕ → Option Url
-url_of text = from_parsed url_from (parse_url None text)
-
--- the answer is the value, and refuses exactly where there is none; want of memory apart
-abbrev pub IsAnswer : {T : Type 0} → Result T UrlError → Option T → Type 0
-IsAnswer (Ok value) answer = answer ≡ Some value
-IsAnswer (Err NotAUrl) answer = answer ≡ None
-IsAnswer (Err Memory) answer = ⊤
+url_of text = option_and_then url_from (parts_of text)

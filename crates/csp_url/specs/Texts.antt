@@ -1,13 +1,13 @@
--- The texts of URLs (URL Standard, section 4.5), and what a report shows of one (Content Security Policy Level 3, section 5.4).
-use Rattle.std.specs.Prelude.{◌≡◌, ⊤, ℕ, ◌||◌, Bool, List, [], ◌++◌, Option, Some, None, codes, decimal, option_map, if◌then◌else◌}
+-- The texts of URLs (URL Standard, section 4.5), and what a report shows of one (Content Security Policy
+-- Level 3, section 5.4).
+use Rattle.std.specs.Prelude.{◌≡◌, ⊤, ℕ, ◌||◌, Bool, List, [], ◌++◌, Option, Some, None, codes, decimal, option_and_then, option_map, if◌then◌else◌}
 use Rattle.std.specs.Str.{bytes_eq}
-use Rattle.url.specs.Parser.{parse_url}
 use Rattle.url.specs.Parts.{Parts, serialize}
 use Rattle.csp_model.specs.Paths.{host_text, path_text}
 use Rattle.csp_model.specs.Schemes.{scheme_text}
 use Rattle.csp_model.specs.declared.url.Url.{Url}
 use Rattle.csp_model.specs.declared.url.Url.TheVariants as url
-use Rattle.csp_url.specs.Reading.{path_of, from_parsed, url_from}
+use Rattle.csp_url.specs.Reading.{found_path, parts_of, url_from}
 
 abbrev pub port_text : Option ℕ → List ℕ
 port_text None = []
@@ -15,7 +15,8 @@ port_text (Some n) = codes ":" ++ decimal n
 
 abbrev pub url_text : Url → List ℕ
 url_text (url.Plain scheme) = scheme ++ codes ":"
-url_text (url.Hosted scheme name port path) = scheme_text scheme ++ (codes "://" ++ (host_text name ++ (port_text port ++ path_text path)))
+url_text (url.Hosted scheme host port path) =
+    scheme_text scheme ++ (codes "://" ++ (host_text host ++ (port_text port ++ path_text path)))
 
 -- what a URL prints without user name, password and fragment
 abbrev pub bare_text : Parts → List ℕ
@@ -33,9 +34,9 @@ stripped_from parts = option_map (λ _. shown_text parts) (url_from parts)
 
 -- what a report shows of the URL that a text is, where it is one
 abbrev pub stripped_of : List ℕ → Option (List ℕ)
-stripped_of text = from_parsed stripped_from (parse_url None text)
+stripped_of text = option_and_then stripped_from (parts_of text)
 
 -- the text of a path reads as its pieces
 abbrev pub ReadsBack : Url → Type 0
 ReadsBack (url.Plain scheme) = ⊤
-ReadsBack (url.Hosted scheme name port path) = path_of (path_text path) ≡ Some path
+ReadsBack (url.Hosted scheme host port path) = found_path (path_text path) ≡ Some path

@@ -2,50 +2,51 @@
 ghost use Rattle.std.specs.Prelude.{◌≡◌, length};
 ghost use Rattle.std.specs.List.{list_all};
 ghost use Rattle.csp_model.specs.Ascii.{split_at};
-ghost use Rattle.csp_model.specs.Validity as validity;
+ghost use Rattle.csp_model.specs.Bytes.{dot};
+ghost use Rattle.csp_model.specs.Validity as spec;
 
 use csp_model::{are_digits, decimal_value};
 
 fn is_octet(part: &[u8]) -> bool
-    ensures { result ≡ validity.is_octet part.now }
+    ensures { result ≡ spec.is_octet part.now }
 {
     are_digits(part) && decimal_value(part) < 256 && (part.len() < 2 || part[0] != b'0')
 }
 
 fn are_octets(text: &[u8]) -> bool
-    ensures { result ≡ list_all validity.is_octet (split_at 46 text.now) }
+    ensures { result ≡ list_all spec.is_octet (split_at dot text.now) }
 {
     text.split(|b| *b == b'.').all(|part| is_octet(part))
 }
 
 fn part_count(text: &[u8]) -> usize
-    ensures { result ≡ length (split_at 46 text.now) }
+    ensures { result ≡ length (split_at dot text.now) }
 {
     text.split(|b| *b == b'.').count()
 }
 
 #[tactic(auto, unfolding(csp_model::specs::Validity::is_four_numbers))]
 fn is_four_numbers(text: &[u8]) -> bool
-    ensures { result ≡ validity.is_four_numbers text.now }
+    ensures { result ≡ spec.is_four_numbers text.now }
 {
     part_count(text) == 4 && are_octets(text)
 }
 
 fn is_group_char(b: u8) -> bool
-    ensures { result ≡ validity.is_group_char b }
+    ensures { result ≡ spec.is_group_char b }
 {
     (b.is_ascii_hexdigit() && !b.is_ascii_uppercase()) || b == b':'
 }
 
 fn are_group_chars(text: &[u8]) -> bool
-    ensures { result ≡ list_all validity.is_group_char text.now }
+    ensures { result ≡ list_all spec.is_group_char text.now }
 {
     text.iter().all(|b| is_group_char(*b))
 }
 
 #[tactic(auto, unfolding(csp_model::specs::Validity::is_bracketed))]
 fn is_bracketed(text: &[u8]) -> bool
-    ensures { result ≡ validity.is_bracketed text.now }
+    ensures { result ≡ spec.is_bracketed text.now }
 {
     match text {
         [b'[', groups @ .., b']'] => !groups.is_empty() && are_group_chars(groups),
@@ -55,7 +56,7 @@ fn is_bracketed(text: &[u8]) -> bool
 
 #[tactic(auto, unfolding(csp_model::specs::Validity::is_address))]
 pub(crate) fn is_address(text: &str) -> bool
-    ensures { result ≡ validity.is_address text.now }
+    ensures { result ≡ spec.is_address text.now }
 {
     let bytes = text.as_bytes();
     is_four_numbers(bytes) || is_bracketed(bytes)

@@ -3,13 +3,14 @@ ghost use Rattle.std.specs.Prelude.{◌≡◌};
 ghost use Rattle.std.specs.List.{list_all};
 ghost use Rattle.std.specs.Char.{is_ascii_hexdigit};
 ghost use Rattle.csp_model.specs.Ascii.{without_final, split_at};
-ghost use Rattle.csp_model.specs.Validity as validity;
+ghost use Rattle.csp_model.specs.Bytes.{dot};
+ghost use Rattle.csp_model.specs.Validity as spec;
 
 use csp_model::are_digits;
 
 #[tactic(auto, unfolding(csp_model::specs::Validity::is_domain_byte))]
 fn is_domain_byte(b: u8) -> bool
-    ensures { result ≡ validity.is_domain_byte b }
+    ensures { result ≡ spec.is_domain_byte b }
 {
     matches!(b, 33..=126)
         && !b.is_ascii_uppercase()
@@ -31,7 +32,7 @@ fn is_domain_byte(b: u8) -> bool
 }
 
 fn are_domain_bytes(text: &[u8]) -> bool
-    ensures { result ≡ list_all validity.is_domain_byte text.now }
+    ensures { result ≡ list_all spec.is_domain_byte text.now }
 {
     text.iter().all(|b| is_domain_byte(*b))
 }
@@ -43,7 +44,7 @@ fn are_hex_digits(text: &[u8]) -> bool
 }
 
 fn is_hex_number(label: &[u8]) -> bool
-    ensures { result ≡ validity.is_hex_number label.now }
+    ensures { result ≡ spec.is_hex_number label.now }
 {
     match label {
         [b'0', b'x', rest @ ..] => are_hex_digits(rest),
@@ -52,7 +53,7 @@ fn is_hex_number(label: &[u8]) -> bool
 }
 
 fn without_dot(text: &[u8]) -> &[u8]
-    ensures { result.now ≡ without_final 46 text.now }
+    ensures { result.now ≡ without_final dot text.now }
 {
     match text {
         [front @ .., b'.'] => front,
@@ -61,7 +62,7 @@ fn without_dot(text: &[u8]) -> &[u8]
 }
 
 fn last_label(text: &[u8]) -> &[u8]
-    ensures { result.now ≡ validity.last_part (split_at 46 text.now) }
+    ensures { result.now ≡ spec.last_part (split_at dot text.now) }
 {
     match text.split(|b| *b == b'.').last() {
         Some(label) => label,
@@ -71,7 +72,7 @@ fn last_label(text: &[u8]) -> &[u8]
 
 #[tactic(auto, unfolding(csp_model::specs::Validity::ends_in_number))]
 fn ends_in_number(text: &[u8]) -> bool
-    ensures { result ≡ validity.ends_in_number text.now }
+    ensures { result ≡ spec.ends_in_number text.now }
 {
     let label = last_label(without_dot(text));
     are_digits(label) || is_hex_number(label)
@@ -79,7 +80,7 @@ fn ends_in_number(text: &[u8]) -> bool
 
 #[tactic(auto, unfolding(csp_model::specs::Validity::is_domain))]
 pub(crate) fn is_domain(text: &str) -> bool
-    ensures { result ≡ validity.is_domain text.now }
+    ensures { result ≡ spec.is_domain text.now }
 {
     let bytes = text.as_bytes();
     !bytes.is_empty() && are_domain_bytes(bytes) && !ends_in_number(bytes)

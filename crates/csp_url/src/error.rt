@@ -1,4 +1,7 @@
 //! Why a URL or an origin is refused.
+ghost use Rattle.std.specs.Prelude.{◌≡◌};
+
+use csp_model::Memory;
 use thiserror::Error;
 
 /// A part of a URL.
@@ -41,4 +44,34 @@ pub enum OriginError {
     /// There was no memory.
     #[error("no memory")]
     Memory,
+}
+
+impl From<Memory> for PartsError {
+    ghost use Rattle.csp_url.specs.declared.error.PartsError.{PartsError};
+
+    ghost from_gives = { λ _ made. made ≡ PartsError.Memory };
+
+    fn from(_: Memory) -> PartsError {
+        PartsError::Memory
+    }
+}
+
+impl From<Memory> for UrlError {
+    ghost use Rattle.csp_url.specs.declared.error.UrlError.{UrlError};
+
+    ghost from_gives = { λ _ made. made ≡ UrlError.Memory };
+
+    fn from(_: Memory) -> UrlError {
+        UrlError::Memory
+    }
+}
+
+impl From<Memory> for OriginError {
+    ghost use Rattle.csp_url.specs.declared.error.OriginError.{OriginError};
+
+    ghost from_gives = { λ _ made. made ≡ OriginError.Memory };
+
+    fn from(_: Memory) -> OriginError {
+        OriginError::Memory
+    }
 }

@@ -1,16 +1,16 @@
 //! Hosts (URL Standard, section 3).
-ghost use Rattle.std.specs.Prelude.{◌≡◌, IfOk, option_and_then, option_copied};
+ghost use Rattle.std.specs.Prelude.{◌≡◌, IfOk, option_and_then};
 ghost use Rattle.url.specs.Parts.{nonempty_host};
-ghost use Rattle.csp_url.specs.Reading.{domain_of, address_of, found_host};
-ghost use Rattle.csp_url.specs.Parts as spec;
+ghost use Rattle.csp_url.specs.Reading as spec;
 
 use crate::address::is_address;
 use crate::domain::is_domain;
 use csp_model::{Host, Memory, Text};
 use std::alloc::Global;
 
+// The domain that a text is.
 fn domain_of(alloc: Global, text: &str) -> Result<Option<Host>, Memory>
-    ensures { IfOk result (λ found. found ≡ domain_of text.now) }
+    ensures { IfOk result (λ host. host ≡ spec.domain_of text.now) }
 {
     if is_domain(text) {
         Ok(Some(Host::Domain(Text::new(alloc, text)?)))
@@ -19,8 +19,9 @@ fn domain_of(alloc: Global, text: &str) -> Result<Option<Host>, Memory>
     }
 }
 
+// The address that a text is.
 fn address_of(alloc: Global, text: &str) -> Result<Option<Host>, Memory>
-    ensures { IfOk result (λ found. found ≡ address_of text.now) }
+    ensures { IfOk result (λ host. host ≡ spec.address_of text.now) }
 {
     if is_address(text) {
         Ok(Some(Host::Address(Text::new(alloc, text)?)))
@@ -29,9 +30,9 @@ fn address_of(alloc: Global, text: &str) -> Result<Option<Host>, Memory>
     }
 }
 
-/// The host that parsing found, where it is valid.
+// The host that parsing found, where it is valid.
 pub(crate) fn found_host(alloc: Global, parsed: &url::Url) -> Result<Option<Host>, Memory>
-    ensures { IfOk result (λ found. found ≡ option_and_then found_host (nonempty_host parsed.now)) }
+    ensures { IfOk result (λ host. host ≡ option_and_then spec.found_host (nonempty_host parsed.now)) }
 {
     match parsed.host() {
         None => Ok(None),
@@ -43,9 +44,9 @@ pub(crate) fn found_host(alloc: Global, parsed: &url::Url) -> Result<Option<Host
     }
 }
 
-/// The domain or the address that a text is.
-pub(crate) fn host_named(alloc: Global, text: &str) -> Result<Option<Host>, Memory>
-    ensures { IfOk result (λ found. found ≡ spec.host_named text.now) }
+// The domain or the address that a text is.
+pub(crate) fn host_of(alloc: Global, text: &str) -> Result<Option<Host>, Memory>
+    ensures { IfOk result (λ host. host ≡ spec.host_of text.now) }
 {
     match domain_of(alloc, text)? {
         Some(host) => Ok(Some(host)),

@@ -5,14 +5,13 @@ mod address;
 mod domain;
 mod error;
 mod host;
+pub mod laws;
 mod origin;
 mod parts;
 mod path;
 mod read;
 mod scheme;
 mod strip;
-#[cfg(test)]
-mod tests;
 mod text;
 
 pub use error::{OriginError, Part, PartsError, UrlError};
@@ -20,4 +19,4 @@ pub use origin::read_origin;
 pub use parts::url_from_parts;
 pub use read::read_url;
 pub use strip::strip_url;
-pub use text::{path_reads_back, url_text};
+pub use text::url_text;

@@ -1,26 +1,17 @@
 //! Reads origins.
-ghost use Rattle.std.specs.Prelude.{◌≡◌, IfOk};
+ghost use Rattle.std.specs.Prelude.{◌≡◌, IfOk, ok_or};
+ghost use Rattle.csp_model.specs.Answers.{Gives};
 ghost use Rattle.csp_model.specs.Validity.{IsValidOrigin};
-ghost use Rattle.csp_url.specs.Origins.{IsOriginAnswer, is_bare, is_web, web_origin, origin_from, origin_of};
+ghost use Rattle.csp_url.specs.Origins as spec;
 
-use crate::error::{OriginError, UrlError};
+use crate::error::OriginError;
 use crate::read::{parsed, url_from};
 use csp_model::{Memory, Origin, Scheme, Url};
 use std::alloc::Global;
 
-impl From<Memory> for OriginError {
-    ghost use Rattle.csp_url.specs.declared.error.OriginError.{OriginError};
-
-    ghost from_gives = { λ _ made. made ≡ OriginError.Memory };
-
-    fn from(_: Memory) -> OriginError {
-        OriginError::Memory
-    }
-}
-
-/// The URL has no user name, password, query or fragment, and the path `/`.
+// The URL has no user name, password, query or fragment, and the path `/`.
 fn is_bare(parsed: &url::Url) -> bool
-    ensures { result ≡ is_bare parsed.now }
+    ensures { result ≡ spec.is_bare parsed.now }
 {
     parsed.username().is_empty()
         && parsed.password().is_none()
@@ -29,14 +20,16 @@ fn is_bare(parsed: &url::Url) -> bool
         && parsed.fragment().is_none()
 }
 
+// The scheme is http or https.
 fn is_web(scheme: Scheme) -> bool
-    ensures { result ≡ is_web scheme }
+    ensures { result ≡ spec.is_web scheme }
 {
     matches!(scheme, Scheme::Http | Scheme::Https)
 }
 
+// The origin of a URL of http or https.
 fn web_origin(url: Url) -> Option<Origin>
-    ensures { result ≡ web_origin url }
+    ensures { result ≡ spec.web_origin url }
 {
     match url {
         Url::Plain { .. } => None,
@@ -55,8 +48,9 @@ fn web_origin(url: Url) -> Option<Origin>
     }
 }
 
+// The origin of a URL that says no more.
 fn origin_from(alloc: Global, parsed: &url::Url) -> Result<Option<Origin>, Memory>
-    ensures { IfOk result (λ made. made ≡ origin_from parsed.now) }
+    ensures { IfOk result (λ origin. origin ≡ spec.origin_from parsed.now) }
 {
     if !is_bare(parsed) {
         return Ok(None);
@@ -67,26 +61,28 @@ fn origin_from(alloc: Global, parsed: &url::Url) -> Result<Option<Origin>, Memor
     }
 }
 
-/// The origin that a text is (URL Standard, section 4.7): `null`, or a URL of http or https that says no more than
-/// its origin, with or without the `/` at its end.
-///
-/// `BadOrigin` comes where the text isn't `null` and isn't read as a URL, or its scheme isn't http or https, or it
-/// has a user name, password, query or fragment, or its path, after parsing, isn't `/`. An empty query or fragment
-/// is one (`https://a.example?`), an empty user name or password is none (`https://@a.example`).
-pub fn read_origin(alloc: Global, text: &str) -> Result<Origin, OriginError>
-    ensures origin { IsOriginAnswer result (origin_of text.now) }
-    ensures valid { IfOk result IsValidOrigin }
+// The origin that a text is.
+fn origin_of(alloc: Global, text: &str) -> Result<Option<Origin>, Memory>
+    ensures { IfOk result (λ origin. origin ≡ spec.origin_of text.now) }
 {
     if text == "null" {
-        return Ok(Origin::Opaque);
+        return Ok(Some(Origin::Opaque));
     }
-    let parsed = match parsed(alloc, text) {
-        Ok(parsed) => parsed,
-        Err(UrlError::NotAUrl) => return Err(OriginError::BadOrigin),
-        Err(UrlError::Memory) => return Err(OriginError::Memory),
-    };
-    match origin_from(alloc, &parsed)? {
-        Some(origin) => Ok(origin),
-        None => Err(OriginError::BadOrigin),
+    match parsed(alloc, text)? {
+        None => Ok(None),
+        Some(parsed) => origin_from(alloc, &parsed),
     }
+}
+
+/// The origin that a text is (URL Standard, section 4.7): `null`, or a URL of http or https that says no more
+/// than its origin, with or without the `/` at its end.
+///
+/// `BadOrigin` comes where the text isn't `null` and isn't read as a URL, or its scheme isn't http or https,
+/// or it has a user name, password, query or fragment, or its path, after parsing, isn't `/`. An empty query
+/// or fragment is one (`https://a.example?`), an empty user name or password is none (`https://@a.example`).
+pub fn read_origin(alloc: Global, text: &str) -> Result<Origin, OriginError>
+    ensures origin { Gives OriginError.Memory result (ok_or (spec.origin_of text.now) OriginError.BadOrigin) }
+    ensures valid { IfOk result IsValidOrigin }
+{
+    origin_of(alloc, text)?.ok_or(OriginError::BadOrigin)
 }

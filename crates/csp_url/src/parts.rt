@@ -1,36 +1,29 @@
 //! Makes URLs of their parts.
-ghost use Rattle.std.specs.Prelude.{◌≡◌, Ok, Err, IfOk, option_copied};
+ghost use Rattle.std.specs.Prelude.{◌≡◌, IfOk, option_copied};
+ghost use Rattle.csp_model.specs.Answers.{Gives};
 ghost use Rattle.csp_model.specs.Validity.{IsValidUrl};
-ghost use Rattle.csp_url.specs.Parts.{IsPartsAnswer, given_host, given_port, kept_port, hosted_answer, plain_answer, parts_answer};
+ghost use Rattle.csp_url.specs.Parts as spec;
 
 use crate::error::{Part, PartsError};
-use crate::host::host_named;
-use crate::path::path_of;
+use crate::host::host_of;
+use crate::path::found_path;
 use crate::scheme::is_lower_scheme;
 use csp_model::{Host, Memory, Scheme, Text, Url};
 use std::alloc::Global;
 
-impl From<Memory> for PartsError {
-    ghost use Rattle.csp_url.specs.declared.error.PartsError.{PartsError};
-
-    ghost from_gives = { λ _ made. made ≡ PartsError.Memory };
-
-    fn from(_: Memory) -> PartsError {
-        PartsError::Memory
-    }
-}
-
+// The host that is given; it has to be.
 fn given_host(alloc: Global, host: Option<&str>) -> Result<Option<Host>, Memory>
-    ensures { IfOk result (λ found. found ≡ given_host (option_copied host.entry)) }
+    ensures { IfOk result (λ found. found ≡ spec.given_host (option_copied host.entry)) }
 {
     match host {
         None => Ok(None),
-        Some(text) => host_named(alloc, text),
+        Some(text) => host_of(alloc, text),
     }
 }
 
+// The port, or none where it is the scheme's default.
 fn kept_port(scheme: Scheme, port: u16) -> Option<u16>
-    ensures { result ≡ kept_port scheme port }
+    ensures { result ≡ spec.kept_port scheme port }
 {
     if port == scheme.default_port() {
         None
@@ -39,8 +32,9 @@ fn kept_port(scheme: Scheme, port: u16) -> Option<u16>
     }
 }
 
+// The port that is given, where it has 16 bits.
 fn given_port(scheme: Scheme, port: Option<u32>) -> Option<Option<u16>>
-    ensures { result ≡ given_port scheme port }
+    ensures { result ≡ spec.given_port scheme port }
 {
     match port {
         None => Some(None),
@@ -54,6 +48,7 @@ fn given_port(scheme: Scheme, port: Option<u32>) -> Option<Option<u16>>
     }
 }
 
+// The URL of a scheme that has hosts.
 fn hosted(
     alloc: Global,
     scheme: Scheme,
@@ -61,7 +56,8 @@ fn hosted(
     port: Option<u32>,
     path: &str,
 ) -> Result<Url, PartsError>
-    ensures { IsPartsAnswer result (hosted_answer scheme (option_copied host.entry) port path.now) }
+    ensures { Gives PartsError.Memory result
+        (spec.hosted_of_parts scheme (option_copied host.entry) port path.now) }
 {
     let Some(host) = given_host(alloc, host)? else {
         return Err(PartsError::Bad { part: Part::Host });
@@ -69,7 +65,7 @@ fn hosted(
     let Some(port) = given_port(scheme, port) else {
         return Err(PartsError::Bad { part: Part::Port });
     };
-    let Some(path) = path_of(alloc, path.as_bytes())? else {
+    let Some(path) = found_path(alloc, path.as_bytes())? else {
         return Err(PartsError::Bad { part: Part::Path });
     };
     Ok(Url::Hosted {
@@ -80,6 +76,7 @@ fn hosted(
     })
 }
 
+// The URL of any other scheme: no host, no port, and the path `/`.
 fn plain(
     alloc: Global,
     scheme: &str,
@@ -87,7 +84,8 @@ fn plain(
     port: Option<u32>,
     path: &str,
 ) -> Result<Url, PartsError>
-    ensures { IsPartsAnswer result (plain_answer scheme.now (option_copied host.entry) port path.now) }
+    ensures { Gives PartsError.Memory result
+        (spec.plain_of_parts scheme.now (option_copied host.entry) port path.now) }
 {
     if host.is_some() {
         return Err(PartsError::Bad { part: Part::Host });
@@ -103,10 +101,10 @@ fn plain(
     })
 }
 
-/// The URL of its parts (URL Standard, section 4.1). The scheme is in lower case. A URL of http, https, ws, wss or
-/// ftp has a host in lower case, or an address, as the standard prints them; a port of 16 bits, of which the scheme's
-/// default is kept as None; and a path that begins with `/`, whose pieces are percent-decoded. One of another scheme
-/// has neither host nor port, and the path `/`.
+/// The URL of its parts (URL Standard, section 4.1). The scheme is in lower case. A URL of http, https, ws,
+/// wss or ftp has a host in lower case, or an address, as the standard prints them; a port of 16 bits, of
+/// which the scheme's default is kept as None; and a path that begins with `/`, whose pieces are
+/// percent-decoded. One of another scheme has neither host nor port, and the path `/`.
 ///
 /// `Bad` names the first part, in the order of the arguments, that isn't so.
 pub fn url_from_parts(
@@ -116,7 +114,8 @@ pub fn url_from_parts(
     port: Option<u32>,
     path: &str,
 ) -> Result<Url, PartsError>
-    ensures url { IsPartsAnswer result (parts_answer scheme.now (option_copied host.entry) port path.now) }
+    ensures url { Gives PartsError.Memory result
+        (spec.url_of_parts scheme.now (option_copied host.entry) port path.now) }
     ensures valid { IfOk result IsValidUrl }
 {
     if !is_lower_scheme(scheme) {

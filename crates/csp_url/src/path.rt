@@ -3,7 +3,7 @@ ghost use Rattle.std.specs.Prelude.{◌≡◌, ◌||◌, codes, IfOk};
 ghost use Rattle.std.specs.List.{list_all};
 ghost use Rattle.std.specs.Str.{bytes_eq};
 ghost use Rattle.csp_model.specs.Validity as validity;
-ghost use Rattle.csp_url.specs.Reading.{path_of};
+ghost use Rattle.csp_url.specs.Reading as spec;
 
 use csp_model::{Bytes, List, Memory, pieces_of};
 use std::alloc::Global;
@@ -26,10 +26,10 @@ fn are_pieces(pieces: &[Bytes]) -> bool
     pieces.iter().all(|piece| is_piece(piece.as_slice()))
 }
 
-/// The decoded pieces of a path that begins with a slash, where none is `.` or `..`.
-#[tactic(auto, unfolding(crate::specs::Reading::path_of))]
-pub(crate) fn path_of(alloc: Global, text: &[u8]) -> Result<Option<List<Bytes>>, Memory>
-    ensures { IfOk result (λ found. found ≡ path_of text.now) }
+// The decoded pieces of a path that begins with a slash, where none is `.` or `..`.
+#[tactic(auto, unfolding(crate::specs::Reading::found_path))]
+pub(crate) fn found_path(alloc: Global, text: &[u8]) -> Result<Option<List<Bytes>>, Memory>
+    ensures { IfOk result (λ path. path ≡ spec.found_path text.now) }
 {
     match text.split_first() {
         Some((b'/', rest)) => {

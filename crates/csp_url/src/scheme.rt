@@ -2,7 +2,7 @@
 ghost use Rattle.std.specs.Prelude.{◌≡◌, not};
 ghost use Rattle.std.specs.List.{list_all};
 ghost use Rattle.std.specs.Char.{is_ascii_uppercase};
-ghost use Rattle.csp_model.specs.Validity as validity;
+ghost use Rattle.csp_model.specs.Validity as spec;
 
 use csp_model::is_scheme;
 
@@ -12,9 +12,9 @@ fn has_no_upper_case(text: &[u8]) -> bool
     text.iter().all(|b| !b.is_ascii_uppercase())
 }
 
-/// The text is a scheme in lower case.
+// The text is a scheme in lower case.
 pub(crate) fn is_lower_scheme(text: &str) -> bool
-    ensures { result ≡ validity.is_lower_scheme text.now }
+    ensures { result ≡ spec.is_lower_scheme text.now }
 {
     let bytes = text.as_bytes();
     is_scheme(bytes) && has_no_upper_case(bytes)

@@ -1,14 +1,12 @@
 //! Writes URLs.
-ghost use Rattle.std.specs.Prelude.{◌≡◌, ◌++◌, ℕ, List, Option, Some, IfOk, OnOk, string_bytes};
-ghost use Rattle.csp_model.specs.Validity.{IsValidUrl};
-ghost use Rattle.csp_model.specs.declared.url.Url.TheVariants.{Hosted};
-ghost use Rattle.csp_url.specs.Reading.{path_of};
+ghost use Rattle.std.specs.Prelude.{◌≡◌, ◌++◌, IfOk, OnOk, string_bytes};
 ghost use Rattle.csp_url.specs.Texts as spec;
 
 use csp_model::{Memory, Scheme, Text, Url, push_path};
 use itoa::Buffer;
 use std::alloc::Global;
 
+// Writes `:` and the port, where there is one.
 fn push_port(text: &mut String, port: Option<u16>) -> Result<(), Memory>
     ensures { OnOk result (string_bytes text.new ≡ string_bytes text.old ++ spec.port_text port) }
 {
@@ -19,6 +17,7 @@ fn push_port(text: &mut String, port: Option<u16>) -> Result<(), Memory>
     Ok(())
 }
 
+// Writes a URL behind a text.
 fn push_url(text: &mut String, url: &Url) -> Result<(), Memory>
     ensures { OnOk result (string_bytes text.new ≡ string_bytes text.old ++ spec.url_text url.now) }
 {
@@ -43,9 +42,9 @@ fn push_url(text: &mut String, url: &Url) -> Result<(), Memory>
     Ok(())
 }
 
-/// The text of a URL: `scheme:`, or `scheme://host`, `:port` where it isn't None, and `/` and the piece for each
-/// piece of the path. In a piece every byte but letters, digits, `-`, `.`, `_` and `~` is written as `%` and two
-/// upper-case hexadecimal digits.
+/// The text of a URL: `scheme:`, or `scheme://host`, `:port` where it isn't None, and `/` and the piece for
+/// each piece of the path. In a piece every byte but letters, digits, `-`, `.`, `_` and `~` is written as `%`
+/// and two upper-case hexadecimal digits.
 pub fn url_text(alloc: Global, url: &Url) -> Result<Text, Memory>
     ensures { IfOk result (λ text. text ≡ spec.url_text url.now) }
 {
@@ -53,9 +52,3 @@ pub fn url_text(alloc: Global, url: &Url) -> Result<Text, Memory>
     push_url(&mut text, url)?;
     Ok(Text::from_string(text))
 }
-
-/// The path of a valid URL that has a host, written as a text, reads back to its pieces.
-pub fn path_reads_back(url: &Url)
-    requires valid { IsValidUrl url.now }
-    ensures { spec.ReadsBack url.now }
-{}

@@ -8,7 +8,7 @@ use Rattle.csp_model.specs.declared.policy.Directive.{Directive}
 use Rattle.csp_model.specs.declared.policy.Policy.{Policy}
 use Rattle.csp_model.specs.declared.source.Hash.{Hash}
 use Rattle.csp_model.specs.declared.source.Source.{Source}
-use Rattle.csp_atom.specs.Vocabulary.{hash_in, hashes_of, distinct}
+use Rattle.csp_atom.specs.Vocabulary.{hash_of_source, hashes_of, distinct}
 use Rattle.csp_atom.proofs.VocabularyDistinct.{Contains-distinct}
 use Rattle.csp_atom.proofs.VocabularySoFar.{SoFar, with_known, with_new}
 use Rattle.csp_atom.proofs.VocabularySources.{found, found_none, found_some, in_both}
@@ -45,7 +45,7 @@ returns-clause-hashes c =
     c.flat_map-source-items.ensures.closure c.flat_map-source-items.ensures.front c.flat_map-source-items.ensures.back c.flat_map-source-items.ensures.done))
     c.loop-source.yielded _ c.loop-source.yielded_by _ _ c.in-None.is c.next.ensures.steps
     in
-    c.loop-source.invariant.firsts ∙ ap distinct (ap (filter_map hash_in) all.0 ∙ in_both c.args.first.now c.args.second.now)
+    c.loop-source.invariant.firsts ∙ ap distinct (ap (filter_map hash_of_source) all.0 ∙ in_both c.args.first.now c.args.second.now)
 
 pub returns-clause-each : goal.returns-clause-each
 returns-clause-each c h = let whole = returns-clause-hashes c in rw whole (Contains-distinct (hashes_of c.args.first.now ++ hashes_of c.args.second.now) h)

@@ -6,4 +6,6 @@ pub returns-in-Ok : goal.returns-in-Ok
 returns-in-Ok c = is_json c.args.bytes.now _ c.in-Ok.ensures.ok.0 c.in-Ok.ensures.ok.1
 
 pub returns-else-is_memory : goal.returns-else-is_memory
-returns-else-is_memory c = no_json c.args.bytes.now (c.in-Err.ensures.err (λ memory. absurd (false≢true (c.if-is_memory.ensures.1 memory))))
+returns-else-is_memory c =
+    no_json c.args.bytes.now (c.in-Err.ensures.err
+    (λ memory. absurd (false≢true (c.if-is_memory.ensures.1 memory))))

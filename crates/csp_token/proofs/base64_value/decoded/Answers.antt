@@ -4,19 +4,23 @@ use Rattle.base64.specs.GeneralPurpose.{IsBytes}
 use Rattle.base64.proofs.EngineFacts.{decode_of_strict}
 use Rattle.csp_model.specs.Tokens.{plain_value}
 use Rattle.csp_token.proofs.Base64.{short, refused, same_size, IsBytes-plain_value}
+use Rattle.csp_token.proofs.Sizes.{bytes_of_size}
 use Rattle.csp_token.proofs.base64_value.decoded.Goals as goal
 
 pub returns-then-value-gt-MOST_SYMBOLS-clause-none : goal.returns-then-value-gt-MOST_SYMBOLS-clause-none
-returns-then-value-gt-MOST_SYMBOLS-clause-none g c = λ _ d bytes len eq. absurd (omega (arith, short c.args.value.now d g.row.N len c.requires eq))
+returns-then-value-gt-MOST_SYMBOLS-clause-none g c = λ _ bytes size eq.
+    absurd (omega (arith, short c.args.value.now bytes g.row.N size.0 c.requires eq))
 
 pub returns-in-Err-clause-none : goal.returns-in-Err-clause-none
-returns-in-Err-clause-none g c = λ _ d bytes len eq.
-    refused c.args.value.now d c.in-Err.field-0 bytes eq (rw (c.write_plain.ensures, c.as_bytes.ensures.value) at c.in-Err.ensures.err)
+returns-in-Err-clause-none g c = λ _ bytes size eq.
+    refused c.args.value.now bytes c.in-Err.field-0 (bytes_of_size g.row.N bytes size) eq
+    (rw (c.write_plain.ensures, c.as_bytes.ensures.value) at c.in-Err.ensures.err)
 
 pub returns-then-count-clause-none : goal.returns-then-count-clause-none
-returns-then-count-clause-none g c = λ _ d bytes len eq.
+returns-then-count-clause-none g c = λ _ bytes size eq.
     let into = rw (c.write_plain.ensures, c.as_bytes.ensures.value) at c.in-Ok.ensures.ok in
-    c.if-count.true (same_size c.args.value.now d _ c.decode_slice_unchecked.new.output g.row.N c.in-Ok.count bytes len c.decode_slice_unchecked.auto.output eq into)
+    c.if-count.true (same_size c.args.value.now bytes _ c.decode_slice_unchecked.new.output g.row.N c.in-Ok.count
+    (bytes_of_size g.row.N bytes size) size.0 c.decode_slice_unchecked.auto.output eq into)
 
 pub returns-clause-some : goal.returns-clause-some
 returns-clause-some g c =

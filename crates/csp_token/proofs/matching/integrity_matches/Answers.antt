@@ -1,7 +1,11 @@
-use Rattle.std.proofs.Common.{◌≢◌, []}
+use Rattle.std.proofs.Common.{arith, ◌≡◌}
+use Rattle.std.proofs.lemmas.Grind.{common_steps}
+use Rattle.csp_model.specs.DecideTokens as spec
+use Rattle.csp_model.proofs.TokensDecided.{integrity_decides}
 use Rattle.csp_token.proofs.matching.integrity_matches.Goals as goal
 
-pub returns-then-not-is_empty : goal.returns-then-not-is_empty
-returns-then-not-is_empty c =
-    let some : c.args.integrity.now ≢ [] = λ none. let is = c.is_empty.ensures.1 none in let not = c.if-not-is_empty.true in cc (is, not) in
-    (λ yes. (some, c.has_hashes.ensures.0 yes), λ h. c.has_hashes.ensures.1 h.1)
+pub returns-then-not-is_empty-clause-matches : goal.returns-then-not-is_empty-clause-matches
+returns-then-not-is_empty-clause-matches c =
+    let value : c.has_hashes.result ≡ spec.integrity_matches c.args.integrity.now c.args.sources.now =
+        grind (arith, common_steps) in
+    rw value (integrity_decides c.args.integrity.now c.args.sources.now)

@@ -1,9 +1,8 @@
-use Rattle.std.proofs.Common.{Some, sym, ◌∙◌}
-use Rattle.csp_url.specs.Reading.{url_from}
-use Rattle.csp_url.proofs.Steps.{from_text}
-use Rattle.csp_url.proofs.Valid.{url_valid}
+use Rattle.std.proofs.Common.{sym, ◌∙◌}
+use Rattle.csp_model.specs.Validity.{IsValidUrl}
+use Rattle.csp_url.proofs.Valid.{url_valid, if_ok}
 use Rattle.csp_url.proofs.read.read_url.Goals as goal
 
-pub returns-in-Some-clause-valid : goal.returns-in-Some-clause-valid
-returns-in-Some-clause-valid c =
-    url_valid c.args.text.now c.in-Some.url (from_text url_from c.args.text.now c.in_ok-parsed.parsed (Some c.in-Some.url) c.in_ok-parsed.ensures (sym c.in-Some.is ∙ c.in_ok-url.ensures))
+pub returns-clause-valid : goal.returns-clause-valid
+returns-clause-valid c =
+    if_ok IsValidUrl c.ok_or.result _ (sym c.in_ok-url_of.ensures ∙ c.ok_or.ensures.ok_part) (url_valid c.args.text.now)

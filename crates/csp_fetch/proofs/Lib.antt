@@ -1,0 +1,2 @@
+pub mod ListedDecided
+pub mod Redirected

@@ -1,5 +1,0 @@
-use Rattle.std.proofs.lemmas.Slice.Eq.{slice_eq-Decides, bytes_eq-Decides}
-use Rattle.csp_match.proofs.path.same_pieces.Goals as goal
-
-pub returns : goal.returns
-returns c = slice_eq-Decides bytes_eq-Decides c.args.left.now c.args.right.now c.eq.result c.eq.ensures

@@ -1,0 +1,46 @@
+-- An output has one of two statuses.
+use Rattle.std.proofs.Common.{◌≡◌, Bool, true, false, List, [], ◌∷◌, Result, Ok, Err, refl, ap, sym, ◌∙◌}
+use Rattle.std.proofs.Common.{cond}
+use Rattle.std.proofs.lemmas.Bool.{false≢true}
+use Rattle.csp_run.specs.declared.fault.Fault.{Fault}
+use Rattle.csp_run.specs.declared.files.Content.{Content}
+use Rattle.csp_run.specs.declared.files.Content.TheVariants as content
+use Rattle.csp_run.specs.declared.output.Built.{Built}
+use Rattle.csp_run.specs.declared.plan.Form.{Form}
+use Rattle.csp_run.specs.declared.plan.Form.TheVariants.{Judge}
+use Rattle.csp_run.specs.declared.status.Status.{Status}
+use Rattle.csp_run.specs.declared.status.Status.TheVariants.{Clean, Found}
+use Rattle.csp_run.specs.Due.{IsEndOf, IsDue}
+use Rattle.csp_run.specs.Files.{World}
+use Rattle.csp_run.specs.Outputs.{IsOutput}
+use Rattle.csp_run.specs.Words.{Plan, plan_of}
+
+-- the statuses of outputs
+abbrev pub is_done : Status → Bool
+is_done Clean = true
+is_done Found = true
+is_done status = false
+
+clean_or_found : (b : Bool) → is_done (cond b Found Clean) ≡ true
+clean_or_found true = refl
+clean_or_found false = refl
+
+printed_done : (form : Form) (found : Result (List Content) Fault) (built : Built)
+    → IsOutput form found (Ok built)
+    → is_done built.status ≡ true
+printed_done form (Err f) built is = absurd (cc is)
+printed_done Judge (Ok (content.Policies list ∷ content.Image there ∷ [])) built is =
+    ap is_done is.status ∙ clean_or_found _
+printed_done form (Ok contents) built is = absurd is
+
+ended_done : (w : World) (asked : Result Plan Fault) (built : Built) → IsEndOf w asked (Ok built)
+    → is_done built.status ≡ true
+ended_done w (Err f) built is = absurd (cc is.0)
+ended_done w (Ok plan) built is = printed_done plan.form is.0 built is.2
+
+-- another status is none of an output
+pub no_output : (w : World) (asked : Result Plan Fault) (built : Built) (status : Status)
+    → IsEndOf w asked (Ok built)
+    → is_done status ≡ false → built.status ≡ status → ⊥
+no_output w asked built status is other same =
+    false≢true (sym other ∙ ap is_done (sym same) ∙ ended_done w asked built is)

@@ -1,0 +1,121 @@
+-- Usage is due by the words alone.
+use Rattle.std.proofs.Common.{◌≡◌, ◌≢◌, ◌+◌, ℕ, Bool, true, false, List, [], ◌∷◌, length, Option, Some, None}
+use Rattle.std.proofs.Common.{Result, Ok, Err, inl, inr, ap, refl, sym, ◌∙◌, subst, cond}
+use Rattle.std.specs.Prelude.{nat_lt}
+use Rattle.csp_io.specs.Told.{Rose}
+use Rattle.csp_model.specs.declared.policy.Policy.{Policy}
+use Rattle.csp_model.specs.declared.url.Origin.{Origin}
+use Rattle.csp_model.specs.declared.url.Url.{Url}
+use Rattle.csp_model.specs.declared.verdict.Verdict.{Verdict}
+use Rattle.csp_policy.specs.declared.error.BlockError.{BlockError}
+use Rattle.csp_policy.specs.declared.error.BlockError.TheVariants as refusal
+use Rattle.csp_run.specs.declared.fault.Fault.{Fault}
+use Rattle.csp_run.specs.declared.fault.Fault.TheVariants as fault
+use Rattle.csp_run.specs.declared.fault.Limit.TheVariants as limit
+use Rattle.csp_run.specs.declared.fault.Role.{Role}
+use Rattle.csp_run.specs.declared.fault.Role.TheVariants as role
+use Rattle.csp_run.specs.declared.files.Content.{Content}
+use Rattle.csp_run.specs.declared.files.Content.TheVariants as content
+use Rattle.csp_run.specs.declared.output.Built.{Built}
+use Rattle.csp_run.specs.declared.plan.Form.{Form}
+use Rattle.csp_run.specs.declared.plan.Form.TheVariants.{Judge}
+use Rattle.csp_run.specs.declared.request.RequestError.{RequestError}
+use Rattle.csp_run.specs.declared.request.RequestError.TheVariants as request
+use Rattle.csp_run.specs.declared.status.Status.{Status}
+use Rattle.csp_run.specs.declared.status.Status.TheVariants as status
+use Rattle.csp_run.specs.Due.{End, IsDue, IsEndOf, end_status}
+use Rattle.csp_run.specs.Files.{World, HasStarted, AreRead, file_limit, read_as, read_within}
+use Rattle.csp_run.specs.Files.{policies_or_fault, image_or_fault}
+use Rattle.csp_run.specs.Laws.{IsFaulty}
+use Rattle.csp_run.specs.Lines.{judged_status}
+use Rattle.csp_run.specs.Outputs.{IsOutput}
+use Rattle.csp_run.specs.Texts.{exit_code, status_of}
+use Rattle.csp_run.specs.Words.{File, Plan, plan_of}
+use Rattle.csp_run.proofs.Statuses.{no_output}
+
+-- Files give no usage
+
+policies_never : (refused : Option BlockError) (ps : List Policy)
+    → ◌≢◌ {A = Result Content Fault} (Err fault.Usage) (policies_or_fault role.Policy refused ps)
+policies_never None ps is = absurd (cc is)
+policies_never (Some (refusal.BadLine line)) ps is = absurd (cc is)
+policies_never (Some refusal.TooManyPolicies) ps is = absurd (cc is)
+policies_never (Some refusal.TooManySources) ps is = absurd (cc is)
+policies_never (Some refusal.LongToken) ps is = absurd (cc is)
+policies_never (Some refusal.Memory) ps is = absurd (cc is)
+
+image_never : (found : Result Url RequestError)
+    → ◌≢◌ {A = Result Content Fault} (Err fault.Usage) (image_or_fault found)
+image_never (Ok there) is = absurd (cc is)
+image_never (Err request.NotBuilt) is = absurd (cc is)
+image_never (Err request.BadUrl) is = absurd (cc is)
+image_never (Err request.Memory) is = absurd (cc is)
+
+within_never : (o : Origin) (file : Role) (bytes : List ℕ)
+    → ◌≢◌ {A = Result Content Fault} (Err fault.Usage) (read_within o file bytes)
+within_never o role.Policy bytes is = policies_never _ _ is
+within_never o role.Requests bytes is = image_never _ is
+
+bytes_never : (o : Origin) (file : Role) (bytes : List ℕ)
+    → ◌≢◌ {A = Result Content Fault} (Err fault.Usage) (read_as o file bytes)
+bytes_never o file bytes is =
+    let P : Bool → Type 0 = λ b.
+    ◌≡◌ {A = Result Content Fault} (Err fault.Usage)
+    (cond b (Err (fault.TooLarge file limit.Bytes)) (read_within o file bytes)) → ⊥ in
+    elim (nat_lt file_limit (length bytes)) as P [
+      | true ↦ λ e. absurd (cc e)
+      | false ↦ λ e. within_never o file bytes e
+    ] is
+
+files_never : (w : World) (o : Origin) (n : ℕ) (files : List File) → AreRead w o n files (Err fault.Usage) → ⊥
+files_never w o n [] are = are
+files_never w o n (file ∷ files) are = elim are [
+  | inl here ↦ elim here.0 [
+    | inl failed ↦ absurd (cc failed.fault)
+    | inr held ↦ bytes_never o file.role held.bytes held.found_is
+  ]
+  | inr later ↦ files_never w o (n + 1) files later.2
+]
+
+-- Outputs have other statuses
+
+-- a fault with the status of usage
+usage_fault : (f : Fault) → status_of f ≡ status.Usage → f ≡ fault.Usage
+usage_fault fault.Usage is = refl
+usage_fault f is = absurd (cc is)
+
+-- no command gives a fault after its files are read
+no_fault : (form : Form) (contents : List Content) (f : Fault) → IsOutput form (Ok contents) (Err f) → ⊥
+no_fault Judge (content.Policies list ∷ content.Image there ∷ []) f is = is
+no_fault form contents f is = is
+
+after_files : (w : World) (plan : Plan) (found : Result (List Content) Fault)
+    → AreRead w plan.origin 0 plan.files found
+    → IsOutput plan.form found (Err fault.Usage) → ⊥
+after_files w plan (Ok contents) are is = no_fault plan.form contents fault.Usage is
+after_files w plan (Err g) are is =
+    let P : Fault → Type 0 = λ h. AreRead w plan.origin 0 plan.files (Err h) in
+    let same : g ≡ fault.Usage = cc is in
+    files_never w plan.origin 0 plan.files (subst P same are)
+
+by_the_words : (w : World) (asked : Result Plan Fault) → IsEndOf w asked (Err fault.Usage)
+    → asked ≡ Err fault.Usage
+by_the_words w (Ok plan) is = absurd (after_files w plan is.0 is.1 is.2)
+by_the_words w (Err f) is = let same : f ≡ fault.Usage = cc (is.0) in ap (λ (g : Fault). Err g) same
+
+ends_so : (w : World) (asked : Result Plan Fault) (end : End) → IsEndOf w asked end
+    → end_status end ≡ status.Usage
+    → asked ≡ Err fault.Usage
+ends_so w asked (Ok built) is usage = absurd (no_output w asked built status.Usage is refl usage)
+ends_so w asked (Err f) is usage =
+    let P : Fault → Type 0 = λ g. IsEndOf w asked (Err g) in
+    by_the_words w asked (subst P (usage_fault f usage) is)
+
+no_memory : (end : End) → end_status end ≡ status.Usage → ◌≢◌ {A = End} end (Err fault.Memory)
+no_memory end usage same =
+    let e : status.NoMemory ≡ status.Usage = sym (ap end_status same) ∙ usage in absurd (cc e)
+
+-- usage is due only where the words have none of the forms
+pub usage_only_by_words : (w : World) (words : List (List ℕ)) (end : End) → IsDue w words end
+    → end_status end ≡ status.Usage → plan_of words ≡ Err fault.Usage
+usage_only_by_words w words end due usage = ends_so w (plan_of words) end (due (no_memory end usage)) usage

@@ -1,0 +1,110 @@
+//! The texts of faults, which are written in pieces that take no memory.
+ghost use Rattle.std.specs.Prelude.{◌≡◌, ◌≤◌, OnOk, OnErr, map};
+ghost use Rattle.std.specs.List.{flat_map};
+ghost use Rattle.csp_io.specs.Told.{Rose, GrewBy, GrewByPrefix};
+ghost use Rattle.csp_run.specs.Texts as texts;
+
+use crate::fault::{Fault, Limit, Role, Unbuilt};
+use csp_io::{Failed, Sink, write_all};
+use itoa::Buffer;
+
+#[tactic(auto, unfolding(crate::specs::Texts::unbuilt_text))]
+fn unbuilt_text<'a>(what: Unbuilt) -> &'a str
+    ensures { result.now ≡ texts.unbuilt_text what }
+{
+    match what {
+        Unbuilt::Command => "command",
+        Unbuilt::Requests => "requests",
+    }
+}
+
+#[tactic(auto, unfolding(crate::specs::Texts::role_text))]
+fn role_text<'a>(role: Role) -> &'a str
+    ensures { result.now ≡ texts.role_text role }
+{
+    match role {
+        Role::Policy => "policy",
+        Role::Requests => "requests",
+    }
+}
+
+#[tactic(auto, unfolding(crate::specs::Texts::limit_text))]
+fn limit_text<'a>(limit: Limit) -> &'a str
+    ensures { result.now ≡ texts.limit_text limit }
+{
+    match limit {
+        Limit::Bytes => "bytes",
+        Limit::Policies => "policies",
+        Limit::Sources => "sources",
+        Limit::Token => "token",
+    }
+}
+
+// Writes the pieces one after the other.
+fn write_pieces<S: Sink>(out: &mut S, pieces: &[&str]) -> Result<(), Failed>
+    ensures taken { OnOk result
+        (GrewBy (S.taken out.old) (S.taken out.new) (flat_map (λ piece. piece.now) pieces.now)) }
+    ensures prefix { OnErr result
+        (GrewByPrefix (S.taken out.old) (S.taken out.new) (flat_map (λ piece. piece.now) pieces.now)) }
+    ensures later { S.faults out.old ≤ S.faults out.new }
+    ensures cause { OnErr result (Rose (S.faults out.old) (S.faults out.new)) }
+{
+    for piece in pieces {
+        match write_all(out, piece.as_bytes()) {
+            Err(failed) => return Err(failed),
+            Ok(()) => {}
+        }
+    }
+    Ok(())
+}
+
+// The pieces of a fault's text. A number is printed into the buffer.
+#[tactic(auto, unfolding(crate::specs::Texts::fault_pieces))]
+fn pieces<'a>(fault: Fault, digits: &'a mut Buffer) -> [&'a str; 5]
+    ensures { map (λ piece. piece.now) result ≡ texts.fault_pieces fault }
+{
+    match fault {
+        Fault::Usage => [
+            "usage: judge ORIGIN POLICY REQUESTS",
+            " | report ORIGIN POLICY REQUESTS",
+            " | compare ORIGIN FIRST SECOND",
+            " | check ORIGIN FIRST SECOND PROOF",
+            " | drill N\n",
+        ],
+        Fault::BadOrigin => ["bad origin", "", "", "", "\n"],
+        Fault::NotBuilt { what } => ["not built: ", unbuilt_text(what), "", "", "\n"],
+        Fault::BadPolicy { file, line } => {
+            [
+                "bad policy: ",
+                role_text(file),
+                " line ",
+                digits.format(line),
+                "\n",
+            ]
+        }
+        Fault::TooLarge { file, limit } => {
+            ["too large: ", role_text(file), " ", limit_text(limit), "\n"]
+        }
+        Fault::BadUrl { request } => [
+            "bad requests: request ",
+            digits.format(request),
+            " ",
+            "url",
+            "\n",
+        ],
+        Fault::Read { file } => ["read fault: ", role_text(file), "", "", "\n"],
+        Fault::Memory => ["no memory", "", "", "", "\n"],
+    }
+}
+
+/// Writes the text of a fault. It takes no memory.
+pub fn write_fault<S: Sink>(out: &mut S, fault: Fault) -> Result<(), Failed>
+    ensures taken { OnOk result (GrewBy (S.taken out.old) (S.taken out.new) (texts.fault_text fault)) }
+    ensures prefix { OnErr result (GrewByPrefix (S.taken out.old) (S.taken out.new) (texts.fault_text fault)) }
+    ensures later { S.faults out.old ≤ S.faults out.new }
+    ensures cause { OnErr result (Rose (S.faults out.old) (S.faults out.new)) }
+{
+    let mut digits = Buffer::new();
+    let pieces = pieces(fault, &mut digits);
+    write_pieces(out, &pieces)
+}

@@ -1,0 +1,32 @@
+//! Laws of what `run` may answer, each the contract of a function with no body.
+ghost use Rattle.std.specs.Prelude.{◌≡◌, ℕ, ◌+◌, List, ◌∷◌, Result, Err};
+ghost use Rattle.csp_model.specs.declared.url.Origin.{Origin};
+ghost use Rattle.csp_run.specs.Due.{End, IsDue, end_status};
+ghost use Rattle.csp_run.specs.Files.{World, HasStarted, AreRead};
+ghost use Rattle.csp_run.specs.Laws.{IsFaulty};
+ghost use Rattle.csp_run.specs.Texts.{exit_code};
+ghost use Rattle.csp_run.specs.Words.{File, plan_of};
+ghost use Rattle.csp_run.specs.declared.fault.Fault.{Fault};
+ghost use Rattle.csp_run.specs.declared.fault.Fault.TheVariants as fault;
+ghost use Rattle.csp_run.specs.declared.files.Content.{Content};
+ghost use Rattle.csp_run.specs.declared.status.Status.{Status};
+ghost use Rattle.csp_run.specs.declared.status.Status.TheVariants as status;
+
+/// A run ends with `Usage` only where its words have none of the forms, whatever its files hold.
+pub fn usage_comes_only_by_the_words()
+    ensures { (w : World) (words : List (List ℕ)) (end : End) → IsDue w words end
+        → end_status end ≡ status.Usage → plan_of words ≡ Err fault.Usage }
+{}
+
+/// Where a file's bytes are told and have a fault, and the file didn't fail, that fault is what is found of it
+/// and the files after it, and none of these was started.
+pub fn a_told_fault_is_found()
+    ensures { (w : World) (origin : Origin) (n : ℕ) (file : File) (files : List File) (f : Fault)
+        (found : Result (List Content) Fault) → IsFaulty w origin file f
+        → AreRead w origin n (file ∷ files) found → (found ≡ Err f) × HasStarted w (n + 1) }
+{}
+
+/// Each status has an exit code of its own.
+pub fn exit_codes_differ()
+    ensures { (one other : Status) → exit_code one ≡ exit_code other → one ≡ other }
+{}

@@ -1,0 +1,117 @@
+//! Tests of the inputs of csp_io, and of a read of each kind that fails.
+ghost use Rattle.std.specs.Prelude.{◌<◌};
+
+use crate::values::numbers;
+use csp_io::{Failed, FileInputs, Inputs, MemoryInputs, ReadError, StartError, read_all};
+use csp_model::{Bytes, List, Memory, Text};
+use std::alloc::Global;
+use std::fs;
+use std::rt::Files;
+use std::test::Fail;
+
+// The files of these names and bytes.
+fn files(alloc: Global, all: &[(&str, &str)]) -> Result<List<(Text, Bytes)>, Memory> {
+    let mut made = List::new(alloc);
+    for (name, bytes) in all {
+        let bytes = Bytes::new(alloc, bytes.as_bytes())?;
+        made.push((Text::new(alloc, name)?, bytes))?;
+    }
+    Ok(made)
+}
+
+// Reads "hello", which is neither the first file nor the only one of its name.
+fn read_hello(
+    alloc: Global,
+    piece: usize,
+    limit: u8,
+    failing: &[u64],
+) -> Result<Result<Bytes, ReadError>, Memory>
+    requires { 0 < piece }
+{
+    let held = files(alloc, &[("a", "other"), ("b", "hello"), ("b", "second")])?;
+    let mut inputs = MemoryInputs::new(held, piece, numbers(alloc, failing)?);
+    Ok(read_all(alloc, &mut inputs, "b", usize::from(limit)))
+}
+
+#[test]
+fn whole_files_at_and_past_the_limit(rt: HostRuntime) -> Result<(), Fail> {
+    let alloc = rt.alloc();
+    // The bytes a read gives, the limit, the calls that fail, and why the file "hello" isn't read.
+    let rows: [(usize, u8, &[u64], Option<ReadError>); 16] = [
+        (1, 5, &[], None),
+        (3, 5, &[], None),
+        (5, 5, &[], None),
+        (9, 200, &[], None),
+        (1, 4, &[], Some(ReadError::TooLong)),
+        (3, 4, &[], Some(ReadError::TooLong)),
+        (9, 0, &[], Some(ReadError::TooLong)),
+        // A start and six reads, of which the last finds the end.
+        (1, 5, &[0], Some(ReadError::Fault)),
+        (1, 5, &[3], Some(ReadError::Fault)),
+        (1, 5, &[6], Some(ReadError::Fault)),
+        (1, 5, &[7], None),
+        // A start and three reads.
+        (3, 5, &[3], Some(ReadError::Fault)),
+        (3, 5, &[4], None),
+        // A start and three reads of a byte, one past the limit.
+        (1, 2, &[3], Some(ReadError::Fault)),
+        (1, 2, &[4], Some(ReadError::TooLong)),
+        (3, 2, &[2], Some(ReadError::TooLong)),
+    ];
+    let hello = Bytes::new(alloc, b"hello")?;
+    for (piece, limit, failing, error) in rows {
+        assert!(rt; 0 < piece);
+        let got = read_hello(alloc, piece, limit, failing)?;
+        assert_eq!(rt; got.as_ref().ok(), error.is_none().then_some(&hello));
+        assert_eq!(rt;
+            got.err(),
+            error,
+            "pieces of {piece}, limit {limit}, calls {failing:?}"
+        );
+    }
+    Ok(())
+}
+
+#[test]
+fn files_in_memory(rt: HostRuntime) -> Result<(), Fail> {
+    let alloc = rt.alloc();
+    let held = files(alloc, &[("a", "hello"), ("a", "second")])?;
+    let mut inputs = MemoryInputs::new(held, 3, numbers(alloc, &[3])?);
+    let mut into = *b"....";
+    assert_eq!(rt; inputs.start("b"), Err(StartError::Failed));
+    assert_eq!(rt; inputs.start("a"), Ok(()));
+    assert_eq!(rt; inputs.read(&mut into), Ok(3));
+    assert_eq!(rt; into, *b"hel.");
+    assert_eq!(rt; inputs.read(&mut into), Err(Failed));
+    Ok(())
+}
+
+fn read_file(rt: &impl Files, alloc: Global, name: &str, limit: u8) -> Result<Bytes, ReadError> {
+    let mut inputs = FileInputs::new(rt, alloc);
+    read_all(alloc, &mut inputs, name, usize::from(limit))
+}
+
+#[test]
+fn files_of_the_system(rt: HostRuntime) -> Result<(), Fail> {
+    let alloc = rt.alloc();
+    let name = "csp_tests.tmp";
+    fs::write(&rt, name, "hello")?;
+    let whole = read_file(&rt, alloc, name, 5);
+    let short = read_file(&rt, alloc, name, 4);
+    fs::remove_file(&rt, name)?;
+    let gone = read_file(&rt, alloc, name, 5);
+    assert_eq!(rt; whole?.as_slice(), b"hello".as_slice());
+    assert_eq!(rt; short.err(), Some(ReadError::TooLong));
+    assert_eq!(rt; gone.err(), Some(ReadError::Fault));
+    Ok(())
+}
+
+#[test]
+fn a_folder_opens_and_does_not_read(rt: HostRuntime) {
+    let mut inputs = FileInputs::new(&rt, rt.alloc());
+    let mut into = [0; 4];
+    assert_eq!(rt; inputs.start("."), Ok(()));
+    assert_eq!(rt; inputs.read(&mut into), Err(Failed));
+    let whole = read_file(&rt, rt.alloc(), ".", 5);
+    assert_eq!(rt; whole.err(), Some(ReadError::Fault));
+}

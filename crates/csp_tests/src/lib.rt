@@ -1,0 +1,30 @@
+//! Tests of the public calls of all crates: worked examples and the vectors of the standards as tables, each call once
+//! with memory enough, and a read, a write and an allocation that fail.
+//!
+//! Nothing stands on this crate. What a proved clause says of every input is not tested again.
+#![tactic(auto)]
+
+#[cfg(test)]
+mod atoms;
+#[cfg(test)]
+mod inputs;
+#[cfg(test)]
+mod matching;
+#[cfg(test)]
+mod model;
+#[cfg(test)]
+mod policies;
+#[cfg(test)]
+mod runs;
+#[cfg(test)]
+mod shapes;
+#[cfg(test)]
+mod sinks;
+#[cfg(test)]
+mod sources;
+#[cfg(test)]
+mod tokens;
+#[cfg(test)]
+mod urls;
+#[cfg(test)]
+mod values;

@@ -1,0 +1,148 @@
+//! Tests of csp_match.
+use crate::values::{policy, source, sources};
+use csp_match::{governing, governor, list_matches, source_matches};
+use csp_model::Name;
+use csp_url::{read_origin, read_url};
+use std::process::Abort;
+use std::test::Fail;
+
+// Whether a token matches a URL in a policy of an origin, where a redirect led to it and where none did.
+fn matches(
+    rt: &(impl Abort + AllocGlobal),
+    origin: &str,
+    token: &str,
+    url: &str,
+) -> Result<(bool, bool), Fail> {
+    let source = source(rt, token)?;
+    let origin = read_origin(rt.alloc(), origin)?;
+    let url = read_url(rt.alloc(), url)?;
+    Ok((
+        source_matches(&source, &origin, &url, true),
+        source_matches(&source, &origin, &url, false),
+    ))
+}
+
+// A token, a URL, and whether they match in a policy of `https://a.example`.
+const OWN: [(&str, &str, bool); 23] = [
+    ("https://b.example", "https://b.example/x.png", true),
+    ("http://b.example", "https://b.example/x.png", true),
+    ("https://b.example", "http://b.example/x.png", false),
+    ("http://a.example:80", "https://a.example/x.png", false),
+    ("https://a.example:443", "https://a.example/x.png", true),
+    ("localhost:*", "https://localhost:3000/x.png", true),
+    ("localhost:*", "http://localhost:3000/x.png", false),
+    ("localhost", "https://localhost:3000/x.png", false),
+    ("localhost:65536", "https://localhost:3000/", false),
+    ("https:", "https://b.example/x.png", true),
+    ("https:", "data:,", false),
+    ("ftp:", "https://b.example/x.png", false),
+    ("ftp:", "data:,", false),
+    ("data:", "https://b.example/x.png", false),
+    ("data:", "data:,", true),
+    ("*", "https://b.example/x.png", true),
+    ("*", "data:,", false),
+    ("'self'", "https://b.example/x.png", false),
+    ("'self'", "data:,", false),
+    ("'self'", "https://a.example/", true),
+    ("'self'", "wss://a.example/", true),
+    ("'none'", "https://b.example/x.png", false),
+    ("'none'", "data:,", false),
+];
+
+// The same in a policy of an opaque origin.
+const OPAQUE: [(&str, &str, bool); 13] = [
+    ("https://b.example", "https://b.example/x.png", true),
+    ("http://b.example", "https://b.example/x.png", true),
+    ("https://b.example", "http://b.example/x.png", false),
+    ("http://a.example:80", "https://a.example/x.png", false),
+    ("https://a.example:443", "https://a.example/x.png", true),
+    ("localhost:*", "https://localhost:3000/x.png", false),
+    ("localhost:*", "http://localhost:3000/x.png", false),
+    ("https://*.a.example", "https://x.a.example/", true),
+    ("https://*.a.example", "https://a.example/", false),
+    ("https://*.a.example", "https://xa.example/", false),
+    ("https://10.0.0.1", "https://10.0.0.1/", true),
+    ("https://*", "https://10.0.0.1/", false),
+    ("https://*.0.0.1", "https://10.0.0.1/", false),
+];
+
+#[test]
+fn tokens(rt: HostRuntime) -> Result<(), Fail> {
+    for (token, url, wanted) in OWN {
+        let found = matches(&rt, "https://a.example", token, url)?;
+        assert_eq!(rt; found, (wanted, wanted), "{token} {url}");
+    }
+    for (token, url, wanted) in OPAQUE {
+        let found = matches(&rt, "null", token, url)?;
+        assert_eq!(rt; found, (wanted, wanted), "{token} {url}");
+    }
+    Ok(())
+}
+
+// Paths aren't compared where a redirect led to the URL.
+#[test]
+fn paths(rt: HostRuntime) -> Result<(), Fail> {
+    for (url, wanted) in [
+        ("https://a.example/x", false),
+        ("https://a.example/x/", true),
+        ("https://a.example/x/y", true),
+        ("https://a.example/q", false),
+    ] {
+        let found = matches(&rt, "null", "https://a.example/x/", url)?;
+        assert_eq!(rt; found, (true, wanted), "{url}");
+    }
+    Ok(())
+}
+
+#[test]
+fn lists(rt: HostRuntime) -> Result<(), Fail> {
+    let origin = read_origin(rt.alloc(), "https://a.example")?;
+    let url = read_url(rt.alloc(), "https://b.example/x.png")?;
+    for (value, wanted) in [("", false), ("ftp:", false), ("ftp: https:", true)] {
+        let sources = sources(&rt, value)?;
+        assert_eq!(rt;
+            list_matches(&sources, &origin, &url, false),
+            wanted,
+            "{value}"
+        );
+    }
+    Ok(())
+}
+
+// The directives of a policy, the one that is asked for, and the place and the name of the one that governs.
+#[test]
+fn fallback(rt: HostRuntime) -> Result<(), Fail> {
+    for (value, effective, wanted) in [
+        (
+            "default-src",
+            Name::ScriptSrcElem,
+            Some((0, Name::DefaultSrc)),
+        ),
+        (
+            "default-src; script-src",
+            Name::ScriptSrcElem,
+            Some((1, Name::ScriptSrc)),
+        ),
+        (
+            "default-src; img-src",
+            Name::ImgSrc,
+            Some((1, Name::ImgSrc)),
+        ),
+        ("default-src", Name::WorkerSrc, Some((0, Name::DefaultSrc))),
+        ("script-src", Name::WorkerSrc, Some((0, Name::ScriptSrc))),
+        (
+            "script-src; child-src",
+            Name::WorkerSrc,
+            Some((1, Name::ChildSrc)),
+        ),
+        ("default-src", Name::BaseUri, None),
+        ("sandbox", Name::ImgSrc, None),
+    ] {
+        let policy = policy(&rt, value)?;
+        let place = governing(&policy, effective);
+        assert_eq!(rt; place, wanted.map(|(place, _)| place), "{value}");
+        let name = governor(&policy, effective).map(|found| found.name);
+        assert_eq!(rt; name, wanted.map(|(_, name)| name), "{value}");
+    }
+    Ok(())
+}

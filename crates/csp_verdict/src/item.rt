@@ -1,0 +1,78 @@
+//! The items of a verdict: the policies that don't allow a check.
+ghost use Rattle.std.specs.Prelude.{◌≡◌, ◌≤◌, ◌++◌, not, IfOk, OnOk, length};
+ghost use Rattle.std.specs.List.{list_any};
+ghost use Rattle.csp_model.specs.Policies.{policy_limit};
+ghost use Rattle.csp_model.specs.Verdict as spec;
+
+use crate::allows::allows;
+use csp_match::governor;
+use csp_model::{Check, Disposition, Item, List, Memory, Name, Policy, PolicyList};
+
+// Adds the items of a check: one for each policy that doesn't allow it, in order; for a base URL only those up to and with
+// the first enforced one (section 6.3.1.1). Answers whether one is enforced, that is whether the list blocks the check.
+pub fn push_items(items: &mut List<Item>, list: &PolicyList, check: &Check) -> Result<bool, Memory>
+    requires { length list.now.policies ≤ policy_limit }
+    ensures items { OnOk result (items.new ≡ items.old ++ spec.items_of list.now check.now) }
+    ensures blocked { IfOk result (λ blocked. blocked ≡ not (spec.list_allows list.now check.now)) }
+{
+    let stops = matches!(check, Check::Base { .. });
+    let mut blocked = false;
+    for (number, policy) in list.policies.as_slice().iter().enumerate() {
+        let Some(item) = item_of(number as u32, policy, check) else {
+            continue;
+        };
+        items.push(item)?;
+        if item.disposition == Disposition::Enforce {
+            if stops {
+                return Ok(true);
+            }
+            blocked = true;
+        }
+    }
+    Ok(blocked)
+}
+
+// The item of a policy that doesn't allow the check.
+fn item_of(number: u32, policy: &Policy, check: &Check) -> Option<Item>
+    ensures { result ≡ spec.item_of number policy.now check.now }
+{
+    if allows(policy, check) {
+        return None;
+    }
+    let effective = effective_name(check);
+    let found = governor(policy, effective)?;
+    Some(Item {
+        policy: number,
+        disposition: policy.disposition,
+        effective,
+        governing: found.name,
+    })
+}
+
+// The directive that a check asks for.
+fn effective_name(check: &Check) -> Name
+    ensures { result ≡ spec.effective_name check.now }
+{
+    match check {
+        Check::Fetch { group, .. } => group.directive(),
+        Check::Inline { kind, .. } => kind.directive(),
+        Check::Eval | Check::Wasm => Name::ScriptSrc,
+        Check::Base { .. } => Name::BaseUri,
+        Check::Form { .. } => Name::FormAction,
+        Check::Ancestor { .. } | Check::OpaqueAncestor => Name::FrameAncestors,
+        Check::Capability { .. } | Check::WorkerStart => Name::Sandbox,
+    }
+}
+
+// Whether some item is of an enforced policy.
+pub fn has_enforced(items: &[Item]) -> bool
+    ensures { result ≡ list_any spec.is_enforced items.now }
+{
+    items.iter().any(is_enforced)
+}
+
+fn is_enforced(item: &Item) -> bool
+    ensures { result ≡ spec.is_enforced item.now }
+{
+    item.disposition == Disposition::Enforce
+}

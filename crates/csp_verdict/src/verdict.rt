@@ -1,0 +1,28 @@
+//! The verdict on a request.
+ghost use Rattle.std.specs.Prelude.{◌≡◌, ◌≤◌, not, IfOk, length};
+ghost use Rattle.csp_model.specs.Policies.{policy_limit};
+ghost use Rattle.csp_model.specs.Verdict as spec;
+
+use crate::item::{has_enforced, push_items};
+use csp_model::{Described, List, Memory, PolicyList, Verdict};
+use std::alloc::Global;
+
+/// The verdict of a list of at most 64 policies on a described request (Content Security Policy Level 3, section 4.1.2).
+///
+/// The checks are judged in order, up to and with the first that the list blocks. The verdict has an item for each policy
+/// that doesn't allow one of them, report-only ones too, in the order of the list; of a base URL the items end with the
+/// first enforced one. The request is blocked where an item is of an enforced policy.
+pub fn judge(alloc: Global, list: &PolicyList, described: &Described) -> Result<Verdict, Memory>
+    requires { length list.now.policies ≤ policy_limit }
+    ensures verdict { IfOk result (λ made. made ≡ spec.verdict_of list.now described.now.checks) }
+    ensures blocked { IfOk result (λ made. made.blocked ≡ not (spec.allows_all list.now described.now.checks)) }
+{
+    let mut items = List::new(alloc);
+    for check in described.checks.as_slice() {
+        if push_items(&mut items, list, check)? {
+            break;
+        }
+    }
+    let blocked = has_enforced(items.as_slice());
+    Ok(Verdict { blocked, items })
+}
