@@ -1,12 +1,11 @@
 -- Tables of cases, of which each holds.
-use Rattle.std.proofs.Common.{◌≡◌, Bool, true, List, [], ◌∷◌, All, map}
+use Rattle.std.proofs.Common.{◌≡◌, ℕ, Bool, true, not, List, [], ◌∷◌, All, map}
 use Rattle.std.specs.Bool.{Decides}
 use Rattle.std.specs.List.{list_all}
+use Rattle.std.proofs.lemmas.Bool.Decides.{Decides-not}
 use Rattle.csp_model.specs.Verdict.{verdict_of}
 use Rattle.csp_model.proofs.Deciding.{holds, all_decides}
 use Rattle.csp_examples.proofs.Values.{headed}
-use Rattle.std.proofs.lemmas.Bool.Decides.{Decides-not}
-use Rattle.std.proofs.Common.{ℕ, not}
 use Rattle.csp_model.specs.declared.check.Check.{Check}
 use Rattle.csp_model.specs.declared.policy.PolicyList.{PolicyList}
 use Rattle.csp_model.specs.declared.verdict.Verdict.{Verdict}
