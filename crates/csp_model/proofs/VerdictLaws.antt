@@ -44,7 +44,7 @@ either : (x y a b : Bool) → x ≡ not a → y ≡ not b → (x || y) ≡ not (
 either x y true b p q = ap (λ (z : Bool). z || y) p ∙ q
 either x y false b p q = ap (λ (z : Bool). z || y) p
 
-items_any : (n : ℕ) (ps : List Policy) (asked : Check)
+pub items_any : (n : ℕ) (ps : List Policy) (asked : Check)
     → list_any is_enforced (items_from n ps asked)
     ≡ not (list_all (λ (p : Policy). not (is_enforce p.disposition) || allows p asked) ps)
 items_any n [] asked = refl

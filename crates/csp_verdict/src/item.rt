@@ -3,8 +3,9 @@ ghost use Rattle.std.specs.Prelude.{◌≡◌, ◌≤◌, ◌++◌, not, IfOk, O
 ghost use Rattle.std.specs.List.{list_any};
 ghost use Rattle.csp_model.specs.Policies.{policy_limit};
 ghost use Rattle.csp_model.specs.Verdict as spec;
+ghost use Rattle.csp_verdict.specs.Stops.{stops};
 
-use crate::allows::allows;
+use crate::allowed::allows;
 use csp_match::governor;
 use csp_model::{Check, Disposition, Item, List, Memory, Name, Policy, PolicyList};
 
@@ -15,14 +16,14 @@ pub fn push_items(items: &mut List<Item>, list: &PolicyList, check: &Check) -> R
     ensures items { OnOk result (items.new ≡ items.old ++ spec.items_of list.now check.now) }
     ensures blocked { IfOk result (λ blocked. blocked ≡ not (spec.list_allows list.now check.now)) }
 {
-    let stops = matches!(check, Check::Base { .. });
+    let stops = is_base(check);
     let mut blocked = false;
     for (number, policy) in list.policies.as_slice().iter().enumerate() {
         let Some(item) = item_of(number as u32, policy, check) else {
             continue;
         };
         items.push(item)?;
-        if item.disposition == Disposition::Enforce {
+        if is_enforced(&item) {
             if stops {
                 return Ok(true);
             }
@@ -30,6 +31,13 @@ pub fn push_items(items: &mut List<Item>, list: &PolicyList, check: &Check) -> R
         }
     }
     Ok(blocked)
+}
+
+// Whether the check's items end with the first enforced one.
+fn is_base(check: &Check) -> bool
+    ensures { result ≡ stops check.now }
+{
+    matches!(check, Check::Base { .. })
 }
 
 // The item of a policy that doesn't allow the check.

@@ -2,9 +2,9 @@
 //! 4.2 and 6.3.1.1).
 #![tactic(auto)]
 
-mod allows;
+mod allowed;
 mod item;
 mod verdict;
 
-pub use allows::{allows, list_allows};
+pub use allowed::{allows, list_allows};
 pub use verdict::judge;

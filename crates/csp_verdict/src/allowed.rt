@@ -1,5 +1,6 @@
 //! Whether a policy, or a list of policies, allows a check.
 ghost use Rattle.std.specs.Prelude.{◌≡◌, ◌↔◌, ◌||◌, not, IsTrue};
+ghost use Rattle.std.specs.List.{list_all};
 ghost use Rattle.csp_model.specs.Laws.{EnforcedAllow};
 ghost use Rattle.csp_model.specs.Verdict as spec;
 ghost use Rattle.csp_model.specs.Verdict.{Allows};
@@ -8,7 +9,8 @@ use csp_fetch::fetch_allows;
 use csp_inline::{eval_allows, inline_allows, wasm_allows};
 use csp_model::{Check, Disposition, Policy, PolicyList};
 use csp_nav::{
-    ancestor_allows, base_allows, capability_allows, form_allows, opaque_ancestor_allows, worker_start_allows,
+    ancestor_allows, base_allows, capability_allows, form_allows, opaque_ancestor_allows,
+    worker_start_allows,
 };
 
 /// Whether a policy allows a check, whatever its disposition. Only a `sandbox` that isn't enforced allows everything.
@@ -25,7 +27,15 @@ pub fn allows(policy: &Policy, check: &Check) -> bool
             nonce,
             integrity,
             parser_inserted,
-        } => fetch_allows(policy, *group, url, *redirects, nonce, integrity, *parser_inserted),
+        } => fetch_allows(
+            policy,
+            *group,
+            url,
+            *redirects,
+            nonce,
+            integrity,
+            *parser_inserted,
+        ),
         Check::Inline {
             kind,
             nonce,
@@ -43,15 +53,18 @@ pub fn allows(policy: &Policy, check: &Check) -> bool
 }
 
 /// Whether a list of policies allows a check: each of its enforced policies does.
-#[tactic(auto, using(csp_model::proofs::VerdictDecided::list_allows_decides))]
 pub fn list_allows(list: &PolicyList, check: &Check) -> bool
     ensures value { result ≡ spec.list_allows list.now check.now }
     ensures each { IsTrue result ↔ EnforcedAllow list.now check.now }
 {
-    list.policies
-        .as_slice()
-        .iter()
-        .all(|policy| enforced_allows(policy, check))
+    each_enforced_allows(list.policies.as_slice(), check)
+}
+
+fn each_enforced_allows(policies: &[Policy], check: &Check) -> bool
+    ensures { result
+        ≡ list_all (λ p. not (spec.is_enforce p.disposition) || spec.allows p check.now) policies.now }
+{
+    policies.iter().all(|policy| enforced_allows(policy, check))
 }
 
 fn enforced_allows(policy: &Policy, check: &Check) -> bool
