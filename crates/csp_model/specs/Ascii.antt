@@ -1,6 +1,6 @@
 -- Words on ASCII texts (Infra Standard, section 4.6).
-use Rattle.std.specs.Prelude.{ℕ, ◌-◌, ◌==◌, Bool, List, length, map, filter, take, slice_index, nat_lt, if◌then◌else◌}
-use Rattle.std.specs.List.{slice_split, list_all}
+use Rattle.std.specs.Prelude.{ℕ, ◌-◌, ◌==◌, Bool, List, [], ◌∷◌, length, map, filter, take, drop, nat_lt, nat_eq, if◌then◌else◌}
+use Rattle.std.specs.List.{slice_split, list_all, ends_with, prefix_len}
 use Rattle.std.specs.Char.{is_ascii_whitespace, to_ascii_lowercase}
 
 -- the text in ASCII lower case
@@ -18,13 +18,17 @@ is_nonempty xs = nat_lt 0 (length xs)
 abbrev pub without_last : {A : Type 0} → List A → List A
 without_last xs = take (length xs - 1) xs
 
--- the text ends in this byte, which isn't 0
+-- the text ends in this byte
 abbrev pub ends_in : ℕ → List ℕ → Bool
-ends_in c text = slice_index text (length text - 1) == c
+ends_in c text = ends_with nat_eq text (c ∷ [])
 
 -- the text without one such byte at its end
 abbrev pub without_final : ℕ → List ℕ → List ℕ
 without_final c text = if ends_in c text then without_last text else text
+
+-- what is left behind the longest front whose bytes pass
+abbrev pub skip_while : (ℕ → Bool) → List ℕ → List ℕ
+skip_while p text = drop (prefix_len p text) text
 
 -- the parts of a text between these bytes
 abbrev pub split_at : ℕ → List ℕ → List (List ℕ)

@@ -1,11 +1,11 @@
 -- The source of a token (Content Security Policy Level 3, section 2.3.1), as a function that computes. The
 -- grammar says what is a source; this says which one it is, and the two are one.
-use Rattle.std.specs.Prelude.{ℕ, Bool, ◌&&◌, ◌||◌, not, nat_eq, ◌==◌, if◌then◌else◌, List, [], ◌∷◌, ◌++◌, drop, take, length, Option, Some, None, unwrap_or, codes}
+use Rattle.std.specs.Prelude.{ℕ, Bool, ◌&&◌, ◌||◌, not, nat_eq, ◌==◌, if◌then◌else◌, List, [], ◌∷◌, ◌++◌, drop, take, length, Option, Some, None, unwrap_or, codes, take_while}
 use Rattle.std.specs.List.{starts_with, find}
 use Rattle.std.specs.Option.{option_map, option_and_then}
 use Rattle.std.specs.Str.{bytes_eq}
 use Rattle.csp_model.specs.Bytes.{quote, star, dot, slash, colon}
-use Rattle.csp_model.specs.Ascii.{lower, ends_in, without_last}
+use Rattle.csp_model.specs.Ascii.{lower, ends_in, without_last, skip_while}
 use Rattle.csp_model.specs.Grammar.{is_scheme_char, is_scheme, is_label_char, host_part_of, port_part_of, path_part_of, keyword_text, is_base64_value, algorithm_text}
 use Rattle.csp_model.specs.declared.source.Algorithm.{Algorithm}
 use Rattle.csp_model.specs.declared.source.Algorithm.TheVariants.{Sha256, Sha384, Sha512}
@@ -13,15 +13,6 @@ use Rattle.csp_model.specs.declared.source.Keyword.{Keyword}
 use Rattle.csp_model.specs.declared.source.Keyword.TheVariants as keyword
 use Rattle.csp_model.specs.declared.source.Source.{Source}
 use Rattle.csp_model.specs.declared.source.Source.TheVariants as source
-
--- the longest front whose bytes pass, and what is left
-abbrev pub front : (ℕ → Bool) → List ℕ → List ℕ
-front p [] = []
-front p (x ∷ xs) = if p x then x ∷ front p xs else []
-
-abbrev pub back : (ℕ → Bool) → List ℕ → List ℕ
-back p [] = []
-back p (x ∷ xs) = if p x then back p xs else x ∷ xs
 
 unfoldable pub is_host_char : ℕ → Bool
 is_host_char c = is_label_char c || c == dot || c == star
@@ -33,14 +24,15 @@ is_no_slash c = not (c == slash)
 unfoldable pub authority : Option (List ℕ) → List ℕ → Option Source
 authority scheme text =
     option_and_then (λ host. option_and_then (λ port. option_map (λ path. source.Hosted scheme host port path)
-    (path_part_of (back is_no_slash (back is_host_char text))))
-    (port_part_of (front is_no_slash (back is_host_char text))))
-    (host_part_of (front is_host_char text))
+    (path_part_of (skip_while is_no_slash (skip_while is_host_char text))))
+    (port_part_of (take_while is_no_slash (skip_while is_host_char text))))
+    (host_part_of (take_while is_host_char text))
 
 unfoldable pub host_source : List ℕ → Option Source
 host_source token =
-    if is_scheme (front is_scheme_char token) && starts_with nat_eq (back is_scheme_char token) (codes "://")
-    then authority (Some (lower (front is_scheme_char token))) (drop 3 (back is_scheme_char token))
+    if is_scheme (take_while is_scheme_char token)
+    && starts_with nat_eq (skip_while is_scheme_char token) (codes "://")
+    then authority (Some (lower (take_while is_scheme_char token))) (drop 3 (skip_while is_scheme_char token))
     else authority None token
 
 unfoldable pub scheme_source : List ℕ → Option Source
