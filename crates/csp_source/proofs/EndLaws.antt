@@ -1,10 +1,11 @@
--- The last item of a list.
-use Rattle.std.proofs.Common.{arith, ◌≡◌, ◌∙◌, sym, ap, refl, ℕ, ◌-◌, true, false, List, [], ◌∷◌, ◌++◌, length, take, get_or, length-append, inl, inr}
+-- How lists end.
+use Rattle.std.proofs.Common.{arith, ◌≡◌, ◌∙◌, ap, refl, ℕ, ◌-◌, suc, true, cond, nat_eq, List, [], ◌∷◌, ◌++◌, length, take, drop, length-append, inl, inr}
 use Rattle.std.specs.Prelude.{◌==◌, ◌⊎◌}
-use Rattle.std.proofs.Math.Seq.{get_or-append_seam, take-append_seam}
-use Rattle.std.proofs.lemmas.Grind.{common_steps}
-use Rattle.std.proofs.lemmas.Bool.{eqb-true, false≢true}
-use Rattle.csp_model.specs.Ascii.{without_last, ends_in}
+use Rattle.std.specs.Cmp.Lexicographic.{pointwise}
+use Rattle.std.proofs.Math.Seq.{drop-append_seam, take-append_seam}
+use Rattle.std.proofs.lemmas.Bool.Decides.{Decides-eqb, nat_tests}
+use Rattle.std.proofs.lemmas.Slice.Eq.{ends_is}
+use Rattle.csp_model.specs.Ascii.{without_last, without_final, ends_in}
 
 length_push : {A : Type 0} (xs : List A) (y : A) → length (xs ++ y ∷ []) - 1 ≡ length xs
 length_push xs y = omega (arith, length-append xs (y ∷ []))
@@ -12,19 +13,26 @@ length_push xs y = omega (arith, length-append xs (y ∷ []))
 pub without_last-push : {A : Type 0} (xs : List A) (y : A) → without_last (xs ++ y ∷ []) ≡ xs
 without_last-push xs y = ap (λ n. take n (xs ++ y ∷ [])) (length_push xs y) ∙ take-append_seam xs (y ∷ [])
 
-pub ends_in-push : (c d : ℕ) (xs : List ℕ) → ends_in c (xs ++ d ∷ []) ≡ (d == c)
-ends_in-push c d xs = ap (λ x. x == c) (ap (λ n. get_or (xs ++ d ∷ []) n 0) (length_push xs d) ∙ get_or-append_seam xs d [] 0)
+pub one_byte : (c d : ℕ) → pointwise nat_eq (c ∷ []) (d ∷ []) ≡ (d == c)
+one_byte c d = grind (arith, nat_tests)
 
-last_from : (c d : ℕ) (xs : List ℕ) → get_or (d ∷ xs) (length xs) 0 ≡ c → (d ∷ xs) ≡ take (length xs) (d ∷ xs) ++ c ∷ []
-last_from c d [] h = grind (arith, common_steps)
-last_from c d (x ∷ xs) h = grind (arith, common_steps, last_from c x xs)
+pub ends_in-push : (c d : ℕ) (xs : List ℕ) → ends_in c (xs ++ d ∷ []) ≡ (d == c)
+ends_in-push c d xs =
+    ap (λ n. pointwise nat_eq (c ∷ []) (drop n (xs ++ d ∷ []))) (length_push xs d)
+    ∙ ap (pointwise nat_eq (c ∷ [])) (drop-append_seam xs (d ∷ [])) ∙ one_byte c d
+
+-- the text without such a byte at its end, whatever its last byte is
+pub without_final-push : (c d : ℕ) (xs : List ℕ) → without_final c (xs ++ d ∷ []) ≡ cond (d == c) xs (xs ++ d ∷ [])
+without_final-push c d xs = rw (ends_in-push c d xs, without_last-push xs d) refl
+
+pub ends_in-cons : (c x y : ℕ) (text : List ℕ) → ends_in c (x ∷ y ∷ text) ≡ ends_in c (y ∷ text)
+ends_in-cons c x y text =
+    let more : length (x ∷ y ∷ text) - 1 ≡ suc (length (y ∷ text) - 1) = omega arith in
+    ap (λ n. pointwise nat_eq (c ∷ []) (drop n (x ∷ y ∷ text))) more
 
 -- a text that ends in a byte is its front and the byte
-pub ends_in_front : (c : ℕ) (xs : List ℕ) → (0 == c) ≡ false → ends_in c xs ≡ true → xs ≡ without_last xs ++ c ∷ []
-ends_in_front c [] apart h = absurd (false≢true (sym apart ∙ h))
-ends_in_front c (d ∷ xs) apart h =
-    let less : length (d ∷ xs) - 1 ≡ length xs = omega arith in
-    last_from c d xs (eqb-true _ c (rw less at h)) ∙ ap (λ n. take n (d ∷ xs) ++ c ∷ []) (sym less)
+pub ends_in_front : (c : ℕ) (xs : List ℕ) → ends_in c xs ≡ true → xs ≡ without_last xs ++ c ∷ []
+ends_in_front c xs = (ends_is Decides-eqb xs (c ∷ []) (ends_in c xs) refl).0
 
 -- a list is empty, or a front and a last item
 pub last_view : {A : Type 0} (xs : List A) → (xs ≡ []) ⊎ ((front : List A) × (y : A) × (xs ≡ front ++ y ∷ []))
@@ -33,3 +41,9 @@ last_view (x ∷ xs) = elim (last_view xs) [
   | inl none ↦ inr ([], x, ap (λ s. x ∷ s) none)
   | inr some ↦ let (front, y, e) = some in inr (x ∷ front, y, ap (λ s. x ∷ s) e)
 ]
+
+-- a text and one of one byte, compared from either side
+pub byte_turned : (c : ℕ) (xs : List ℕ) → pointwise nat_eq xs (c ∷ []) ≡ pointwise nat_eq (c ∷ []) xs
+byte_turned c [] = refl
+byte_turned c (x ∷ []) = grind (arith, nat_tests)
+byte_turned c (x ∷ y ∷ xs) = grind (arith, nat_tests)

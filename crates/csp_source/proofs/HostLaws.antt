@@ -1,16 +1,19 @@
 -- Host-sources: the reading and the grammar agree.
-use Rattle.std.proofs.Common.{arith, ◌≡◌, ◌∙◌, sym, ap, refl, ℕ, Bool, true, false, ◌&&◌, List, [], ◌∷◌, ◌++◌, drop, Some, None, nat_eq, cond, inl, inr, append_assoc}
+use Rattle.std.proofs.Common.{arith, ◌≡◌, ◌∙◌, sym, ap, refl, ℕ, Bool, true, false, ◌&&◌, ◌+◌, suc, List, [], ◌∷◌, ◌++◌, length, take, drop, Some, None, nat_eq, cond, inl, inr, append_assoc}
 use Rattle.std.specs.Prelude.{codes, ⊤, Option, if◌then◌else◌, ◌==◌, ◌⊎◌}
-use Rattle.std.specs.List.{list_all, slice_split, starts_with, onto_first}
+use Rattle.std.specs.List.{list_all, slice_split, starts_with, onto_first, prefix_len, take_while}
 use Rattle.std.specs.Char.{is_ascii_digit}
 use Rattle.std.specs.Option.{option_map, option_and_then}
 use Rattle.std.specs.Str.{bytes_eq}
+use Rattle.std.proofs.Math.Seq.{drop-append_seam, take-append_seam}
 use Rattle.std.proofs.lemmas.Grind.{common_steps}
+use Rattle.std.proofs.lemmas.List.{take-append-drop}
 use Rattle.std.proofs.lemmas.Slice.Eq.{bytes_eq-Decides}
 use Rattle.std.proofs.lemmas.Bool.{eqb-true}
-use Rattle.csp_model.specs.Ascii.{lower, ends_in, without_last, without_final}
+use Rattle.csp_model.specs.Ascii.{lower, ends_in, without_last, without_final, skip_while}
 use Rattle.csp_model.specs.Grammar.{is_scheme_char, is_scheme, is_label_char, is_label, is_name, IsHostSource, host_part_of, port_part_of, path_part_of}
-use Rattle.csp_model.specs.Reading.{front, back, is_host_char, is_no_slash, authority, host_source}
+use Rattle.csp_model.specs.Reading.{is_host_char, is_no_slash, authority, host_source}
+use Rattle.csp_model.proofs.SkipLaws.{skip_while-cons}
 use Rattle.csp_source.proofs.EndLaws.{ends_in_front}
 use Rattle.csp_model.specs.declared.source.HostPart.{HostPart}
 use Rattle.csp_model.specs.declared.source.HostPart.TheVariants as host
@@ -24,19 +27,19 @@ abbrev pub Stops : (ℕ → Bool) → List ℕ → Type 0
 Stops p [] = ⊤
 Stops p (x ∷ xs) = p x ≡ false
 
-pub front_of : (p : ℕ → Bool) (a b : List ℕ) → list_all p a ≡ true → Stops p b → front p (a ++ b) ≡ a
-front_of p [] [] h k = refl
-front_of p [] (x ∷ b) h k = grind (arith, common_steps)
-front_of p (x ∷ a) b h k = grind (arith, common_steps, front_of p a b)
+prefix_len-append : (p : ℕ → Bool) (a b : List ℕ) → list_all p a ≡ true → Stops p b → prefix_len p (a ++ b) ≡ length a
+prefix_len-append p [] [] h k = refl
+prefix_len-append p [] (x ∷ b) h k = rw k refl
+prefix_len-append p (x ∷ a) b h k = grind (arith, common_steps, prefix_len-append p a b)
 
-pub back_of : (p : ℕ → Bool) (a b : List ℕ) → list_all p a ≡ true → Stops p b → back p (a ++ b) ≡ b
-back_of p [] [] h k = refl
-back_of p [] (x ∷ b) h k = grind (arith, common_steps)
-back_of p (x ∷ a) b h k = grind (arith, common_steps, back_of p a b)
+pub take_while-append : (p : ℕ → Bool) (a b : List ℕ) → list_all p a ≡ true → Stops p b → take_while p (a ++ b) ≡ a
+take_while-append p a b h k = ap (λ n. take n (a ++ b)) (prefix_len-append p a b h k) ∙ take-append_seam a b
 
-pub front_back : (p : ℕ → Bool) (s : List ℕ) → s ≡ front p s ++ back p s
-front_back p [] = refl
-front_back p (x ∷ s) = grind (arith, common_steps, front_back p s)
+pub skip_while-append : (p : ℕ → Bool) (a b : List ℕ) → list_all p a ≡ true → Stops p b → skip_while p (a ++ b) ≡ b
+skip_while-append p a b h k = ap (λ n. drop n (a ++ b)) (prefix_len-append p a b h k) ∙ drop-append_seam a b
+
+take_skip : (p : ℕ → Bool) (s : List ℕ) → s ≡ take_while p s ++ skip_while p s
+take_skip p s = sym (take-append-drop (prefix_len p s) s)
 
 pub chosen : {A : Type 0} (b : Bool) (x : Option A) (y : Option A) (v : A) → cond b x y ≡ Some v → ((b ≡ true) × (x ≡ Some v)) ⊎ ((b ≡ false) × (y ≡ Some v))
 chosen true x y v e = inl (refl, e)
@@ -62,7 +65,7 @@ last_passes p (d ∷ s) c h k = grind (arith, common_steps, last_passes p s c)
 
 -- a text passes where its front does and the dot at its end
 without_final_by : (p : ℕ → Bool) (b : Bool) (s : List ℕ) → ends_in 46 s ≡ b → p 46 ≡ true → list_all p (cond b (without_last s) s) ≡ true → list_all p s ≡ true
-without_final_by p true s e dot h = ap (list_all p) (ends_in_front 46 s refl e) ∙ last_passes p (without_last s) 46 h dot
+without_final_by p true s e dot h = ap (list_all p) (ends_in_front 46 s e) ∙ last_passes p (without_last s) 46 h dot
 without_final_by p false s e dot h = h
 
 pub without_final_pass : (p : ℕ → Bool) → p 46 ≡ true → (s : List ℕ) → list_all p (without_final 46 s) ≡ true → list_all p s ≡ true
@@ -139,17 +142,17 @@ unfolding is_scheme_char
 scheme_chars [] h = refl
 scheme_chars (x ∷ letters) h = grind (arith, common_steps)
 
-and_false : (x : Bool) → (x && false) ≡ false
+pub and_false : (x : Bool) → (x && false) ≡ false
 and_false true = refl
 and_false false = refl
 
 -- no "://" stands behind scheme characters where a host begins the text
-no_scheme_within : (b r : List ℕ) → list_all is_host_char b ≡ true → starts_with nat_eq (back is_scheme_char (b ++ r)) (codes "://") ≡ true → starts_with nat_eq (back is_scheme_char r) (codes "://") ≡ true
+no_scheme_within : (b r : List ℕ) → list_all is_host_char b ≡ true → starts_with nat_eq (skip_while is_scheme_char (b ++ r)) (codes "://") ≡ true → starts_with nat_eq (skip_while is_scheme_char r) (codes "://") ≡ true
 unfolding is_scheme_char is_label_char is_host_char
 no_scheme_within [] r h e = e
-no_scheme_within (x ∷ b) r h e = grind (arith, common_steps, no_scheme_within b r)
+no_scheme_within (x ∷ b) r h e = let next = skip_while-cons is_scheme_char x (b ++ r) in grind (arith, common_steps, next, no_scheme_within b r)
 
-no_scheme_after : (c d : List ℕ) (p : PortPart) (q : PathPart) → port_part_of c ≡ Some p → path_part_of d ≡ Some q → starts_with nat_eq (back is_scheme_char (c ++ d)) (codes "://") ≡ false
+no_scheme_after : (c d : List ℕ) (p : PortPart) (q : PathPart) → port_part_of c ≡ Some p → path_part_of d ≡ Some q → starts_with nat_eq (skip_while is_scheme_char (c ++ d)) (codes "://") ≡ false
 unfolding port_part_of is_scheme_char is_label_char
 no_scheme_after [] [] p q e k = refl
 no_scheme_after [] (x ∷ d) p q e k = rw (path_slash x d q k) refl
@@ -160,10 +163,10 @@ pub authority_again : (scheme : Option (List ℕ)) (b c d : List ℕ) (h : HostP
     → authority scheme (b ++ (c ++ d)) ≡ Some (source.Hosted scheme h p q)
 unfolding authority
 authority_again scheme b c d h p q eb ec ed =
-    let f = front_of is_host_char b (c ++ d) (host_chars b h eb) (port_stops c d p ec (path_stops d q ed).0) in
-    let k = back_of is_host_char b (c ++ d) (host_chars b h eb) (port_stops c d p ec (path_stops d q ed).0) in
-    let f2 = front_of is_no_slash c d (port_chars c p ec) (path_stops d q ed).1 in
-    let k2 = back_of is_no_slash c d (port_chars c p ec) (path_stops d q ed).1 in
+    let f = take_while-append is_host_char b (c ++ d) (host_chars b h eb) (port_stops c d p ec (path_stops d q ed).0) in
+    let k = skip_while-append is_host_char b (c ++ d) (host_chars b h eb) (port_stops c d p ec (path_stops d q ed).0) in
+    let f2 = take_while-append is_no_slash c d (port_chars c p ec) (path_stops d q ed).1 in
+    let k2 = skip_while-append is_no_slash c d (port_chars c p ec) (path_stops d q ed).1 in
     simp (f, k, f2, k2, eb, ec, ed)
 
 pub host_again : (token : List ℕ) (scheme : Option (List ℕ)) (h : HostPart) (p : PortPart) (q : PathPart) → IsHostSource token scheme h p q → host_source token ≡ Some (source.Hosted scheme h p q)
@@ -171,31 +174,31 @@ unfolding is_scheme_char host_source
 host_again token None h p q (a, b, c, d, e, sa, eb, ec, ed) =
     let e' : token ≡ b ++ (c ++ d) = e ∙ ap (λ x. x ++ (b ++ (c ++ d))) sa in
     let no = no_scheme_after c d p q ec ed in
-    let no' : starts_with nat_eq (back is_scheme_char token) (codes "://") ≡ false = grind (arith, common_steps, no_scheme_within b (c ++ d) (host_chars b h eb)) in
+    let no' : starts_with nat_eq (skip_while is_scheme_char token) (codes "://") ≡ false = grind (arith, common_steps, no_scheme_within b (c ++ d) (host_chars b h eb)) in
     simp (no', and_false) (ap (authority None) e' ∙ authority_again None b c d h p q eb ec ed)
 host_again token (Some scheme) h p q (a, b, c, d, e, (letters, ea, good, lowered), eb, ec, ed) =
     let tail = codes "://" ++ (b ++ (c ++ d)) in
     let e' : token ≡ letters ++ tail = e ∙ ap (λ x. x ++ (b ++ (c ++ d))) ea ∙ append_assoc letters (codes "://") (b ++ (c ++ d)) in
-    let f : front is_scheme_char token ≡ letters = ap (front is_scheme_char) e' ∙ front_of is_scheme_char letters tail (scheme_chars letters good) refl in
-    let k : back is_scheme_char token ≡ tail = ap (back is_scheme_char) e' ∙ back_of is_scheme_char letters tail (scheme_chars letters good) refl in
+    let f : take_while is_scheme_char token ≡ letters = ap (take_while is_scheme_char) e' ∙ take_while-append is_scheme_char letters tail (scheme_chars letters good) refl in
+    let k : skip_while is_scheme_char token ≡ tail = ap (skip_while is_scheme_char) e' ∙ skip_while-append is_scheme_char letters tail (scheme_chars letters good) refl in
     simp (f, k, good) (rw lowered (authority_again (Some (lower letters)) b c d h p q eb ec ed))
 
 -- and back
 pub authority_takes : (scheme : Option (List ℕ)) (text : List ℕ) (s : Source) → authority scheme text ≡ Some s
-    → (h : HostPart) × (p : PortPart) × (q : PathPart) × (s ≡ source.Hosted scheme h p q) × (host_part_of (front is_host_char text) ≡ Some h)
-    × (port_part_of (front is_no_slash (back is_host_char text)) ≡ Some p) × (path_part_of (back is_no_slash (back is_host_char text)) ≡ Some q)
+    → (h : HostPart) × (p : PortPart) × (q : PathPart) × (s ≡ source.Hosted scheme h p q) × (host_part_of (take_while is_host_char text) ≡ Some h)
+    × (port_part_of (take_while is_no_slash (skip_while is_host_char text)) ≡ Some p) × (path_part_of (skip_while is_no_slash (skip_while is_host_char text)) ≡ Some q)
 unfolding authority
-authority_takes scheme text s e = go (host_part_of (front is_host_char text)) (port_part_of (front is_no_slash (back is_host_char text))) (path_part_of (back is_no_slash (back is_host_char text))) e where
+authority_takes scheme text s e = go (host_part_of (take_while is_host_char text)) (port_part_of (take_while is_no_slash (skip_while is_host_char text))) (path_part_of (skip_while is_no_slash (skip_while is_host_char text))) e where
   go : (h : Option HostPart) (p : Option PortPart) (q : Option PathPart)
-      → option_and_then (λ name. option_and_then (λ number_part. option_map (λ path_part. source.Hosted scheme name number_part path_part) q) p) h ≡ Some s
+      → option_and_then (λ host_part. option_and_then (λ port_part. option_map (λ path_part. source.Hosted scheme host_part port_part path_part) q) p) h ≡ Some s
       → (h' : HostPart) × (p' : PortPart) × (q' : PathPart) × (s ≡ source.Hosted scheme h' p' q') × (h ≡ Some h') × (p ≡ Some p') × (q ≡ Some q')
   go None p q e = cc
   go (Some h) None q e = cc
   go (Some h) (Some p) None e = cc
   go (Some h) (Some p) (Some q) e = (h, p, q, cc, refl, refl, refl)
 
-parts_join : (p q : ℕ → Bool) (s : List ℕ) → s ≡ front p s ++ (front q (back p s) ++ back q (back p s))
-parts_join p q s = front_back p s ∙ ap (λ x. front p s ++ x) (front_back q (back p s))
+parts_join : (p q : ℕ → Bool) (s : List ℕ) → s ≡ take_while p s ++ (take_while q (skip_while p s) ++ skip_while q (skip_while p s))
+parts_join p q s = take_skip p s ∙ ap (λ x. take_while p s ++ x) (take_skip q (skip_while p s))
 
 scheme_end : (s : List ℕ) → starts_with nat_eq s (codes "://") ≡ true → s ≡ codes "://" ++ drop 3 s
 scheme_end [] h = cc
@@ -207,14 +210,14 @@ pub host_takes : (token : List ℕ) (s : Source) → host_source token ≡ Some 
     → (scheme : Option (List ℕ)) × (h : HostPart) × (p : PortPart) × (q : PathPart) × (s ≡ source.Hosted scheme h p q) × IsHostSource token scheme h p q
 unfolding host_source
 host_takes token s e =
-    let letters = front is_scheme_char token in
-    let after = back is_scheme_char token in
+    let letters = take_while is_scheme_char token in
+    let after = skip_while is_scheme_char token in
     elim (chosen (is_scheme letters && starts_with nat_eq after (codes "://")) (authority (Some (lower letters)) (drop 3 after)) (authority None token) s e) [
       | inl one ↦
           let (h, p, q, is, eb, ec, ed) = authority_takes (Some (lower letters)) (drop 3 after) s one.1 in
           let good : is_scheme letters ≡ true = grind (arith, one.0) in
           let ends : starts_with nat_eq after (codes "://") ≡ true = grind (arith, one.0) in
-          let whole = front_back is_scheme_char token ∙ ap (λ x. letters ++ x) (scheme_end after ends ∙ ap (λ x. codes "://" ++ x) (parts_join is_host_char is_no_slash (drop 3 after)))
+          let whole = take_skip is_scheme_char token ∙ ap (λ x. letters ++ x) (scheme_end after ends ∙ ap (λ x. codes "://" ++ x) (parts_join is_host_char is_no_slash (drop 3 after)))
           ∙ sym (append_assoc letters (codes "://") _) in
           (Some (lower letters), h, p, q, is, (_, _, _, _, whole, (letters, refl, good, refl), eb, ec, ed))
       | inr two ↦

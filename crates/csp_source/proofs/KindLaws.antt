@@ -1,11 +1,10 @@
 -- A token that is built as a kind is read as it, and back; "*" apart.
-use Rattle.std.proofs.Common.{arith, ◌≡◌, ◌∙◌, sym, ap, refl, subst, ℕ, List, [], ◌∷◌, ◌++◌, Some, None, Option, inl, inr}
+use Rattle.std.proofs.Common.{arith, ◌≡◌, ◌∙◌, sym, ap, refl, subst, ℕ, ◌-◌, suc, false, length, take, List, [], ◌∷◌, ◌++◌, Some, None, Option, inl, inr}
 use Rattle.std.specs.Prelude.{codes, ◌⊎◌, ◌≢◌}
 use Rattle.std.specs.Char.{to_ascii_lowercase}
 use Rattle.std.specs.Option.{option_map}
-use Rattle.std.proofs.lemmas.Grind.{common_steps}
-use Rattle.csp_model.specs.Ascii.{lower}
-use Rattle.csp_model.specs.Grammar.{IsKind, IsQuoted, keyword_text, algorithm_text, is_scheme_char, is_label_char, is_name, host_part_of}
+use Rattle.csp_model.specs.Ascii.{lower, without_last}
+use Rattle.csp_model.specs.Grammar.{is_scheme, IsKind, IsQuoted, keyword_text, algorithm_text, is_scheme_char, is_label_char, is_name, host_part_of}
 use Rattle.csp_model.specs.Reading.{first_of, kind_of, scheme_source, host_source, keyword_source, nonce_source, hash_source, quoted_value, authority, is_host_char}
 use Rattle.csp_model.specs.declared.source.Algorithm.{Algorithm}
 use Rattle.csp_model.specs.declared.source.Algorithm.TheVariants.{Sha256, Sha384, Sha512}
@@ -14,7 +13,7 @@ use Rattle.csp_model.specs.declared.source.Keyword.{Keyword}
 use Rattle.csp_model.specs.declared.source.Keyword.TheVariants as keyword
 use Rattle.csp_model.specs.declared.source.Source.{Source}
 use Rattle.csp_model.specs.declared.source.Source.TheVariants as source
-use Rattle.csp_source.proofs.HostLaws.{host_again, host_takes}
+use Rattle.csp_source.proofs.HostLaws.{and_false, host_again, host_takes}
 use Rattle.csp_source.proofs.SchemeLaws.{scheme_again, scheme_takes, no_host}
 use Rattle.csp_source.proofs.QuotedLaws.{keyword_is, keyword_from, keyword_again, keyword_takes, quoted_again, quoted_takes, quoted_lower, quoted_none}
 
@@ -23,7 +22,10 @@ use Rattle.csp_source.proofs.QuotedLaws.{keyword_is, keyword_from, keyword_again
 no_scheme_quoted : (rest : List ℕ) → scheme_source (39 ∷ rest) ≡ None
 unfolding scheme_source
 no_scheme_quoted [] = refl
-no_scheme_quoted (c ∷ rest) = grind (arith, common_steps)
+no_scheme_quoted (c ∷ rest) =
+    let less : length (39 ∷ c ∷ rest) - 1 ≡ suc (length rest) = omega arith in
+    let none : is_scheme (without_last (39 ∷ c ∷ rest)) ≡ false = ap (λ n. is_scheme (take n (39 ∷ c ∷ rest))) less in
+    rw (none, and_false) refl
 
 no_host_quoted : (rest : List ℕ) → host_source (39 ∷ rest) ≡ None
 unfolding host_source authority is_scheme_char is_label_char is_host_char host_part_of is_name
@@ -129,7 +131,7 @@ IsNoStar kind = Unit {0}
 pub kind_built : (token : List ℕ) (kind : Source) → IsNoStar kind → IsKind token kind → kind_of token ≡ Some kind
 kind_built token source.Star some h = absurd some
 kind_built token (source.SchemeOnly scheme) some h = scheme_kind token _ (scheme_again token scheme h)
-kind_built token (source.Hosted scheme name number pieces) some h = host_kind token _ (host_again token scheme name number pieces h.1)
+kind_built token (source.Hosted scheme host_part port_part path_part) some h = host_kind token _ (host_again token scheme host_part port_part path_part h.1)
 kind_built token (source.Word word) some h = word_kind token word h
 kind_built token (source.Nonce value) some h = nonce_kind token value h
 kind_built token (source.Digest hash) some h = digest_kind hash.algorithm hash.value token h
@@ -162,7 +164,7 @@ scheme_is : (token : List ℕ) (s : Source) → scheme_source token ≡ Some s �
 scheme_is token s e = let (scheme, is, built) = scheme_takes token s e in subst (IsKind token) (sym is) built
 
 host_is : (token : List ℕ) (s : Source) → token ≢ codes "*" → host_source token ≡ Some s → IsKind token s
-host_is token s apart e = let (scheme, name, number, pieces, is, built) = host_takes token s e in subst (IsKind token) (sym is) (apart, built)
+host_is token s apart e = let (scheme, host_part, port_part, path_part, is, built) = host_takes token s e in subst (IsKind token) (sym is) (apart, built)
 
 word_is : (token : List ℕ) (s : Source) → keyword_source token ≡ Some s → IsKind token s
 word_is token s e = let (word, is, spelt) = keyword_takes token s e in subst (IsKind token) (sym is) spelt

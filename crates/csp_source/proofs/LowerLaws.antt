@@ -14,7 +14,7 @@ use Rattle.csp_model.specs.Grammar.{is_scheme_char, is_scheme, is_label_char, is
 use Rattle.csp_model.specs.declared.source.HostPart.{HostPart}
 use Rattle.csp_model.specs.declared.source.HostPart.TheVariants as host
 use Rattle.csp_source.specs.Spelling.{host_spelling}
-use Rattle.csp_source.proofs.EndLaws.{ends_in-push, without_last-push, last_view}
+use Rattle.csp_source.proofs.EndLaws.{without_final-push, last_view}
 use Rattle.csp_source.proofs.HostLaws.{chosen, weaker, parts_pass, without_final_pass, star_dot}
 
 pub lower-lower : (s : List ℕ) → lower (lower s) ≡ lower s
@@ -61,19 +61,15 @@ final_by : (b : Bool) (front : List ℕ) (y : ℕ) → cond b (lower front) (low
 final_by true front y = refl
 final_by false front y = sym (map-append to_ascii_lowercase front (y ∷ []))
 
--- the text without a dot at its end, whatever its last byte is
-final_push : (front : List ℕ) (y : ℕ) → without_final 46 (front ++ y ∷ []) ≡ cond (y == 46) front (front ++ y ∷ [])
-final_push front y = rw (ends_in-push 46 y front, without_last-push front y) refl
-
 without_final-lower : (s : List ℕ) → without_final 46 (lower s) ≡ lower (without_final 46 s)
 without_final-lower s = elim (last_view s) [
   | inl none ↦ rw none refl
   | inr some ↦
       let (front, y, e) = some in
       ap (λ x. without_final 46 (lower x)) e ∙ ap (without_final 46) (map-append to_ascii_lowercase front (y ∷ []))
-      ∙ final_push (lower front) (to_ascii_lowercase y)
+      ∙ without_final-push 46 (to_ascii_lowercase y) (lower front)
       ∙ ap (λ b. cond b (lower front) (lower front ++ to_ascii_lowercase y ∷ [])) (lower_dot y)
-      ∙ final_by (y == 46) front y ∙ ap lower (sym (final_push front y)) ∙ ap (λ x. lower (without_final 46 x)) (sym e)
+      ∙ final_by (y == 46) front y ∙ ap lower (sym (without_final-push 46 y front)) ∙ ap (λ x. lower (without_final 46 x)) (sym e)
 ]
 
 is_label-lower : (part : List ℕ) → is_label part ≡ true → is_label (lower part) ≡ true
@@ -144,20 +140,20 @@ any_host : host_part_of (codes "*") ≡ Some host.Any
 unfolding host_part_of
 any_host = refl
 
-pub host_spelt : (text : List ℕ) (name : HostPart) → host_part_of text ≡ Some name → host_part_of (host_spelling name) ≡ Some name
+pub host_spelt : (text : List ℕ) (host_part : HostPart) → host_part_of text ≡ Some host_part → host_part_of (host_spelling host_part) ≡ Some host_part
 unfolding host_part_of
-host_spelt text name e =
+host_spelt text host_part e =
     let Spelt : HostPart → Type 0 = λ part. host_part_of (host_spelling part) ≡ Some part in
     let exact = if is_name text then Some (host.Exact (lower text)) else None in
     let under = if starts_with nat_eq text (codes "*.") && is_name (drop 2 text) then Some (host.Under (lower (drop 2 text))) else exact in
-    elim (chosen (bytes_eq text (codes "*")) (Some host.Any) under name e) [
-      | inl one ↦ let is : host.Any ≡ name = cc in subst Spelt is any_host
+    elim (chosen (bytes_eq text (codes "*")) (Some host.Any) under host_part e) [
+      | inl one ↦ let is : host.Any ≡ host_part = cc in subst Spelt is any_host
       | inr two ↦
-          elim (chosen (starts_with nat_eq text (codes "*.") && is_name (drop 2 text)) (Some (host.Under (lower (drop 2 text)))) exact name two.1) [
-            | inl three ↦ let is : host.Under (lower (drop 2 text)) ≡ name = cc in subst Spelt is (spelt_under (drop 2 text) (grind (arith, three.0)))
+          elim (chosen (starts_with nat_eq text (codes "*.") && is_name (drop 2 text)) (Some (host.Under (lower (drop 2 text)))) exact host_part two.1) [
+            | inl three ↦ let is : host.Under (lower (drop 2 text)) ≡ host_part = cc in subst Spelt is (spelt_under (drop 2 text) (grind (arith, three.0)))
             | inr four ↦
-                elim (chosen (is_name text) (Some (host.Exact (lower text))) None name four.1) [
-                  | inl five ↦ let is : host.Exact (lower text) ≡ name = cc in subst Spelt is (spelt_exact text five.0)
+                elim (chosen (is_name text) (Some (host.Exact (lower text))) None host_part four.1) [
+                  | inl five ↦ let is : host.Exact (lower text) ≡ host_part = cc in subst Spelt is (spelt_exact text five.0)
                   | inr six ↦ cc
                 ]
           ]

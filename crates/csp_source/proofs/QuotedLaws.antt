@@ -4,7 +4,7 @@ use Rattle.std.specs.Prelude.{codes, bytes_eq}
 use Rattle.std.specs.List.{find}
 use Rattle.std.specs.Char.{to_ascii_lowercase}
 use Rattle.std.specs.Option.{option_map}
-use Rattle.std.proofs.Math.Seq.{take-append_seam}
+use Rattle.std.proofs.Math.Seq.{drop-append_seam, take-append_seam}
 use Rattle.std.proofs.lemmas.List.{take-append-drop, map-append, take-map, length-map}
 use Rattle.std.proofs.lemmas.Slice.Eq.{bytes_eq-Decides}
 use Rattle.csp_model.specs.Ascii.{lower, ends_in, without_last}
@@ -56,10 +56,6 @@ keyword_takes token s e =
 
 -- ---- a value between a word and "'"
 
-drop-append_seam : (a b : List ℕ) → drop (length a) (a ++ b) ≡ b
-drop-append_seam [] b = refl
-drop-append_seam (x ∷ a) b = drop-append_seam a b
-
 pub quoted_again : (word token value : List ℕ) → IsQuoted word token value → quoted_value word token ≡ Some value
 unfolding quoted_value
 quoted_again word token value (letters, e, lowered, good) =
@@ -80,7 +76,7 @@ quoted_takes word token value e =
           let ends : ends_in 39 rest ≡ true = grind (arith, one.0) in
           let good : is_base64_value (without_last rest) ≡ true = grind (arith, one.0) in
           let is : without_last rest ≡ value = cc in
-          let whole = sym (take-append-drop (length word) token) ∙ ap (λ x. letters ++ x) (ends_in_front 39 rest refl ends ∙ ap (λ x. x ++ codes "'") is) in
+          let whole = sym (take-append-drop (length word) token) ∙ ap (λ x. letters ++ x) (ends_in_front 39 rest ends ∙ ap (λ x. x ++ codes "'") is) in
           (letters, whole, (bytes_eq-Decides (lower letters) word).0 same, sym (ap is_base64_value is) ∙ good)
       | inr two ↦ cc
     ]

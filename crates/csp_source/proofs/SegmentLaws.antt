@@ -1,5 +1,5 @@
 -- A path's spelling is read as that path.
-use Rattle.std.proofs.Common.{arith, ◌≡◌, ◌∙◌, sym, ap, refl, subst, ℕ, ◌/◌, ◌%◌, ◌<◌, ◌-◌, Bool, true, false, ◌&&◌, ◌||◌, List, [], ◌∷◌, ◌++◌, length, map, get_or, Some, None, Option, cond, inl, inr, zero, suc}
+use Rattle.std.proofs.Common.{arith, ◌≡◌, ◌∙◌, sym, ap, refl, subst, ℕ, ◌/◌, ◌%◌, ◌<◌, Bool, true, false, ◌&&◌, ◌||◌, List, [], ◌∷◌, ◌++◌, map, Some, None, Option, cond, inl, inr, zero, suc}
 use Rattle.std.specs.Prelude.{codes, ◌==◌, not, if◌then◌else◌}
 use Rattle.std.specs.List.{list_all, onto_first, All}
 use Rattle.std.specs.Char.{is_ascii_hexdigit}
@@ -20,7 +20,7 @@ use Rattle.csp_model.specs.declared.source.PathPart.TheVariants as path
 use Rattle.csp_model.specs.declared.path.TheConstants.{ESCAPED}
 use Rattle.csp_model.proofs.PathText.{split_at-path_text, decoded_again}
 use Rattle.csp_source.specs.Spelling.{path_spelling}
-use Rattle.csp_source.proofs.EndLaws.{without_last-push}
+use Rattle.csp_source.proofs.EndLaws.{ends_in-cons, one_byte, without_last-push}
 use Rattle.csp_source.proofs.HostLaws.{chosen, path_slash}
 use Rattle.csp_source.proofs.PathLaws.{first_part, nonempty}
 
@@ -122,18 +122,17 @@ one_by true c = refl
 one_by false c = sym (ap not (nonempty c []))
 
 -- a text ends in "/" where its last part is empty
-last_slash : (c : ℕ) (text : List ℕ) → (get_or (c ∷ text) (length text) 0 == 47) ≡ last_empty (split_at 47 (c ∷ text))
-last_slash c [] = one_by (c == 47) c
+last_slash : (c : ℕ) (text : List ℕ) → ends_in 47 (c ∷ text) ≡ last_empty (split_at 47 (c ∷ text))
+last_slash c [] = one_byte 47 c ∙ one_by (c == 47) c
 last_slash c (x ∷ text) =
     let (q, qs, e) = first_part (λ b. b == 47) text in
     let (r, rs, k) = first_part (λ b. b == 47) (x ∷ text) in
-    last_slash x text ∙ sym (more_by (c == 47) c (split_at 47 (x ∷ text)) (before_by (x == 47) c x (split_at 47 text) q qs e) (slash_by (split_at 47 (x ∷ text)) r rs k))
+    ends_in-cons 47 c x text ∙ last_slash x text ∙ sym (more_by (c == 47) c (split_at 47 (x ∷ text)) (before_by (x == 47) c x (split_at 47 text) q qs e) (slash_by (split_at 47 (x ∷ text)) r rs k))
 
 ends_slash : (text : List ℕ) → ends_in 47 (47 ∷ text) ≡ last_empty (split_at 47 text)
 ends_slash text =
-    let less : length (47 ∷ text) - 1 ≡ length text = omega arith in
     let (q, qs, e) = first_part (λ b. b == 47) text in
-    ap (λ n. get_or (47 ∷ text) n 0 == 47) less ∙ last_slash 47 text ∙ slash_by (split_at 47 text) q qs e
+    last_slash 47 text ∙ slash_by (split_at 47 text) q qs e
 
 -- ---- pieces and parts
 

@@ -17,7 +17,7 @@ use Rattle.csp_source.proofs.KindLaws.{kind_built, kind_takes}
 IsSource-IsKind : (token : List ℕ) (s : Source) → IsKind token s → IsSource token s
 IsSource-IsKind token source.Star h = h
 IsSource-IsKind token (source.SchemeOnly scheme) h = h
-IsSource-IsKind token (source.Hosted scheme name number pieces) h = h
+IsSource-IsKind token (source.Hosted scheme host_part port_part path_part) h = h
 IsSource-IsKind token (source.Word word) h = h
 IsSource-IsKind token (source.Nonce value) h = h
 IsSource-IsKind token (source.Digest hash) h = h
@@ -29,7 +29,7 @@ apart_from token other e = false≢true (sym other ∙ (bytes_eq-Decides token (
 no_kind : (token : List ℕ) → token ≢ codes "*" → kind_of token ≡ None → (kind : Source) → IsKind token kind → ⊥
 no_kind token apart none source.Star h = apart h
 no_kind token apart none (source.SchemeOnly scheme) h = let some = kind_built token (source.SchemeOnly scheme) tt h in cc
-no_kind token apart none (source.Hosted scheme name number pieces) h = let some = kind_built token (source.Hosted scheme name number pieces) tt h in cc
+no_kind token apart none (source.Hosted scheme host_part port_part path_part) h = let some = kind_built token (source.Hosted scheme host_part port_part path_part) tt h in cc
 no_kind token apart none (source.Word word) h = let some = kind_built token (source.Word word) tt h in cc
 no_kind token apart none (source.Nonce value) h = let some = kind_built token (source.Nonce value) tt h in cc
 no_kind token apart none (source.Digest hash) h = let some = kind_built token (source.Digest hash) tt h in cc
@@ -74,7 +74,7 @@ star_built token e = rw e refl
 pub source_built : (token : List ℕ) (s : Source) → IsSource token s → source_of token ≡ s
 source_built token source.Star h = star_built token h
 source_built token (source.SchemeOnly scheme) h = found_apart token _ (λ e. cc) (kind_built token (source.SchemeOnly scheme) tt h)
-source_built token (source.Hosted scheme name number pieces) h = source_found token _ h.0 (kind_built token (source.Hosted scheme name number pieces) tt h)
+source_built token (source.Hosted scheme host_part port_part path_part) h = source_found token _ h.0 (kind_built token (source.Hosted scheme host_part port_part path_part) tt h)
 source_built token (source.Word word) h = found_apart token _ (λ e. cc) (kind_built token (source.Word word) tt h)
 source_built token (source.Nonce value) h = found_apart token _ (λ e. cc) (kind_built token (source.Nonce value) tt h)
 source_built token (source.Digest hash) h = found_apart token _ (λ e. cc) (kind_built token (source.Digest hash) tt h)

@@ -1,5 +1,5 @@
 -- What a source is written as reads back to it.
-use Rattle.std.proofs.Common.{arith, ◌≡◌, ◌∙◌, sym, ap, refl, subst, ℕ, Bool, true, ◌&&◌, List, [], ◌∷◌, ◌++◌, Some, None, Option, cond, false, drop, inl, inr, nat_eq}
+use Rattle.std.proofs.Common.{◌≡◌, ◌∙◌, sym, ap, refl, subst, ℕ, Bool, true, ◌&&◌, List, [], ◌∷◌, ◌++◌, Some, None, Option, cond, false, drop, inl, inr, nat_eq}
 use Rattle.std.specs.Prelude.{codes, ◌≢◌, ◌==◌, bytes_eq, nat_lt, if◌then◌else◌}
 use Rattle.std.specs.List.{starts_with}
 use Rattle.std.proofs.lemmas.Slice.Eq.{bytes_eq-Decides}
@@ -19,6 +19,7 @@ use Rattle.csp_model.specs.declared.source.Keyword.TheVariants as keyword
 use Rattle.csp_model.specs.declared.source.Source.{Source}
 use Rattle.csp_model.specs.declared.source.Source.TheVariants as source
 use Rattle.csp_source.specs.Spelling.{scheme_spelling, host_spelling, port_spelling, path_spelling, spelling, IsRead}
+use Rattle.csp_model.proofs.AsciiParts.{end_ascii}
 use Rattle.csp_source.proofs.HostLaws.{chosen, host_again}
 use Rattle.csp_source.proofs.LowerLaws.{host_spelt, is_scheme-lower, lower-lower}
 use Rattle.csp_source.proofs.PortLaws.{port_spelt}
@@ -30,26 +31,21 @@ scheme_spelt text None h = refl
 scheme_spelt text (Some scheme) (letters, e, good, lowered) =
     (scheme, refl, rw lowered (is_scheme-lower letters good), lowered ∙ sym (lower-lower letters) ∙ sym (ap lower lowered))
 
--- the last of the parts of an ASCII text is ASCII
-ascii_end : (a b : List ℕ) → is_ascii_text (a ++ b) ≡ true → is_ascii_text b ≡ true
-ascii_end [] b h = h
-ascii_end (c ∷ a) b h = ascii_end a b (grind (arith, h))
-
 path_ascii : (token a b c d : List ℕ) → token ≡ a ++ (b ++ (c ++ d)) → is_ascii_text token ≡ true → is_ascii_text d ≡ true
-path_ascii token a b c d e h = ascii_end c d (ascii_end b (c ++ d) (ascii_end a (b ++ (c ++ d)) (sym (ap is_ascii_text e) ∙ h)))
+path_ascii token a b c d e h = end_ascii c d (end_ascii b (c ++ d) (end_ascii a (b ++ (c ++ d)) (sym (ap is_ascii_text e) ∙ h)))
 
-parts_spelt : (token : List ℕ) (scheme : Option (List ℕ)) (name : HostPart) (number : PortPart) (pieces : PathPart) → is_ascii_text token ≡ true
-    → IsHostSource token scheme name number pieces → IsHostSource (spelling (source.Hosted scheme name number pieces)) scheme name number pieces
-parts_spelt token scheme name number pieces ascii (a, b, c, d, e, sa, eb, ec, ed) = (
+parts_spelt : (token : List ℕ) (scheme : Option (List ℕ)) (host_part : HostPart) (port_part : PortPart) (path_part : PathPart) → is_ascii_text token ≡ true
+    → IsHostSource token scheme host_part port_part path_part → IsHostSource (spelling (source.Hosted scheme host_part port_part path_part)) scheme host_part port_part path_part
+parts_spelt token scheme host_part port_part path_part ascii (a, b, c, d, e, sa, eb, ec, ed) = (
   scheme_spelling scheme,
-  host_spelling name,
-  port_spelling number,
-  path_spelling pieces,
+  host_spelling host_part,
+  port_spelling port_part,
+  path_spelling path_part,
   refl,
   scheme_spelt a scheme sa,
-  host_spelt b name eb,
-  port_spelt c number ec,
-  path_spelt d pieces (path_ascii token a b c d e ascii) ed,
+  host_spelt b host_part eb,
+  port_spelt c port_part ec,
+  path_spelt d path_part (path_ascii token a b c d e ascii) ed,
 )
 
 keyword_spelt : (word : Keyword) → lower (keyword_text word) ≡ keyword_text word
@@ -130,24 +126,24 @@ unfolding host_source authority is_host_char is_no_slash is_scheme_char is_label
 star_source = refl
 
 -- a spelling is "*" only where the token was
-spelt_apart : (token : List ℕ) (scheme : Option (List ℕ)) (name : HostPart) (number : PortPart) (pieces : PathPart) → token ≢ codes "*"
-    → IsHostSource token scheme name number pieces → IsHostSource (spelling (source.Hosted scheme name number pieces)) scheme name number pieces
-    → spelling (source.Hosted scheme name number pieces) ≢ codes "*"
-spelt_apart token scheme name number pieces apart was now e =
-    let read = sym (host_again (spelling (source.Hosted scheme name number pieces)) scheme name number pieces now) ∙ ap host_source e ∙ star_source in
+spelt_apart : (token : List ℕ) (scheme : Option (List ℕ)) (host_part : HostPart) (port_part : PortPart) (path_part : PathPart) → token ≢ codes "*"
+    → IsHostSource token scheme host_part port_part path_part → IsHostSource (spelling (source.Hosted scheme host_part port_part path_part)) scheme host_part port_part path_part
+    → spelling (source.Hosted scheme host_part port_part path_part) ≢ codes "*"
+spelt_apart token scheme host_part port_part path_part apart was now e =
+    let read = sym (host_again (spelling (source.Hosted scheme host_part port_part path_part)) scheme host_part port_part path_part now) ∙ ap host_source e ∙ star_source in
     let no_scheme : scheme ≡ None = cc (read) in
-    let any : name ≡ host.Any = cc (read) in
-    let no_number : number ≡ port.Absent = cc (read) in
-    let no_pieces : pieces ≡ path.Absent = cc (read) in
-    apart (star_is token (rw (no_scheme, any, no_number, no_pieces) at was))
+    let any : host_part ≡ host.Any = cc (read) in
+    let no_port : port_part ≡ port.Absent = cc (read) in
+    let no_path : path_part ≡ path.Absent = cc (read) in
+    apart (star_is token (rw (no_scheme, any, no_port, no_path) at was))
 
 spelt : (token : List ℕ) (s : Source) → is_ascii_text token ≡ true → IsSource token s → IsSource (spelling s) s
 spelt token source.Star ascii h = refl
 spelt token (source.SchemeOnly scheme) ascii (letters, e, good, lowered) =
     (scheme, refl, rw lowered (is_scheme-lower letters good), lowered ∙ sym (lower-lower letters) ∙ sym (ap lower lowered))
-spelt token (source.Hosted scheme name number pieces) ascii h =
-    let again = parts_spelt token scheme name number pieces ascii h.1 in
-    (spelt_apart token scheme name number pieces h.0 h.1 again, again)
+spelt token (source.Hosted scheme host_part port_part path_part) ascii h =
+    let again = parts_spelt token scheme host_part port_part path_part ascii h.1 in
+    (spelt_apart token scheme host_part port_part path_part h.0 h.1 again, again)
 spelt token (source.Word word) ascii h = keyword_spelt word
 spelt token (source.Nonce value) ascii (letters, e, lowered, good) = (codes "'nonce-", refl, refl, good)
 spelt token (source.Digest hash) ascii (letters, e, lowered, good) = (39 ∷ algorithm_text hash.algorithm ++ codes "-", refl, hash_word_spelt hash.algorithm, good)

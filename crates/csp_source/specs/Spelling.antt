@@ -1,7 +1,8 @@
--- The one spelling of a source (Content Security Policy Level 3, section 2.3.1): letters in lower case where case
--- doesn't count, ports without leading zeros, pieces of paths percent-encoded (RFC 3986, section 2.1).
+-- The one spelling of a source (Content Security Policy Level 3, section 2.3.1): letters in lower case where
+-- case doesn't count, ports without leading zeros, pieces of paths percent-encoded (RFC 3986, section 2.1).
 use Rattle.std.specs.Prelude.{◌≡◌, ℕ, List, [], ◌∷◌, ◌++◌, Option, Some, None, IsTrue, codes, decimal}
 use Rattle.csp_model.specs.Ascii.{is_ascii_text}
+use Rattle.csp_model.specs.Bytes.{quote}
 use Rattle.csp_model.specs.Grammar.{keyword_text, algorithm_text}
 use Rattle.csp_model.specs.Paths.{path_text}
 use Rattle.csp_model.specs.Reading.{source_of}
@@ -40,10 +41,13 @@ path_spelling (path.Prefix pieces) = path_text pieces ++ codes "/"
 abbrev pub spelling : Source → List ℕ
 spelling source.Star = codes "*"
 spelling (source.SchemeOnly scheme) = scheme ++ codes ":"
-spelling (source.Hosted scheme name number pieces) = scheme_spelling scheme ++ (host_spelling name ++ (port_spelling number ++ path_spelling pieces))
+spelling (source.Hosted scheme host_part port_part path_part) =
+    scheme_spelling scheme
+    ++ (host_spelling host_part ++ (port_spelling port_part ++ path_spelling path_part))
 spelling (source.Word word) = keyword_text word
 spelling (source.Nonce value) = codes "'nonce-" ++ (value ++ codes "'")
-spelling (source.Digest hash) = (39 ∷ algorithm_text hash.algorithm ++ codes "-") ++ (hash.value ++ codes "'")
+spelling (source.Digest hash) =
+    (quote ∷ algorithm_text hash.algorithm ++ codes "-") ++ (hash.value ++ codes "'")
 spelling (source.Other token) = token
 
 -- some ASCII token reads as the source

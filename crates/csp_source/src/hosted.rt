@@ -1,7 +1,8 @@
-//! Host-sources.
-ghost use Rattle.std.specs.Prelude.{◌≡◌, ◌≤◌, length, take, drop, IfOk, IsTrue, IfSome, option_map};
+//! Host-sources (Content Security Policy Level 3, section 2.3.1).
+ghost use Rattle.std.specs.Prelude.{◌≡◌, ◌≤◌, length, IfOk, IsTrue, IfSome, option_map};
+ghost use Rattle.std.specs.List.{prefix_len};
 ghost use Rattle.csp_model.specs.Ascii.{is_ascii_text, lower};
-ghost use Rattle.csp_model.specs.Reading.{front, back, is_no_slash, authority, host_source};
+ghost use Rattle.csp_model.specs.Reading as spec;
 
 use crate::host::{host_len, host_part_of};
 use crate::path::{is_path, path_part_of};
@@ -12,25 +13,20 @@ use std::alloc::Global;
 
 #[tactic(auto, unfolding(csp_model::specs::Reading::is_no_slash))]
 fn is_no_slash(b: u8) -> bool
-    ensures { result ≡ is_no_slash b }
+    ensures { result ≡ spec.is_no_slash b }
 {
     b != b'/'
 }
 
-/// How many bytes stand before the first slash.
+// How many bytes stand before the first slash.
 fn len_to_slash(text: &[u8]) -> usize
+    ensures value { result ≡ prefix_len spec.is_no_slash text.now }
     ensures bound { result ≤ length text.now }
-    ensures front { take result text.now ≡ front is_no_slash text.now }
-    ensures back { drop result text.now ≡ back is_no_slash text.now }
 {
-    for (i, b) in text.iter().enumerate() {
-        if !is_no_slash(*b) {
-            return i;
-        }
-    }
-    text.len()
+    text.iter().take_while(|b| is_no_slash(**b)).count()
 }
 
+// A scheme in lower case, where there is one.
 fn lower_scheme(alloc: Global, letters: Option<&[u8]>) -> Result<Option<Text>, Memory>
     requires { IfSome letters (λ l. IsTrue (is_ascii_text l.now)) }
     ensures { IfOk result (λ made. made ≡ option_map (λ l. lower l.now) letters.entry) }
@@ -41,26 +37,26 @@ fn lower_scheme(alloc: Global, letters: Option<&[u8]>) -> Result<Option<Text>, M
     }
 }
 
-/// The source behind the scheme-part. Memory is taken only once each part is known to be good.
+// The source behind the scheme-part. Memory is taken only once each part is known to be good.
 #[tactic(auto, unfolding(csp_model::specs::Reading::authority))]
 fn authority(alloc: Global, letters: Option<&[u8]>, text: &[u8]) -> Result<Option<Source>, Memory>
     requires letters { IfSome letters (λ l. IsTrue (is_ascii_text l.now)) }
     requires text { IsTrue (is_ascii_text text.now) }
     ensures { IfOk result
-        (λ found. found ≡ authority (option_map (λ l. lower l.now) letters.entry) text.now) }
+        (λ found. found ≡ spec.authority (option_map (λ l. lower l.now) letters.entry) text.now) }
 {
-    let (name, rest) = text.split_at(host_len(text));
-    let (number, pieces) = rest.split_at(len_to_slash(rest));
-    let Some(port) = port_part_of(number) else {
+    let (host_text, rest) = text.split_at(host_len(text));
+    let (port_text, path_text) = rest.split_at(len_to_slash(rest));
+    let Some(port) = port_part_of(port_text) else {
         return Ok(None);
     };
-    if !is_path(pieces) {
+    if !is_path(path_text) {
         return Ok(None);
     }
-    let Some(host) = host_part_of(alloc, name)? else {
+    let Some(host) = host_part_of(alloc, host_text)? else {
         return Ok(None);
     };
-    let path = path_part_of(alloc, pieces)?;
+    let path = path_part_of(alloc, path_text)?;
     let scheme = lower_scheme(alloc, letters)?;
     Ok(Some(Source::Hosted {
         scheme,
@@ -70,11 +66,11 @@ fn authority(alloc: Global, letters: Option<&[u8]>, text: &[u8]) -> Result<Optio
     }))
 }
 
-/// The source that is a host with or without a scheme, a port and a path.
+// The source that is a host with or without a scheme, a port and a path.
 #[tactic(auto, unfolding(csp_model::specs::Reading::host_source))]
 pub(crate) fn host_source(alloc: Global, token: &[u8]) -> Result<Option<Source>, Memory>
     requires { IsTrue (is_ascii_text token.now) }
-    ensures { IfOk result (λ found. found ≡ host_source token.now) }
+    ensures { IfOk result (λ found. found ≡ spec.host_source token.now) }
 {
     let (letters, after) = token.split_at(scheme_len(token));
     if is_scheme(letters) && after.starts_with(b"://") {

@@ -3,7 +3,7 @@
 
 mod host;
 mod hosted;
-mod law;
+pub mod laws;
 mod path;
 mod port;
 mod quoted;
@@ -14,6 +14,6 @@ mod spelling;
 mod tests;
 mod texts;
 
-pub use law::each_token_has_one_source;
+pub use laws::each_token_has_one_source;
 pub use read::read_source;
 pub use spelling::source_text;

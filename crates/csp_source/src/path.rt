@@ -1,21 +1,22 @@
-//! The path of a host-source.
+//! The path of a host-source (Content Security Policy Level 3, section 2.3.1; RFC 3986, section 3.3).
 ghost use Rattle.std.specs.Prelude.{◌≡◌, Some, IfOk, IsTrue, is_some};
 ghost use Rattle.std.specs.List.{list_all};
 ghost use Rattle.csp_model.specs.Ascii.{split_at};
-ghost use Rattle.csp_model.specs.Grammar.{is_path_char, begins_hex_pair, is_segment, are_segments, path_part_of};
+ghost use Rattle.csp_model.specs.Bytes.{slash};
+ghost use Rattle.csp_model.specs.Grammar as spec;
 
 use csp_model::{List, Memory, PathPart, pieces_of};
 use std::alloc::Global;
 
 #[tactic(auto, unfolding(csp_model::specs::Grammar::is_path_char))]
 fn is_path_char(b: u8) -> bool
-    ensures { result ≡ is_path_char b }
+    ensures { result ≡ spec.is_path_char b }
 {
     b.is_ascii_alphanumeric() || b"-._~!$&'()*+=:@".contains(&b)
 }
 
 fn begins_hex_pair(text: &[u8]) -> bool
-    ensures { result ≡ begins_hex_pair text.now }
+    ensures { result ≡ spec.begins_hex_pair text.now }
 {
     match text.split_first() {
         None => false,
@@ -27,7 +28,7 @@ fn begins_hex_pair(text: &[u8]) -> bool
 }
 
 fn is_segment(text: &[u8]) -> bool
-    ensures { result ≡ is_segment text.now }
+    ensures { result ≡ spec.is_segment text.now }
 {
     for (i, b) in text.iter().enumerate() {
         if *b == b'%' {
@@ -42,15 +43,15 @@ fn is_segment(text: &[u8]) -> bool
 }
 
 fn all_segments(text: &[u8]) -> bool
-    ensures { result ≡ list_all is_segment (split_at 47 text.now) }
+    ensures { result ≡ list_all spec.is_segment (split_at slash text.now) }
 {
     text.split(|b| *b == b'/')
         .all(|segment| is_segment(segment))
 }
 
-/// The text behind a path's first slash is segments, of which the first is empty only where it stands alone.
+// The text behind a path's first slash is segments, of which the first is empty only where it stands alone.
 fn are_segments(text: &[u8]) -> bool
-    ensures { result ≡ are_segments (split_at 47 text.now) }
+    ensures { result ≡ spec.are_segments (split_at slash text.now) }
 {
     match text.split_first() {
         None => true,
@@ -58,10 +59,10 @@ fn are_segments(text: &[u8]) -> bool
     }
 }
 
-/// The text is no path at all, or a good one.
+// The text is no path at all, or a good one.
 #[tactic(auto, unfolding(csp_model::specs::Grammar::path_part_of))]
 pub(crate) fn is_path(text: &[u8]) -> bool
-    ensures { result ≡ is_some (path_part_of text.now) }
+    ensures { result ≡ is_some (spec.path_part_of text.now) }
 {
     match text.split_first() {
         None => true,
@@ -70,11 +71,11 @@ pub(crate) fn is_path(text: &[u8]) -> bool
     }
 }
 
-/// The path that the text is. The empty piece behind a last slash is left out.
+// The path that the text is. The empty piece behind a last slash is left out.
 #[tactic(auto, unfolding(csp_model::specs::Grammar::path_part_of))]
 pub(crate) fn path_part_of(alloc: Global, text: &[u8]) -> Result<PathPart, Memory>
-    requires { IsTrue (is_some (path_part_of text.now)) }
-    ensures { IfOk result (λ made. path_part_of text.now ≡ Some made) }
+    requires { IsTrue (is_some (spec.path_part_of text.now)) }
+    ensures { IfOk result (λ made. spec.path_part_of text.now ≡ Some made) }
 {
     match text.split_first() {
         None => Ok(PathPart::Absent),

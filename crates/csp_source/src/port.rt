@@ -1,12 +1,13 @@
-//! The port of a host-source.
+//! The port of a host-source (Content Security Policy Level 3, section 2.3.1).
 ghost use Rattle.std.specs.Prelude.{◌≡◌, IsTrue};
-ghost use Rattle.csp_model.specs.Grammar.{are_digits, decimal_value, port_numbered, port_part_of};
+ghost use Rattle.csp_model.specs.Grammar as spec;
 
 use csp_model::{PortPart, are_digits, decimal_value};
 
+// The port of this number.
 fn port_numbered(digits: &[u8]) -> PortPart
-    requires { IsTrue (are_digits digits.now) }
-    ensures { result ≡ port_numbered (decimal_value digits.now) }
+    requires { IsTrue (spec.are_digits digits.now) }
+    ensures { result ≡ spec.port_numbered (spec.decimal_value digits.now) }
 {
     let n = decimal_value(digits);
     if n < 65536 {
@@ -16,10 +17,10 @@ fn port_numbered(digits: &[u8]) -> PortPart
     }
 }
 
-/// The port that the text is: none, or a colon and a number or `*`.
+// The port that the text is: none, or a colon and a number or `*`.
 #[tactic(auto, unfolding(csp_model::specs::Grammar::port_part_of))]
 pub(crate) fn port_part_of(text: &[u8]) -> Option<PortPart>
-    ensures { result ≡ port_part_of text.now }
+    ensures { result ≡ spec.port_part_of text.now }
 {
     match text.split_first() {
         None => Some(PortPart::Absent),

@@ -1,18 +1,20 @@
-//! Keywords, nonces and hashes, which stand between apostrophes.
+//! Keywords, nonces and hashes, which stand between apostrophes (Content Security Policy Level 3,
+//! section 2.3.1).
 ghost use Rattle.std.specs.Prelude.{◌≡◌, ◌++◌, ◌∷◌, ◌&&◌, if◌then◌else◌, IfOk, IfSome, IsTrue, Some, None, option_copied, codes};
 ghost use Rattle.std.specs.List.{list_all, find};
 ghost use Rattle.std.specs.Str.{bytes_eq};
 ghost use Rattle.csp_model.specs.Ascii.{is_ascii_text, lower, ends_in, without_last};
-ghost use Rattle.csp_model.specs.Grammar.{keyword_text, is_base64_char, is_base64_value, algorithm_text};
-ghost use Rattle.csp_model.specs.Reading.{keywords, keyword_source, quoted_value, nonce_source, hash_source};
+ghost use Rattle.csp_model.specs.Bytes.{quote};
+ghost use Rattle.csp_model.specs.Grammar as grammar;
+ghost use Rattle.csp_model.specs.Reading as spec;
 
 use crate::texts::without_final;
 use csp_model::{Algorithm, Hash, Keyword, Memory, Source, Text};
 use std::alloc::Global;
 
-/// The keyword in lower case.
+// The keyword in lower case.
 pub(crate) fn keyword_text(word: Keyword) -> &'static str
-    ensures { result.now ≡ keyword_text word }
+    ensures { result.now ≡ grammar.keyword_text word }
 {
     match word {
         Keyword::SelfOrigin => "'self'",
@@ -25,15 +27,15 @@ pub(crate) fn keyword_text(word: Keyword) -> &'static str
     }
 }
 
-/// The token is the keyword, in letters of either case.
+// The token is the keyword, in letters of either case.
 fn spells(token: &[u8], word: Keyword) -> bool
-    ensures { result ≡ bytes_eq (lower token.now) (keyword_text word) }
+    ensures { result ≡ bytes_eq (lower token.now) (grammar.keyword_text word) }
 {
     token.eq_ignore_ascii_case(keyword_text(word).as_bytes())
 }
 
 fn keyword_of(token: &[u8]) -> Option<Keyword>
-    ensures { result ≡ find (λ word. bytes_eq (lower token.now) (keyword_text word)) keywords }
+    ensures { result ≡ find (λ word. bytes_eq (lower token.now) (grammar.keyword_text word)) spec.keywords }
 {
     const KEYWORDS: [Keyword; 7] = [
         Keyword::SelfOrigin,
@@ -47,10 +49,10 @@ fn keyword_of(token: &[u8]) -> Option<Keyword>
     KEYWORDS.iter().copied().find(|word| spells(token, *word))
 }
 
-/// The source that is a keyword.
+// The source that is a keyword.
 #[tactic(auto, unfolding(csp_model::specs::Reading::keyword_source))]
 pub(crate) fn keyword_source(token: &[u8]) -> Option<Source>
-    ensures { result ≡ keyword_source token.now }
+    ensures { result ≡ spec.keyword_source token.now }
 {
     match keyword_of(token) {
         None => None,
@@ -60,26 +62,26 @@ pub(crate) fn keyword_source(token: &[u8]) -> Option<Source>
 
 #[tactic(auto, unfolding(csp_model::specs::Grammar::is_base64_char))]
 fn is_base64_char(b: u8) -> bool
-    ensures { result ≡ is_base64_char b }
+    ensures { result ≡ grammar.is_base64_char b }
 {
     b.is_ascii_alphanumeric() || b"+/-_".contains(&b)
 }
 
 fn all_base64_chars(text: &[u8]) -> bool
-    ensures { result ≡ list_all is_base64_char text.now }
+    ensures { result ≡ list_all grammar.is_base64_char text.now }
 {
     text.iter().all(|b| is_base64_char(*b))
 }
 
 #[tactic(auto, unfolding(csp_model::specs::Grammar::is_base64_value))]
 fn is_base64_value(text: &[u8]) -> bool
-    ensures { result ≡ is_base64_value text.now }
+    ensures { result ≡ grammar.is_base64_value text.now }
 {
     let digits = without_final(without_final(text, b'='), b'=');
     !digits.is_empty() && all_base64_chars(digits)
 }
 
-/// The letters are the word in letters of either case, where the word is in lower case.
+// The letters are the word in letters of either case, where the word is in lower case.
 fn spells_word(letters: &[u8], word: &[u8]) -> bool
     requires { lower word.now ≡ word.now }
     ensures { result ≡ bytes_eq (lower letters.now) word.now }
@@ -87,33 +89,32 @@ fn spells_word(letters: &[u8], word: &[u8]) -> bool
     letters.eq_ignore_ascii_case(word)
 }
 
-/// The base64-value before an apostrophe at the end.
+// The base64-value before an apostrophe at the end.
+#[tactic(auto, using(crate::proofs::EndLaws::byte_turned, csp_model::proofs::AsciiParts::take_ascii))]
 fn value_before_apostrophe(rest: &[u8]) -> Option<&[u8]>
     ensures value { option_copied result
-        ≡ (if ends_in 39 rest.now && is_base64_value (without_last rest.now)
+        ≡ (if ends_in quote rest.now && grammar.is_base64_value (without_last rest.now)
         then Some (without_last rest.now) else None) }
-    ensures ascii { IfSome result
-        (λ value. IsTrue (is_ascii_text rest.now) → IsTrue (is_ascii_text value.now)) }
+    ensures ascii { IsTrue (is_ascii_text rest.now)
+        → IfSome result (λ value. IsTrue (is_ascii_text value.now)) }
 {
-    match rest.split_last() {
-        Some((b'\'', value)) => {
-            if is_base64_value(value) {
-                Some(value)
-            } else {
-                None
-            }
-        }
+    match rest.strip_suffix(b"'") {
+        Some(value) if is_base64_value(value) => Some(value),
         _ => None,
     }
 }
 
-/// The base64-value between the word, which is in lower case, and an apostrophe.
-#[tactic(auto, unfolding(csp_model::specs::Reading::quoted_value))]
+// The base64-value between the word, which is in lower case, and an apostrophe.
+#[tactic(
+    auto,
+    using(csp_model::proofs::AsciiParts::drop_ascii),
+    unfolding(csp_model::specs::Reading::quoted_value)
+)]
 fn quoted_value<'a>(word: &[u8], token: &'a [u8]) -> Option<&'a [u8]>
     requires { lower word.now ≡ word.now }
-    ensures value { option_copied result ≡ quoted_value word.now token.now }
-    ensures ascii { IfSome result
-        (λ value. IsTrue (is_ascii_text token.now) → IsTrue (is_ascii_text value.now)) }
+    ensures value { option_copied result ≡ spec.quoted_value word.now token.now }
+    ensures ascii { IsTrue (is_ascii_text token.now)
+        → IfSome result (λ value. IsTrue (is_ascii_text value.now)) }
 {
     if token.len() < word.len() {
         return None;
@@ -126,11 +127,11 @@ fn quoted_value<'a>(word: &[u8], token: &'a [u8]) -> Option<&'a [u8]>
     }
 }
 
-/// The source that is a nonce.
+// The source that is a nonce.
 #[tactic(auto, unfolding(csp_model::specs::Reading::nonce_source))]
 pub(crate) fn nonce_source(alloc: Global, token: &[u8]) -> Result<Option<Source>, Memory>
     requires { IsTrue (is_ascii_text token.now) }
-    ensures { IfOk result (λ found. found ≡ nonce_source token.now) }
+    ensures { IfOk result (λ found. found ≡ spec.nonce_source token.now) }
 {
     match quoted_value(b"'nonce-", token) {
         None => Ok(None),
@@ -140,9 +141,9 @@ pub(crate) fn nonce_source(alloc: Global, token: &[u8]) -> Result<Option<Source>
     }
 }
 
-/// What a hash-source of the algorithm begins with.
+// What a hash-source of the algorithm begins with.
 pub(crate) fn hash_word(algorithm: Algorithm) -> &'static str
-    ensures { result.now ≡ 39 ∷ algorithm_text algorithm ++ codes "-" }
+    ensures { result.now ≡ quote ∷ grammar.algorithm_text algorithm ++ codes "-" }
 {
     match algorithm {
         Algorithm::Sha256 => "'sha256-",
@@ -151,7 +152,7 @@ pub(crate) fn hash_word(algorithm: Algorithm) -> &'static str
     }
 }
 
-/// The source that is a hash of the algorithm.
+// The source that is a hash of the algorithm.
 #[tactic(auto, unfolding(csp_model::specs::Reading::hash_source))]
 pub(crate) fn hash_source(
     alloc: Global,
@@ -159,7 +160,7 @@ pub(crate) fn hash_source(
     token: &[u8],
 ) -> Result<Option<Source>, Memory>
     requires { IsTrue (is_ascii_text token.now) }
-    ensures { IfOk result (λ found. found ≡ hash_source algorithm token.now) }
+    ensures { IfOk result (λ found. found ≡ spec.hash_source algorithm token.now) }
 {
     match quoted_value(hash_word(algorithm).as_bytes(), token) {
         None => Ok(None),

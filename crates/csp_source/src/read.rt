@@ -1,7 +1,7 @@
-//! Reads a source expression.
+//! Reads a source expression (Content Security Policy Level 3, section 2.3.1).
 ghost use Rattle.std.specs.Prelude.{◌≡◌, IfOk, IsTrue};
 ghost use Rattle.csp_model.specs.Ascii.{is_ascii_text};
-ghost use Rattle.csp_model.specs.Reading.{kind_of, source_of};
+ghost use Rattle.csp_model.specs.Reading as spec;
 
 use crate::hosted::host_source;
 use crate::quoted::{hash_source, keyword_source, nonce_source};
@@ -9,11 +9,11 @@ use crate::scheme::scheme_source;
 use csp_model::{Algorithm, Memory, Source, Text};
 use std::alloc::Global;
 
-/// The source that a token of some kind is.
+// The source that a token of some kind is.
 #[tactic(auto, unfolding(csp_model::specs::Reading::kind_of))]
 fn kind_of(alloc: Global, token: &[u8]) -> Result<Option<Source>, Memory>
     requires { IsTrue (is_ascii_text token.now) }
-    ensures { IfOk result (λ found. found ≡ kind_of token.now) }
+    ensures { IfOk result (λ found. found ≡ spec.kind_of token.now) }
 {
     if let Some(source) = scheme_source(alloc, token)? {
         return Ok(Some(source));
@@ -36,13 +36,13 @@ fn kind_of(alloc: Global, token: &[u8]) -> Result<Option<Source>, Memory>
     hash_source(alloc, Algorithm::Sha512, token)
 }
 
-/// What a token of a directive's value stands for (Content Security Policy Level 3, section 2.3.1). A token of no
-/// kind is a source too, one that matches nothing. What it is made of is compared as the standard says: schemes,
-/// hosts and keywords ignoring the case of letters, nonces and digests as they are written.
+/// What a token of a directive's value stands for (Content Security Policy Level 3, section 2.3.1). A token
+/// of no kind is a source too, one that matches nothing. What it is made of is compared as the standard says:
+/// schemes, hosts and keywords ignoring the case of letters, nonces and digests as they are written.
 #[tactic(auto, unfolding(csp_model::specs::Reading::source_of))]
 pub fn read_source(alloc: Global, token: &[u8]) -> Result<Source, Memory>
     requires { IsTrue (is_ascii_text token.now) }
-    ensures { IfOk result (λ source. source ≡ source_of token.now) }
+    ensures { IfOk result (λ source. source ≡ spec.source_of token.now) }
 {
     if token == b"*".as_slice() {
         return Ok(Source::Star);

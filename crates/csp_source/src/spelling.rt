@@ -1,7 +1,7 @@
-//! Writes a source expression.
+//! Writes a source expression (Content Security Policy Level 3, section 2.3.1).
 ghost use Rattle.std.specs.Prelude.{◌≡◌, ◌++◌, IfOk, OnOk, string_bytes, codes};
 ghost use Rattle.csp_model.specs.Reading.{source_of};
-ghost use Rattle.csp_source.specs.Spelling.{scheme_spelling, host_spelling, port_spelling, path_spelling, spelling, IsRead};
+ghost use Rattle.csp_source.specs.Spelling as spec;
 
 use crate::quoted::{hash_word, keyword_text};
 use csp_model::{HostPart, Memory, PathPart, PortPart, Source, Text, push_path};
@@ -10,7 +10,7 @@ use std::alloc::Global;
 
 fn push_scheme(text: &mut String, scheme: &Option<Text>) -> Result<(), Memory>
     ensures { OnOk result
-        (string_bytes text.new ≡ string_bytes text.old ++ scheme_spelling scheme.now) }
+        (string_bytes text.new ≡ string_bytes text.old ++ spec.scheme_spelling scheme.now) }
 {
     match scheme {
         None => Ok(()),
@@ -24,7 +24,7 @@ fn push_scheme(text: &mut String, scheme: &Option<Text>) -> Result<(), Memory>
 
 fn push_host(text: &mut String, host: &HostPart) -> Result<(), Memory>
     ensures { OnOk result
-        (string_bytes text.new ≡ string_bytes text.old ++ host_spelling host.now) }
+        (string_bytes text.new ≡ string_bytes text.old ++ spec.host_spelling host.now) }
 {
     match host {
         HostPart::Any => text.push('*')?,
@@ -39,7 +39,7 @@ fn push_host(text: &mut String, host: &HostPart) -> Result<(), Memory>
 
 fn push_port(text: &mut String, port: PortPart) -> Result<(), Memory>
     ensures { OnOk result
-        (string_bytes text.new ≡ string_bytes text.old ++ port_spelling port) }
+        (string_bytes text.new ≡ string_bytes text.old ++ spec.port_spelling port) }
 {
     match port {
         PortPart::Absent => {}
@@ -55,7 +55,7 @@ fn push_port(text: &mut String, port: PortPart) -> Result<(), Memory>
 
 fn push_path_part(text: &mut String, path: &PathPart) -> Result<(), Memory>
     ensures { OnOk result
-        (string_bytes text.new ≡ string_bytes text.old ++ path_spelling path.now) }
+        (string_bytes text.new ≡ string_bytes text.old ++ spec.path_spelling path.now) }
 {
     match path {
         PathPart::Absent => {}
@@ -80,7 +80,7 @@ fn push_quoted(text: &mut String, word: &str, value: &Text) -> Result<(), Memory
 
 fn push_source(text: &mut String, source: &Source) -> Result<(), Memory>
     ensures { OnOk result
-        (string_bytes text.new ≡ string_bytes text.old ++ spelling source.now) }
+        (string_bytes text.new ≡ string_bytes text.old ++ spec.spelling source.now) }
 {
     match source {
         Source::Star => text.push('*')?,
@@ -107,12 +107,13 @@ fn push_source(text: &mut String, source: &Source) -> Result<(), Memory>
     Ok(())
 }
 
-/// The one text of a source that some token reads as; it reads back to that source. Words that ignore case are in
-/// lower case, a port has no leading zeros, and one that is too large is `65536`. In a path every byte of a piece
-/// but letters, digits, `-`, `.`, `_` and `~` is written as `%` and two upper-case hexadecimal digits.
+/// The one text of a source that some token reads as; it reads back to that source. Words that ignore case
+/// are in lower case, a port has no leading zeros, and one that is too large is `65536`. In a path every byte
+/// of a piece but letters, digits, `-`, `.`, `_` and `~` is written as `%` and two upper-case hexadecimal
+/// digits.
 pub fn source_text(alloc: Global, source: &Source) -> Result<Text, Memory>
-    requires { IsRead source.now }
-    ensures text { IfOk result (λ text. text ≡ spelling source.now) }
+    requires { spec.IsRead source.now }
+    ensures text { IfOk result (λ text. text ≡ spec.spelling source.now) }
     ensures reads_back { IfOk result (λ text. source_of text ≡ source.now) }
 {
     let mut text = String::new(alloc);

@@ -1,13 +1,11 @@
 //! How texts end.
 ghost use Rattle.std.specs.Prelude.{◌≡◌};
-ghost use Rattle.csp_model.specs.Ascii.{without_final};
+ghost use Rattle.csp_model.specs.Ascii as spec;
 
-/// The text without one such byte at its end.
+// The text without one such byte at its end.
+#[tactic(auto, using(crate::proofs::EndLaws::byte_turned))]
 pub(crate) fn without_final(text: &[u8], byte: u8) -> &[u8]
-    ensures { result.now ≡ without_final byte text.now }
+    ensures { result.now ≡ spec.without_final byte text.now }
 {
-    match text.split_last() {
-        Some((last, front)) => { if *last == byte { front } else { text } }
-        None => text,
-    }
+    text.strip_suffix(&[byte]).unwrap_or(text)
 }

@@ -1,5 +1,5 @@
 use Rattle.csp_source.proofs.SourceLaws.{source_built, source_read}
-use Rattle.csp_source.proofs.law.each_token_has_one_source.Goals as goal
+use Rattle.csp_source.proofs.laws.each_token_has_one_source.Goals as goal
 
 pub returns-clause-built : goal.returns-clause-built
 returns-clause-built c = source_built
