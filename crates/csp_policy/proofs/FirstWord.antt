@@ -1,18 +1,18 @@
 -- The first word of a text.
-use Rattle.std.proofs.Common.{arith, refl, sym, ap, ◌∙◌, ◌≡◌, ◌≢◌, ◌<◌, ◌+◌, ◌==◌, ℕ, Bool, true, false, cond, List, [], ◌∷◌, take, drop, length, position, Some, None, nat_lt, get_or, subst, zero, suc, ◌≤◌}
+use Rattle.std.proofs.Common.{arith, refl, sym, ap, ◌∙◌, ◌≡◌, ◌≢◌, ◌<◌, ◌+◌, ◌==◌, ℕ, Bool, true, false, cond, List, [], ◌∷◌, take, drop, length, position, Some, None, nat_lt, get_or, subst, ◌≤◌}
 use Rattle.std.specs.Char.{is_ascii_whitespace}
 use Rattle.std.specs.List.{position_or_len}
 use Rattle.std.proofs.lemmas.Grind.{common_steps}
 use Rattle.std.proofs.lemmas.List.{drop_more}
 use Rattle.std.proofs.lemmas.List.Sums.{passes_at_first, fails_before_first, split_at_first}
-use Rattle.csp_model.specs.Ascii.{is_ascii_text, words}
-use Rattle.csp_model.specs.Reading.{back}
+use Rattle.csp_model.specs.Ascii.{skip_while, words}
+use Rattle.csp_model.proofs.SkipLaws.{skip_while-cons}
 use Rattle.csp_model.proofs.WordLaws.{IsSolid, words-space, one_word, word_before}
 
-pub words_back : (s : List ℕ) → words (back is_ascii_whitespace s) ≡ words s
-words_back [] = refl
-words_back (b ∷ s) = elim (is_ascii_whitespace b) as (λ t. is_ascii_whitespace b ≡ t → words (cond t (back is_ascii_whitespace s) (b ∷ s)) ≡ words (b ∷ s)) [
-  | true ↦ λ h. words_back s ∙ sym (words-space b s h)
+pub words_skip : (s : List ℕ) → words (skip_while is_ascii_whitespace s) ≡ words s
+words_skip [] = refl
+words_skip (b ∷ s) = ap words (skip_while-cons is_ascii_whitespace b s) ∙ elim (is_ascii_whitespace b) as (λ t. is_ascii_whitespace b ≡ t → words (cond t (skip_while is_ascii_whitespace s) (b ∷ s)) ≡ words (b ∷ s)) [
+  | true ↦ λ h. words_skip s ∙ sym (words-space b s h)
   | false ↦ λ h. refl
 ] refl
 
@@ -30,12 +30,12 @@ begins_solid b s h k =
     grind (arith, common_steps, at.1)
 
 -- a trimmed text is empty, or begins with a byte that is no whitespace
-pub back_begins : (s : List ℕ) → position is_ascii_whitespace (back is_ascii_whitespace s) ≢ Some 0
-back_begins [] h = cc
-back_begins (b ∷ s) h = elim (is_ascii_whitespace b) as (λ t. is_ascii_whitespace b ≡ t → position is_ascii_whitespace (cond t (back is_ascii_whitespace s) (b ∷ s)) ≢ Some 0) [
-  | true ↦ λ k. back_begins s
+pub skip_begins : (s : List ℕ) → position is_ascii_whitespace (skip_while is_ascii_whitespace s) ≢ Some 0
+skip_begins [] h = cc
+skip_begins (b ∷ s) h = elim (is_ascii_whitespace b) as (λ t. is_ascii_whitespace b ≡ t → position is_ascii_whitespace (cond t (skip_while is_ascii_whitespace s) (b ∷ s)) ≢ Some 0) [
+  | true ↦ λ k. skip_begins s
   | false ↦ λ k. begins_solid b s k
-] refl h
+] refl (sym (ap (position is_ascii_whitespace) (skip_while-cons is_ascii_whitespace b s)) ∙ h)
 
 abbrev first_space : List ℕ → ℕ
 first_space s = position_or_len is_ascii_whitespace s
@@ -66,17 +66,3 @@ word_alone s h k =
 pub no_words : (s : List ℕ) → (length s == 0) ≡ true → words s ≡ []
 no_words [] h = refl
 no_words (b ∷ s) h = absurd (let n : length (b ∷ s) ≡ 0 = grind (arith, h) in omega (arith, n))
-
-pub take_ascii : (n : ℕ) (s : List ℕ) → is_ascii_text s ≡ true → is_ascii_text (take n s) ≡ true
-take_ascii zero s h = refl
-take_ascii (suc n) [] h = refl
-take_ascii (suc n) (b ∷ s) h = grind (arith, common_steps, take_ascii n s)
-
-pub drop_ascii : (n : ℕ) (s : List ℕ) → is_ascii_text s ≡ true → is_ascii_text (drop n s) ≡ true
-drop_ascii zero s h = h
-drop_ascii (suc n) [] h = refl
-drop_ascii (suc n) (b ∷ s) h = grind (arith, common_steps, drop_ascii n s)
-
-pub back_ascii : (s : List ℕ) → is_ascii_text s ≡ true → is_ascii_text (back is_ascii_whitespace s) ≡ true
-back_ascii [] h = refl
-back_ascii (b ∷ s) h = grind (arith, common_steps, back_ascii s)

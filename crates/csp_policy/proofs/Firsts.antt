@@ -1,5 +1,5 @@
 -- The first directives of a list to which one more is added at its end.
-use Rattle.std.proofs.Common.{arith, ◌≡◌, ◌∙◌, ap, refl, ℕ, Bool, true, false, ◌&&◌, not, List, [], ◌∷◌, ◌++◌, append-nil, Bor, map, Some, None}
+use Rattle.std.proofs.Common.{arith, ◌≡◌, ◌∙◌, sym, ap, refl, ℕ, Bool, true, false, ◌&&◌, not, List, [], ◌∷◌, ◌++◌, append-nil, Bor, map, Some, None}
 use Rattle.std.specs.List.{list_any, filter, filter_map, cons_option}
 use Rattle.std.specs.Str.{bytes_eq}
 use Rattle.std.proofs.lemmas.Grind.{common_steps}
@@ -8,6 +8,7 @@ use Rattle.std.proofs.lemmas.List.Elements.{filter-append, filter_map-append}
 use Rattle.std.proofs.lemmas.Slice.Eq.{bytes_eq-Decides}
 use Rattle.csp_model.specs.Policies.{directive_of, firsts, same_name}
 use Rattle.csp_model.specs.declared.policy.Directive.{Directive}
+use Rattle.csp_policy.specs.Room.{if_first}
 
 -- a directive has this name
 abbrev pub has_name : List ℕ → List Directive → Bool
@@ -52,13 +53,9 @@ firsts_more (x ∷ ds) d = ap (λ kept. x ∷ kept) (ap (filter (is_other x)) (f
     ∙ ap (λ kept. filter (is_other x) (firsts ds) ++ kept)
     (filter_twice (is_other x) (is_new (firsts ds)) (is_new (firsts (x ∷ ds))) (new_more x (firsts ds)) (d ∷ [])))
 
--- a directive of a new name is one of the first
-pub firsts_new : (ds : List Directive) (d : Directive) → has_name d.name (firsts ds) ≡ false → firsts (ds ++ d ∷ []) ≡ firsts ds ++ d ∷ []
-firsts_new ds d h = firsts_more ds d ∙ simp h
-
--- a directive of an old name is not
-pub firsts_old : (ds : List Directive) (d : Directive) → has_name d.name (firsts ds) ≡ true → firsts (ds ++ d ∷ []) ≡ firsts ds
-firsts_old ds d h = firsts_more ds d ∙ simp h (append-nil (firsts ds))
+-- one more directive, which is the first of its name or counts for nothing
+pub firsts_push : (ds : List Directive) (d : Directive) (is_first : Bool) → is_first ≡ is_new (firsts ds) d → firsts (ds ++ d ∷ []) ≡ firsts ds ++ if_first is_first d
+firsts_push ds d is_first h = firsts_more ds d ∙ ap (λ b. firsts ds ++ if_first b d) (sym h)
 
 -- one more piece
 pub found_more : (pieces : List (Bor (List ℕ))) (piece : Bor (List ℕ)) → found (pieces ++ piece ∷ []) ≡ found pieces ++ cons_option (directive_of piece.now) []

@@ -1,32 +1,23 @@
 //! Header blocks (Content Security Policy Level 3, sections 3.1 to 3.3).
 ghost use Rattle.std.specs.Prelude.{◌≡◌, ◌<◌, ◌-◌, ◌^◌, ◌⊎◌, length, IfOk, OnOk, IfErr, Some, None};
+ghost use Rattle.csp_model.specs.Answers.{Gives};
 ghost use Rattle.csp_model.specs.Policies.{policies, first_bad, IsReadable};
 ghost use Rattle.csp_model.specs.Validity.{IsValidOrigin};
-ghost use Rattle.csp_policy.specs.Reading.{AreRead};
-ghost use Rattle.csp_policy.specs.Refusal.{refusal_of};
+ghost use Rattle.csp_policy.specs.Room.{AreRead};
+ghost use Rattle.csp_policy.specs.Refusal as spec;
 
 use crate::error::BlockError;
 use crate::lines::{Line, read_line, without_status};
-use crate::policy::Reader;
+use crate::reader::Reader;
 use csp_model::{Memory, Origin, PolicyList};
 use std::alloc::Global;
 
-impl From<Memory> for BlockError {
-    ghost use Rattle.csp_policy.specs.declared.error.BlockError.{BlockError};
-
-    ghost from_gives = { λ _ made. made ≡ BlockError.Memory };
-
-    fn from(_: Memory) -> BlockError {
-        BlockError::Memory
-    }
-}
-
-/// Reads the headers of a block's lines.
+// Reads the headers of a block's lines.
 fn read_lines(alloc: Global, bytes: &[u8], origin: &Origin) -> Result<Reader, BlockError>
     requires { length bytes.now < 2 ^ 32 - 1 }
     ensures read { IfOk result (λ reader. AreRead (policies bytes.now origin.now) reader.policies reader.room) }
     ensures good { OnOk result (first_bad bytes.now ≡ None) }
-    ensures bad { IfErr result (λ e. (e ≡ BlockError.Memory) ⊎ (refusal_of bytes.now origin.now ≡ Some e)) }
+    ensures bad { IfErr result (λ e. (e ≡ BlockError.Memory) ⊎ (spec.refusal_of bytes.now origin.now ≡ Some e)) }
 {
     let mut reader = Reader::new(alloc);
     let mut number = 0;
@@ -54,9 +45,7 @@ fn read_lines(alloc: Global, bytes: &[u8], origin: &Origin) -> Result<Reader, Bl
 /// element loses. A block is shorter than 4 GiB, so that each line has a number.
 pub fn read_block(alloc: Global, bytes: &[u8], origin: &Origin) -> Result<PolicyList, BlockError>
     requires { length bytes.now < 2 ^ 32 - 1 }
-    ensures list { IfOk result (λ list. list.policies ≡ policies bytes.now origin.now) }
-    ensures accepted { OnOk result (refusal_of bytes.now origin.now ≡ None) }
-    ensures refused { IfErr result (λ e. (e ≡ BlockError.Memory) ⊎ (refusal_of bytes.now origin.now ≡ Some e)) }
+    ensures list { Gives BlockError.Memory result (spec.list_of bytes.now origin.now) }
     ensures readable { IsValidOrigin origin.now → IfOk result IsReadable }
 {
     let reader = read_lines(alloc, bytes, origin)?;

@@ -1,18 +1,18 @@
-//! Serialized policies (Content Security Policy Level 3, section 2.2.1).
-ghost use Rattle.std.specs.Prelude.{◌≡◌, ◌-◌, IfOk, OnOk, IfSome, MatchOption, None, Some, true, not, ◌||◌, [], length, map, take};
+//! The directives of serialized policies (Content Security Policy Level 3, section 2.2.1).
+ghost use Rattle.std.specs.Prelude.{◌≡◌, ◌-◌, IfOk, OnOk, IfSome, MatchOption, None, Some, true, not, ◌||◌, ◌++◌, [], length, map, take};
 ghost use Rattle.csp_model.specs.Ascii.{is_ascii_text, words};
 ghost use Rattle.csp_model.specs.Policies.{directive_of, directives_of, is_for_meta};
 ghost use Rattle.csp_model.specs.Reading.{source_of};
-ghost use Rattle.csp_policy.specs.Reading.{directive_with, shortened, kept_of, AreShortened};
+ghost use Rattle.csp_policy.specs.Room.{directive_with, shortened, kept_of, if_first, tokens_in, AreShortened};
 
-use crate::names::CaselessName;
+use crate::caseless_name::CaselessName;
 use crate::words::next_word;
 use csp_model::{Directive, List, Memory, Source, Text, is_ascii_text};
 use csp_source::read_source;
 use std::alloc::Global;
 use std::collections::BTreeSet;
 
-/// The first `room` words of a text, and the sources that they stand for.
+// The first `room` words of a text, and the sources that they stand for.
 fn read_tokens(
     alloc: Global,
     text: &[u8],
@@ -36,7 +36,7 @@ fn read_tokens(
     Ok((tokens, sources))
 }
 
-/// The directive of this name, whose tokens are the first words of a text, as many as there is room for.
+// The directive of this name, whose tokens are the first words of a text, as many as there is room for.
 fn read_directive(
     alloc: Global,
     name: &[u8],
@@ -57,11 +57,12 @@ fn read_directive(
     })
 }
 
-/// The name of a piece's directive, and the text behind it. None where the piece has no word, or a byte
-/// outside ASCII.
+// The name of a piece's directive, and the text behind it. None where the piece has no word, or a byte
+// outside ASCII.
 #[tactic(auto, unfolding(csp_model::specs::Policies::directive_of))]
 fn split_name(piece: &[u8]) -> Option<(&[u8], &[u8])>
-    ensures directive { MatchOption result (directive_of piece.now ≡ None) (λ found. directive_of piece.now ≡ Some (directive_with found.0.now (words found.1.now))) }
+    ensures directive { MatchOption result (directive_of piece.now ≡ None)
+        (λ found. directive_of piece.now ≡ Some (directive_with found.0.now (words found.1.now))) }
     ensures ascii_name { IfSome result (λ found. is_ascii_text found.0.now ≡ true) }
     ensures ascii_text { IfSome result (λ found. is_ascii_text found.1.now ≡ true) }
 {
@@ -72,7 +73,7 @@ fn split_name(piece: &[u8]) -> Option<(&[u8], &[u8])>
     }
 }
 
-/// Whether a meta element may carry the directive of this name.
+// Whether a meta element may carry the directive of this name.
 fn is_for_meta(name: CaselessName<'_>) -> bool
     ensures { result ≡ is_for_meta (directive_with name.entry.bytes.now []) }
 {
@@ -87,15 +88,38 @@ fn is_for_meta(name: CaselessName<'_>) -> bool
         || name == CaselessName { bytes: b"sandbox" })
 }
 
-/// Whether the directive of this name stays, where a meta element may deliver the policy.
+// Whether the directive of this name stays, where a meta element may deliver the policy.
 fn is_kept(meta: bool, name: CaselessName<'_>) -> bool
     ensures { result ≡ (not meta || is_for_meta (directive_with name.entry.bytes.now [])) }
 {
     !meta || is_for_meta(name)
 }
 
-/// The directives of a serialized policy, the first of each name, without those that a meta element loses.
-/// There is room for so many tokens; a token past that is not kept.
+// Adds the directive of this name and text, where it is the first of its name. A later one counts for nothing.
+fn add_first(
+    alloc: Global,
+    made: &mut Vec<Directive>,
+    is_first: bool,
+    name: &[u8],
+    text: &[u8],
+    room: &mut usize,
+) -> Result<(), Memory>
+    requires name { is_ascii_text name.now ≡ true }
+    requires text { is_ascii_text text.now ≡ true }
+    ensures made { OnOk result (made.new.items ≡ made.old.items
+        ++ map (shortened room.old) (if_first is_first (directive_with name.now (words text.now)))) }
+    ensures left { OnOk result (room.new
+        ≡ room.old - tokens_in (if_first is_first (directive_with name.now (words text.now)))) }
+{
+    if !is_first {
+        return Ok(());
+    }
+    made.push(read_directive(alloc, name, text, room)?)?;
+    Ok(())
+}
+
+// The directives of a serialized policy, the first of each name, without those that a meta element loses.
+// There is room for so many tokens; a token past that is not kept.
 pub fn read_directives(
     alloc: Global,
     value: &[u8],
@@ -105,18 +129,16 @@ pub fn read_directives(
     ensures { IfOk result (λ made. AreShortened (kept_of meta (directives_of value.now)) made room.old room.new) }
 {
     let mut seen = BTreeSet::new(alloc);
-    let mut made = List::new(alloc);
+    let mut made = Vec::new(alloc);
     for piece in value.split(|b| *b == b';') {
         let Some((name, text)) = split_name(piece) else {
             continue;
         };
         let name = CaselessName { bytes: name };
-        if !seen.insert(name)? {
-            continue;
-        }
+        let is_first = seen.insert(name)?;
         if is_kept(meta, name) {
-            made.push(read_directive(alloc, name.bytes, text, room)?)?;
+            add_first(alloc, &mut made, is_first, name.bytes, text, room)?;
         }
     }
-    Ok(made)
+    Ok(List::from_vec(made))
 }

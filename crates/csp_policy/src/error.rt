@@ -1,4 +1,7 @@
 //! Why a header block is refused.
+ghost use Rattle.std.specs.Prelude.{◌≡◌};
+
+use csp_model::Memory;
 use thiserror::Error;
 
 /// What is refused in a header block.
@@ -19,4 +22,14 @@ pub enum BlockError {
     /// There was no memory.
     #[error("no memory")]
     Memory,
+}
+
+impl From<Memory> for BlockError {
+    ghost use Rattle.csp_policy.specs.declared.error.BlockError.{BlockError};
+
+    ghost from_gives = { λ _ made. made ≡ BlockError.Memory };
+
+    fn from(_: Memory) -> BlockError {
+        BlockError::Memory
+    }
 }

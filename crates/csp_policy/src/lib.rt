@@ -2,13 +2,13 @@
 #![tactic(auto)]
 
 mod block;
+mod caseless_name;
 mod directive;
 mod error;
 mod lines;
 mod longest;
-mod names;
-mod policy;
 mod print;
+mod reader;
 #[cfg(test)]
 mod tests;
 mod words;

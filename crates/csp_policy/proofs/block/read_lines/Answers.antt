@@ -5,7 +5,7 @@ use Rattle.std.proofs.lemmas.Iterator.Consumers.{YieldsList-at, YieldsList-end}
 use Rattle.std.proofs.lemmas.Iterator.Splits.{YieldsList-from_slice_split}
 use Rattle.csp_model.specs.Ascii.{split_at}
 use Rattle.csp_model.specs.Policies.{Skipped, Header, policies, policies_of, first_bad_from}
-use Rattle.csp_policy.specs.Reading.{AreRead}
+use Rattle.csp_policy.specs.Room.{AreRead}
 use Rattle.csp_policy.specs.Refusal.{refusal_at}
 use Rattle.csp_policy.proofs.LinesSoFar.{says, said, still_good, read_more, bad_at, at_turn}
 use Rattle.csp_policy.proofs.block.read_lines.Goals as goal

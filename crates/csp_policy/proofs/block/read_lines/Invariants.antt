@@ -1,7 +1,7 @@
 use Rattle.std.proofs.Common.{◌≡◌, length, None}
 use Rattle.std.specs.List.{flat_map}
 use Rattle.csp_model.specs.Policies.{policies_of, first_bad_from}
-use Rattle.csp_policy.specs.Reading.{AreRead}
+use Rattle.csp_policy.specs.Room.{AreRead}
 use Rattle.csp_policy.proofs.LinesSoFar.{said}
 use Rattle.csp_policy.proofs.block.read_lines.Given as goal
 

@@ -7,8 +7,8 @@ use Rattle.csp_model.specs.Policies.{policy_with, directives_of}
 use Rattle.csp_model.specs.declared.policy.Disposition.{Disposition}
 use Rattle.csp_model.specs.declared.policy.Policy.{Policy}
 use Rattle.csp_model.specs.declared.url.Origin.{Origin}
-use Rattle.csp_policy.specs.Reading.{AreRead}
-use Rattle.csp_policy.proofs.policy.Reader.add_policies.Goals as goal
+use Rattle.csp_policy.specs.Room.{AreRead}
+use Rattle.csp_policy.proofs.reader.Reader.add_policies.Goals as goal
 
 abbrev of_pieces : Origin → Disposition → Items (Items ℕ) → Items Policy
 of_pieces origin disposition pieces = flat_map (λ piece. policy_with origin disposition false (directives_of piece)) pieces

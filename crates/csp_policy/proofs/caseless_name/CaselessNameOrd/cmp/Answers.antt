@@ -5,7 +5,7 @@ use Rattle.std.specs.Slice.Iter.{iter_rest}
 use Rattle.std.proofs.lemmas.Iterator.{YieldsList-from_slice, YieldsList-from_map}
 use Rattle.std.proofs.lemmas.Iterator.Consumers.{YieldsList-at}
 use Rattle.std.proofs.lemmas.Iterator.Search.{cmp_from_yields_List}
-use Rattle.csp_policy.proofs.names.CaselessNameOrd.cmp.Goals as goal
+use Rattle.csp_policy.proofs.caseless_name.CaselessNameOrd.cmp.Goals as goal
 
 pub returns : goal.returns
 returns c = cmp_from_yields_List (λ x y. y ≡ x) c.map-theirs.result nat_cmp c.cmp.result c.cmp.ensures.ran

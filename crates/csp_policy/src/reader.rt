@@ -2,7 +2,7 @@
 ghost use Rattle.std.specs.Prelude.{◌≡◌, ◌++◌, [], List as Items, MatchOption, OnOk, None, Some};
 ghost use Rattle.csp_model.specs.Policies.{policy_with, policies_in, policies_of, directives_of, Header};
 ghost use Rattle.csp_model.specs.declared.policy.Policy.{Policy as AnyPolicy};
-ghost use Rattle.csp_policy.specs.Reading.{AreRead, kept_of};
+ghost use Rattle.csp_policy.specs.Room.{AreRead, kept_of};
 ghost use Rattle.csp_policy.specs.Refusal.{excess};
 
 use crate::directive::read_directives;

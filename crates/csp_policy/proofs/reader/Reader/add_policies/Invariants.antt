@@ -2,8 +2,8 @@ use Rattle.std.proofs.Common.{◌++◌, List as Items, Bor, ℕ, map, false}
 use Rattle.std.specs.List.{flat_map}
 use Rattle.csp_model.specs.Policies.{policy_with, directives_of}
 use Rattle.csp_model.specs.declared.policy.Policy.{Policy}
-use Rattle.csp_policy.specs.Reading.{AreRead}
-use Rattle.csp_policy.proofs.policy.Reader.add_policies.Given as goal
+use Rattle.csp_policy.specs.Room.{AreRead}
+use Rattle.csp_policy.proofs.reader.Reader.add_policies.Given as goal
 
 -- the policies of the pieces so far were read after those before
 abbrev pub invariant-loop-piece : goal.invariant-loop-piece
