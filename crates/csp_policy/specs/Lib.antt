@@ -1,4 +1,5 @@
 pub mod Lines
 pub mod Names
+pub mod Reads
 pub mod Refusal
 pub mod Room

@@ -1,5 +1,5 @@
--- Words of private contracts, which stand here since contracts cite only specs/: what is read of directives and
--- policies, where only so many value tokens are kept.
+-- Words of private contracts, which stand here since contracts cite only specs/: what is read of directives
+-- and policies, where only so many value tokens are kept.
 use Rattle.std.specs.Prelude.{◌≡◌, ℕ, ◌+◌, ◌-◌, ◌≤◌, Bool, if◌then◌else◌, List, [], ◌∷◌, length, map, take, filter, min}
 use Rattle.std.specs.List.{sum_by}
 use Rattle.csp_model.specs.Ascii.{lower}
@@ -14,7 +14,8 @@ directive_with name tokens = record { name = lower name; tokens = tokens; source
 
 -- the directive, with so many of its tokens
 abbrev pub shortened : ℕ → Directive → Directive
-shortened room d = record { name = d.name; tokens = take room d.tokens; sources = map source_of (take room d.tokens) }
+shortened room d =
+    record { name = d.name; tokens = take room d.tokens; sources = map source_of (take room d.tokens) }
 
 -- a meta element loses some of its directives
 abbrev pub kept_of : Bool → List Directive → List Directive
@@ -35,8 +36,8 @@ pub record AreShortened (ds made : List Directive) (room now : ℕ) : Type 0 whe
   pub kept : tokens_in made + now ≡ room
   pub whole : tokens_in ds ≤ room → made ≡ ds
 
--- these policies were made from the policies ps up to the first that is too many, with room for the tokens up to
--- the first that is too many
+-- these policies were made from the policies ps up to the first that is too many, with room for the tokens
+-- up to the first that is too many
 pub record AreRead (ps made : List Policy) (now : ℕ) : Type 0 where
   pub number : length made ≡ min (length ps) (policy_limit + 1)
   pub left : length ps ≤ policy_limit → now ≡ token_limit + 1 - token_count ps

@@ -6,10 +6,10 @@ ghost use Rattle.std.specs.Ordering.{nat_cmp};
 
 use std::cmp::Ordering;
 
-/// A name as it is written. Names that differ only in the case of their letters are equal.
+// A name as it is written. Names that differ only in the case of their letters are equal.
 #[derive(Clone, Copy, Debug)]
-pub struct CaselessName<'a> {
-    pub bytes: &'a [u8],
+pub(crate) struct CaselessName<'a> {
+    pub(crate) bytes: &'a [u8],
 }
 
 impl<'a> PartialEq for CaselessName<'a> {

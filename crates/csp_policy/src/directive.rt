@@ -1,7 +1,7 @@
 //! The directives of serialized policies (Content Security Policy Level 3, section 2.2.1).
 ghost use Rattle.std.specs.Prelude.{◌≡◌, ◌-◌, IfOk, OnOk, IfSome, MatchOption, None, Some, true, not, ◌||◌, ◌++◌, [], length, map, take};
 ghost use Rattle.csp_model.specs.Ascii.{is_ascii_text, words};
-ghost use Rattle.csp_model.specs.Policies.{directive_of, directives_of, is_for_meta};
+ghost use Rattle.csp_model.specs.Policies as spec;
 ghost use Rattle.csp_model.specs.Reading.{source_of};
 ghost use Rattle.csp_policy.specs.Room.{directive_with, shortened, kept_of, if_first, tokens_in, AreShortened};
 
@@ -45,7 +45,8 @@ fn read_directive(
 ) -> Result<Directive, Memory>
     requires name { is_ascii_text name.now ≡ true }
     requires text { is_ascii_text text.now ≡ true }
-    ensures made { IfOk result (λ made. made ≡ shortened room.old (directive_with name.now (words text.now))) }
+    ensures made { IfOk result
+        (λ made. made ≡ shortened room.old (directive_with name.now (words text.now))) }
     ensures left { OnOk result (room.new ≡ room.old - length (words text.now)) }
 {
     let (tokens, sources) = read_tokens(alloc, text, *room)?;
@@ -61,8 +62,8 @@ fn read_directive(
 // outside ASCII.
 #[tactic(auto, unfolding(csp_model::specs::Policies::directive_of))]
 fn split_name(piece: &[u8]) -> Option<(&[u8], &[u8])>
-    ensures directive { MatchOption result (directive_of piece.now ≡ None)
-        (λ found. directive_of piece.now ≡ Some (directive_with found.0.now (words found.1.now))) }
+    ensures directive { MatchOption result (spec.directive_of piece.now ≡ None)
+        (λ found. spec.directive_of piece.now ≡ Some (directive_with found.0.now (words found.1.now))) }
     ensures ascii_name { IfSome result (λ found. is_ascii_text found.0.now ≡ true) }
     ensures ascii_text { IfSome result (λ found. is_ascii_text found.1.now ≡ true) }
 {
@@ -75,7 +76,7 @@ fn split_name(piece: &[u8]) -> Option<(&[u8], &[u8])>
 
 // Whether a meta element may carry the directive of this name.
 fn is_for_meta(name: CaselessName<'_>) -> bool
-    ensures { result ≡ is_for_meta (directive_with name.entry.bytes.now []) }
+    ensures { result ≡ spec.is_for_meta (directive_with name.entry.bytes.now []) }
 {
     !(name
         == CaselessName {
@@ -90,12 +91,13 @@ fn is_for_meta(name: CaselessName<'_>) -> bool
 
 // Whether the directive of this name stays, where a meta element may deliver the policy.
 fn is_kept(meta: bool, name: CaselessName<'_>) -> bool
-    ensures { result ≡ (not meta || is_for_meta (directive_with name.entry.bytes.now [])) }
+    ensures { result ≡ (not meta || spec.is_for_meta (directive_with name.entry.bytes.now [])) }
 {
     !meta || is_for_meta(name)
 }
 
-// Adds the directive of this name and text, where it is the first of its name. A later one counts for nothing.
+// Adds the directive of this name and text, where it is the first of its name. A later one counts for
+// nothing.
 fn add_first(
     alloc: Global,
     made: &mut Vec<Directive>,
@@ -120,13 +122,14 @@ fn add_first(
 
 // The directives of a serialized policy, the first of each name, without those that a meta element loses.
 // There is room for so many tokens; a token past that is not kept.
-pub fn read_directives(
+pub(crate) fn read_directives(
     alloc: Global,
     value: &[u8],
     meta: bool,
     room: &mut usize,
 ) -> Result<List<Directive>, Memory>
-    ensures { IfOk result (λ made. AreShortened (kept_of meta (directives_of value.now)) made room.old room.new) }
+    ensures { IfOk result
+        (λ made. AreShortened (kept_of meta (spec.directives_of value.now)) made room.old room.new) }
 {
     let mut seen = BTreeSet::new(alloc);
     let mut made = Vec::new(alloc);

@@ -1,14 +1,14 @@
 //! The lines of a header block (RFC 9110, sections 5.1, 5.5 and 5.6.2).
 ghost use Rattle.std.specs.Prelude.{◌≡◌, ◌<◌, length, IfSome, position};
 ghost use Rattle.std.specs.Str.Lines.{strip_carriage_return};
-ghost use Rattle.csp_model.specs.Policies.{is_field_name, is_field_value, header_of, line_of, is_colon, is_newline, without_status};
+ghost use Rattle.csp_model.specs.Policies as spec;
 ghost use Rattle.csp_policy.specs.Lines.{line_said};
 
 use http_header::is_token;
 
-/// What a line of a header block says.
+// What a line of a header block says.
 #[derive(Clone, Copy, Debug)]
-pub enum Line<'a> {
+pub(crate) enum Line<'a> {
     Skipped,
     Bad,
     Header { name: &'a [u8], value: &'a [u8] },
@@ -16,14 +16,14 @@ pub enum Line<'a> {
 
 #[tactic(auto, unfolding(csp_model::specs::Policies::is_field_name))]
 fn is_field_name(name: &[u8]) -> bool
-    ensures { result ≡ is_field_name name.now }
+    ensures { result ≡ spec.is_field_name name.now }
 {
     name.len() < 65536 && is_token(name)
 }
 
 #[tactic(auto, unfolding(csp_model::specs::Policies::is_field_value))]
 fn is_field_value(value: &[u8]) -> bool
-    ensures { result ≡ is_field_value value.now }
+    ensures { result ≡ spec.is_field_value value.now }
 {
     value
         .iter()
@@ -31,15 +31,16 @@ fn is_field_value(value: &[u8]) -> bool
 }
 
 fn colon_at(line: &[u8]) -> Option<usize>
-    ensures value { result ≡ position is_colon line.now }
+    ensures value { result ≡ position spec.is_colon line.now }
     ensures bound { IfSome result (λ at. at < length line.now) }
 {
     line.iter().position(|b| *b == b':')
 }
 
+// What a line that isn't empty says.
 #[tactic(auto, unfolding(csp_model::specs::Policies::header_of))]
 fn header(line: &[u8]) -> Line<'_>
-    ensures { line_said result ≡ header_of line.now }
+    ensures { line_said result ≡ spec.header_of line.now }
 {
     match colon_at(line) {
         None => Line::Bad,
@@ -66,7 +67,7 @@ fn without_carriage_return(line: &[u8]) -> &[u8]
 
 #[tactic(auto, unfolding(csp_model::specs::Policies::line_of))]
 fn filled_line(line: &[u8]) -> Line<'_>
-    ensures { line_said result ≡ line_of line.now }
+    ensures { line_said result ≡ spec.line_of line.now }
 {
     if line.is_empty() {
         Line::Skipped
@@ -75,23 +76,23 @@ fn filled_line(line: &[u8]) -> Line<'_>
     }
 }
 
-/// What a line says, where its line feed is taken off.
-pub fn read_line(line: &[u8]) -> Line<'_>
-    ensures { line_said result ≡ line_of (strip_carriage_return line.now) }
+// What a line says, where its line feed is taken off.
+pub(crate) fn read_line(line: &[u8]) -> Line<'_>
+    ensures { line_said result ≡ spec.line_of (strip_carriage_return line.now) }
 {
     filled_line(without_carriage_return(line))
 }
 
 fn newline_at(bytes: &[u8]) -> Option<usize>
-    ensures value { result ≡ position is_newline bytes.now }
+    ensures value { result ≡ position spec.is_newline bytes.now }
     ensures bound { IfSome result (λ at. at < length bytes.now) }
 {
     bytes.iter().position(|b| *b == b'\n')
 }
 
-/// The block with a status line at its front emptied, so that its lines keep their numbers.
-pub fn without_status(bytes: &[u8]) -> &[u8]
-    ensures { result.now ≡ without_status bytes.now }
+// The block with a status line at its front emptied, so that its lines keep their numbers.
+pub(crate) fn without_status(bytes: &[u8]) -> &[u8]
+    ensures { result.now ≡ spec.without_status bytes.now }
 {
     if bytes.starts_with(b"HTTP/") {
         match newline_at(bytes) {

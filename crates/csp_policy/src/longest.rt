@@ -1,10 +1,11 @@
 //! The longest text of some policies.
 ghost use Rattle.std.specs.Prelude.{◌≡◌, ◌∷◌, length, max};
 ghost use Rattle.std.specs.List.{flat_map, fold};
-ghost use Rattle.csp_model.specs.Policies.{longest_text};
+ghost use Rattle.csp_model.specs.Policies as spec;
 
 use csp_model::{Directive, Policy, Text};
 
+// The longest of these lengths: those of the texts, and this one.
 fn longest_token(texts: &[Text], mut longest: usize) -> usize
     ensures { result ≡ fold (λ n text. max n (length text)) longest texts.now }
 {
@@ -14,8 +15,10 @@ fn longest_token(texts: &[Text], mut longest: usize) -> usize
     longest
 }
 
+// The longest of these lengths: those of the directives' names and tokens, and this one.
 fn longest_in(directives: &[Directive], mut longest: usize) -> usize
-    ensures { result ≡ fold (λ n text. max n (length text)) longest (flat_map (λ d. d.name ∷ d.tokens) directives.now) }
+    ensures { result
+        ≡ fold (λ n text. max n (length text)) longest (flat_map (λ d. d.name ∷ d.tokens) directives.now) }
 {
     for directive in directives {
         longest = longest.max(directive.name.as_str().len());
@@ -24,9 +27,9 @@ fn longest_in(directives: &[Directive], mut longest: usize) -> usize
     longest
 }
 
-/// The length of the longest name or token.
-pub fn longest_text(policies: &[Policy]) -> usize
-    ensures { result ≡ longest_text policies.now }
+// The length of the longest name or token.
+pub(crate) fn longest_text(policies: &[Policy]) -> usize
+    ensures { result ≡ spec.longest_text policies.now }
 {
     let mut longest = 0;
     for policy in policies {

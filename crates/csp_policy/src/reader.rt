@@ -1,9 +1,10 @@
-//! The policies of headers (Content Security Policy Level 3, sections 2.2 and 3.1 to 3.3).
+//! Reads the policies of headers (Content Security Policy Level 3, sections 2.2 and 3.1 to 3.3).
 ghost use Rattle.std.specs.Prelude.{◌≡◌, ◌++◌, [], List as Items, MatchOption, OnOk, None, Some};
-ghost use Rattle.csp_model.specs.Policies.{policy_with, policies_in, policies_of, directives_of, Header};
+ghost use Rattle.csp_model.specs.Policies as spec;
 ghost use Rattle.csp_model.specs.declared.policy.Policy.{Policy as AnyPolicy};
 ghost use Rattle.csp_policy.specs.Room.{AreRead, kept_of};
-ghost use Rattle.csp_policy.specs.Refusal.{excess};
+ghost use Rattle.csp_policy.specs.Reads.{ReadsOn};
+ghost use Rattle.csp_policy.specs.Refusal as refusal;
 
 use crate::directive::read_directives;
 use crate::error::BlockError;
@@ -17,17 +18,17 @@ const MOST_TOKENS: usize = 1024;
 
 const LONGEST_TEXT: usize = 4096;
 
-/// The policies that are read so far, up to the first that is too many, and the room for further tokens,
-/// up to the first that is too many.
+// The policies that are read so far, up to the first that is too many, and the room for further tokens,
+// up to the first that is too many.
 #[derive(Drop)]
-pub struct Reader {
-    pub policies: List<Policy>,
-    pub room: usize,
+pub(crate) struct Reader {
+    pub(crate) policies: List<Policy>,
+    pub(crate) room: usize,
 }
 
 impl Reader {
-    /// Nothing is read.
-    pub fn new(alloc: Global) -> Reader
+    // Nothing is read.
+    pub(crate) fn new(alloc: Global) -> Reader
         ensures { AreRead [] result.policies result.room }
     {
         Reader {
@@ -36,7 +37,7 @@ impl Reader {
         }
     }
 
-    /// Reads a serialized policy, and adds it where it has a directive.
+    // Reads a serialized policy, and adds it where it has a directive.
     fn add_policy(
         &mut self,
         alloc: Global,
@@ -45,8 +46,8 @@ impl Reader {
         meta: bool,
         value: &[u8],
     ) -> Result<(), Memory>
-        ensures { OnOk result ((ps : Items AnyPolicy) → AreRead ps self.old.policies self.old.room
-            → AreRead (ps ++ policy_with origin.now disposition meta (kept_of meta (directives_of value.now))) self.new.policies self.new.room) }
+        ensures { OnOk result (ReadsOn self.old self.new
+            (spec.policy_with origin.now disposition meta (kept_of meta (spec.directives_of value.now)))) }
     {
         if self.policies.len() > MOST_POLICIES {
             return Ok(());
@@ -63,7 +64,7 @@ impl Reader {
         Ok(())
     }
 
-    /// Reads the policies between a header's commas.
+    // Reads the policies between a header's commas.
     fn add_policies(
         &mut self,
         alloc: Global,
@@ -71,8 +72,8 @@ impl Reader {
         disposition: Disposition,
         value: &[u8],
     ) -> Result<(), Memory>
-        ensures { OnOk result ((ps : Items AnyPolicy) → AreRead ps self.old.policies self.old.room
-            → AreRead (ps ++ policies_in origin.now disposition value.now) self.new.policies self.new.room) }
+        ensures { OnOk result
+            (ReadsOn self.old self.new (spec.policies_in origin.now disposition value.now)) }
     {
         for piece in value.split(|b| *b == b',') {
             self.add_policy(alloc, origin, disposition, false, piece)?;
@@ -80,16 +81,16 @@ impl Reader {
         Ok(())
     }
 
-    /// Reads the policies of a header. A header of another name has none.
-    pub fn add_header(
+    // Reads the policies of a header. A header of another name has none.
+    pub(crate) fn add_header(
         &mut self,
         alloc: Global,
         origin: &Origin,
         name: &[u8],
         value: &[u8],
     ) -> Result<(), Memory>
-        ensures { OnOk result ((ps : Items AnyPolicy) → AreRead ps self.old.policies self.old.room
-            → AreRead (ps ++ policies_of origin.now (Header name.now value.now)) self.new.policies self.new.room) }
+        ensures { OnOk result
+            (ReadsOn self.old self.new (spec.policies_of origin.now (spec.Header name.now value.now))) }
     {
         if name.eq_ignore_ascii_case(b"content-security-policy") {
             self.add_policies(alloc, origin, Disposition::Enforce, value)
@@ -102,10 +103,11 @@ impl Reader {
         }
     }
 
-    /// What the policies have too much of.
-    pub fn excess(&self) -> Option<BlockError>
+    // What the policies have too much of.
+    pub(crate) fn excess(&self) -> Option<BlockError>
         ensures { (ps : Items AnyPolicy) → AreRead ps self.now.policies self.now.room
-            → MatchOption result ((excess ps ≡ None) × (self.now.policies ≡ ps)) (λ error. excess ps ≡ Some error) }
+            → MatchOption result ((refusal.excess ps ≡ None) × (self.now.policies ≡ ps))
+                (λ error. refusal.excess ps ≡ Some error) }
     {
         if self.policies.len() > MOST_POLICIES {
             Some(BlockError::TooManyPolicies)

@@ -27,11 +27,13 @@ fn trim_start(text: &[u8]) -> &[u8]
 }
 
 // The first word, and the text behind it.
-pub fn next_word(text: &[u8]) -> Option<(&[u8], &[u8])>
+pub(crate) fn next_word(text: &[u8]) -> Option<(&[u8], &[u8])>
     ensures word { MatchOption result (words text.now ≡ [])
         (λ found. words text.now ≡ found.0.now ∷ words found.1.now) }
-    ensures ascii_word { is_ascii_text text.now ≡ true → IfSome result (λ found. is_ascii_text found.0.now ≡ true) }
-    ensures ascii_rest { is_ascii_text text.now ≡ true → IfSome result (λ found. is_ascii_text found.1.now ≡ true) }
+    ensures ascii_word { is_ascii_text text.now ≡ true
+        → IfSome result (λ found. is_ascii_text found.0.now ≡ true) }
+    ensures ascii_rest { is_ascii_text text.now ≡ true
+        → IfSome result (λ found. is_ascii_text found.1.now ≡ true) }
 {
     let text = trim_start(text);
     match space_at(text) {
