@@ -1,8 +1,9 @@
+pub mod BlockLaws
 pub mod FirstWord
 pub mod Firsts
-pub mod Readable
-pub mod Shortened
-pub mod Seen
-pub mod LinesSoFar
 pub mod Joined
+pub mod LinesSoFar
+pub mod Readable
+pub mod Seen
+pub mod Shortened
 pub mod Tokens

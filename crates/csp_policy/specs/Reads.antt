@@ -6,4 +6,5 @@ use Rattle.csp_policy.specs.declared.reader.Reader.{Reader}
 
 -- after what was read before, the reader has read these policies too
 abbrev pub ReadsOn : Reader → Reader → List Policy → Type 0
-ReadsOn before now more = (ps : List Policy) → AreRead ps before.policies before.room → AreRead (ps ++ more) now.policies now.room
+ReadsOn before now more = (ps : List Policy)
+    → AreRead ps before.policies before.room → AreRead (ps ++ more) now.policies now.room

@@ -3,8 +3,8 @@ ghost use Rattle.std.specs.Prelude.{◌≡◌, ◌<◌, ◌-◌, ◌^◌, ◌⊎
 ghost use Rattle.csp_model.specs.Answers.{Gives};
 ghost use Rattle.csp_model.specs.Policies.{policies, first_bad, IsReadable};
 ghost use Rattle.csp_model.specs.Validity.{IsValidOrigin};
-ghost use Rattle.csp_policy.specs.Room.{AreRead};
 ghost use Rattle.csp_policy.specs.Refusal as spec;
+ghost use Rattle.csp_policy.specs.Room.{AreRead};
 
 use crate::error::BlockError;
 use crate::lines::{Line, read_line, without_status};

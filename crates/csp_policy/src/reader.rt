@@ -2,9 +2,9 @@
 ghost use Rattle.std.specs.Prelude.{◌≡◌, ◌++◌, [], List as Items, MatchOption, OnOk, None, Some};
 ghost use Rattle.csp_model.specs.Policies as spec;
 ghost use Rattle.csp_model.specs.declared.policy.Policy.{Policy as AnyPolicy};
-ghost use Rattle.csp_policy.specs.Room.{AreRead, kept_of};
 ghost use Rattle.csp_policy.specs.Reads.{ReadsOn};
 ghost use Rattle.csp_policy.specs.Refusal as refusal;
+ghost use Rattle.csp_policy.specs.Room.{AreRead, kept_of};
 
 use crate::directive::read_directives;
 use crate::error::BlockError;
