@@ -70,5 +70,5 @@ value_valid token utf8 solid =
     let front = before_first is_question_mark token in (
       back_text is_hyphen hyphen_ascii front (front_text is_question_mark question_mark_ascii token utf8),
       list_all-from_AllPass is_value_byte (after_first is_hyphen front)
-      (All-drop (λ b. is_value_byte b ≡ true) (position_or_len is_hyphen front + 1) front (value_bytes token solid)),
+          (All-drop (λ b. is_value_byte b ≡ true) (position_or_len is_hyphen front + 1) front (value_bytes token solid)),
     )

@@ -11,5 +11,5 @@ use Rattle.csp_token.proofs.base64_value.stands_for.Goals as goal
 pub returns-then-value-gt-MOST_SYMBOLS : goal.returns-then-value-gt-MOST_SYMBOLS
 returns-then-value-gt-MOST_SYMBOLS c =
     let long = λ (eq : plain_value c.args.value.now ≡ encode_of standard c.args.bytes.now).
-        absurd (omega (arith, short c.args.value.now c.args.bytes.now (length c.args.bytes.now) refl c.requires eq)) in
+    absurd (omega (arith, short c.args.value.now c.args.bytes.now (length c.args.bytes.now) refl c.requires eq)) in
     same_from_decides _ _ (no long) (bytes_eq-Decides _ _)

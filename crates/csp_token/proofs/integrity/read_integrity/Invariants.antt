@@ -8,5 +8,5 @@ use Rattle.csp_token.proofs.integrity.read_integrity.Given as goal
 abbrev pub invariant-loop-token : goal.invariant-loop-token
 invariant-loop-token l = record {
   pairs : l.pairs ≡ filter_map hash_of_token (map (λ token. token.now) l.yielded);
-  valid : All (λ h. IsIntegrityValue h.value) l.pairs
+  valid : All (λ h. IsIntegrityValue h.value) l.pairs;
 }
