@@ -7,5 +7,5 @@ use Rattle.csp_token.proofs.matching.nonce_matches.Goals as goal
 pub returns-then-not-is_empty-clause-matches : goal.returns-then-not-is_empty-clause-matches
 returns-then-not-is_empty-clause-matches c =
     let value : c.has_nonce.result ≡ spec.nonce_matches c.args.nonce.now c.args.sources.now =
-        grind (arith, common_steps) in
+    grind (arith, common_steps) in
     rw value (nonce_decides c.args.nonce.now c.args.sources.now)
