@@ -87,8 +87,9 @@ impl Destination {
     }
 }
 
-/// The group of the fetches of a destination, which says the effective directive (Content Security Policy Level 3,
-/// section 6.8.1). None comes exactly for `Report`: no directive governs a report, so there is nothing to check.
+/// The group of the fetches of a destination, which says the effective directive (Content Security Policy
+/// Level 3, section 6.8.1). None comes exactly for `Report`: no directive governs a report, so there is
+/// nothing to check.
 pub fn effective(destination: Destination) -> Option<Group>
     ensures { result ≡ spec.group_of destination }
 {

@@ -8,11 +8,12 @@ use csp_match::{governor, list_matches};
 use csp_model::{FetchRule, Group, Hash, Keyword, List, Policy, Source, Text, Url};
 use csp_token::{has_keyword, integrity_matches, nonce_matches};
 
-/// Whether a policy allows a fetch, whatever its disposition (Content Security Policy Level 3, sections 6.1 and 6.7.1).
+/// Whether a policy allows a fetch, whatever its disposition (Content Security Policy Level 3, sections 6.1
+/// and 6.7.1).
 ///
-/// `redirects` is the number of redirects that led to the URL; after one no path is compared. Nonce, integrity metadata
-/// and whether the parser inserted the element count for scripts, and for workers that `script-src` governs; the nonce
-/// counts for styles too. Where no directive governs, the policy allows.
+/// `redirects` is the number of redirects that led to the URL; after one no path is compared. Nonce,
+/// integrity metadata and whether the parser inserted the element count for scripts, and for workers that
+/// `script-src` governs; the nonce counts for styles too. Where no directive governs, the policy allows.
 pub fn fetch_allows(
     policy: &Policy,
     group: Group,
@@ -38,8 +39,8 @@ pub fn fetch_allows(
     }
 }
 
-/// Whether a policy allows a fetch of which the caller knows whether the governing list matches its URL: `listed` takes
-/// the place of that answer, whatever it is. Where no directive governs, the policy allows.
+/// Whether a policy allows a fetch of which the caller knows whether the governing list matches its URL:
+/// `listed` takes the place of that answer, whatever it is. Where no directive governs, the policy allows.
 pub fn fetch_allows_listed(
     policy: &Policy,
     group: Group,

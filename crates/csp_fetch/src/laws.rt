@@ -22,8 +22,8 @@ ghost use Rattle.csp_model.specs.declared.url.Url.{Url as UrlValue};
 ghost use Rattle.csp_model.specs.declared.url.Url.TheVariants as url;
 ghost use Rattle.csp_fetch.specs.Listed.{listed_allows};
 
-/// Where `listed` is what the governing list says of a URL, or nothing governs, a policy allows a fetch by `listed` exactly
-/// where it allows the fetch of that URL.
+/// Where `listed` is what the governing list says of a URL, or nothing governs, a policy allows a fetch by
+/// `listed` exactly where it allows the fetch of that URL.
 pub fn a_listed_fetch_is_that_of_its_url()
     ensures { (p : PolicyValue) (kind : GroupValue) (there : UrlValue) (redirects : ℕ) (nonce : Items ℕ)
         (integrity : Items HashValue) (parser_inserted listed : Bool)
@@ -33,7 +33,8 @@ pub fn a_listed_fetch_is_that_of_its_url()
         ≡ spec.fetch_allows p kind there redirects nonce integrity parser_inserted }
 {}
 
-/// A nonce that the governing list has allows a script or a style from every URL, whatever else the list says.
+/// A nonce that the governing list has allows a script or a style from every URL, whatever else the list
+/// says.
 pub fn a_nonce_allows_whatever_the_list_says()
     ensures script { (p : PolicyValue) (g : Governor) (there : UrlValue) (redirects : ℕ) (nonce : Items ℕ)
         (integrity : Items HashValue) (parser_inserted : Bool)

@@ -1,5 +1,5 @@
 //! Elements and their nonces (Content Security Policy Level 3, section 6.7.3.1).
-ghost use Rattle.std.specs.Prelude.{◌≡◌, ◌↔◌, ◌||◌, IsTrue, codes, option_copied, drop};
+ghost use Rattle.std.specs.Prelude.{◌≡◌, ◌↔◌, ◌||◌, IsTrue, codes, option_copied};
 ghost use Rattle.std.specs.List.{list_any};
 ghost use Rattle.csp_model.specs.Ascii.{lower, is_nonempty};
 ghost use Rattle.csp_model.specs.Inline.{IsNonceable, IsElementNonce, nonce_attribute};
@@ -18,8 +18,8 @@ pub struct Element {
     pub duplicate: bool,
 }
 
-/// Whether an element's nonce counts: it has an attribute `nonce`, no attribute of it stood twice, and, for the tag
-/// `script`, no attribute has `<script` or `<style` in its name or value, in letters of either case.
+/// Whether an element's nonce counts: it has an attribute `nonce`, no attribute of it stood twice, and, for
+/// the tag `script`, no attribute has `<script` or `<style` in its name or value, in letters of either case.
 pub fn nonceable(element: &Element) -> bool
     ensures value { result ≡ spec.is_nonceable element.now.tag element.now.attributes element.now.duplicate }
     ensures nonceable { IsTrue result
@@ -30,8 +30,8 @@ pub fn nonceable(element: &Element) -> bool
         && (element.tag.as_str() != "script" || !has_suspect(&element.attributes))
 }
 
-/// The nonce of an element: the value of its first attribute `nonce` where the element is nonceable, else the empty
-/// text.
+/// The nonce of an element: the value of its first attribute `nonce` where the element is nonceable, else the
+/// empty text.
 pub fn element_nonce(element: &Element) -> &str
     ensures value { result.now
         ≡ spec.element_nonce element.now.tag element.now.attributes element.now.duplicate }

@@ -2,17 +2,17 @@
 ghost use Rattle.std.specs.Prelude.{◌≡◌, ◌↔◌, IsTrue};
 ghost use Rattle.std.specs.List.{list_any};
 ghost use Rattle.csp_model.specs.DecideInline as spec;
-ghost use Rattle.csp_model.specs.Inline.{InlineAllows, EvalAllows, WasmAllows, is_element_kind, is_script_kind, is_nonce_or_hash};
+ghost use Rattle.csp_model.specs.Inline.{InlineAllows, EvalAllows, WasmAllows};
+ghost use Rattle.csp_model.specs.Inline.{is_element_kind, is_script_kind, is_nonce_or_hash};
 
 use csp_match::governor;
 use csp_model::{Digests, InlineKind, Keyword, List, Name, Policy, Source, Text};
 use csp_token::{digests_match, has_keyword, nonce_matches};
 
-/// Whether a policy allows inline code or style of a kind, whatever its disposition (Content Security Policy Level 3,
-/// sections 4.2.3 and 6.7.3.3): by `'unsafe-inline'` where nothing makes it void, by the element's nonce, or by a digest
-/// of its text. A nonce counts for script and style elements alone; a digest for these, and for the other kinds with
-/// `'unsafe-hashes'`. Where no directive governs, the policy allows.
-#[tactic(auto, using(csp_model::proofs::InlineDecided::inline_decides))]
+/// Whether a policy allows inline code or style of a kind, whatever its disposition (Content Security Policy
+/// Level 3, sections 4.2.3 and 6.7.3.3): by `'unsafe-inline'` where nothing makes it void, by the element's
+/// nonce, or by a digest of its text. A nonce counts for script and style elements alone; a digest for these,
+/// and for the other kinds with `'unsafe-hashes'`. Where no directive governs, the policy allows.
 pub fn inline_allows(policy: &Policy, kind: InlineKind, nonce: &Text, digests: &Digests) -> bool
     ensures value { result ≡ spec.inline_allows policy.now kind nonce.now digests.now }
     ensures allows { IsTrue result ↔ InlineAllows policy.now kind nonce.now digests.now }
@@ -23,8 +23,8 @@ pub fn inline_allows(policy: &Policy, kind: InlineKind, nonce: &Text, digests: &
     }
 }
 
-/// Whether a policy allows the compilation of strings as script: with `'unsafe-eval'`, or where no directive governs
-/// (Content Security Policy Level 3, section 4.3).
+/// Whether a policy allows the compilation of strings as script: with `'unsafe-eval'`, or where no directive
+/// governs (Content Security Policy Level 3, section 4.3).
 #[tactic(auto, using(csp_model::proofs::InlineDecided::eval_decides))]
 pub fn eval_allows(policy: &Policy) -> bool
     ensures value { result ≡ spec.eval_allows policy.now }
@@ -36,8 +36,8 @@ pub fn eval_allows(policy: &Policy) -> bool
     }
 }
 
-/// Whether a policy allows the compilation of WebAssembly: with `'unsafe-eval'` or `'wasm-unsafe-eval'`, or where no
-/// directive governs (Content Security Policy Level 3, section 4.4).
+/// Whether a policy allows the compilation of WebAssembly: with `'unsafe-eval'` or `'wasm-unsafe-eval'`, or
+/// where no directive governs (Content Security Policy Level 3, section 4.4).
 #[tactic(auto, using(csp_model::proofs::InlineDecided::wasm_decides))]
 pub fn wasm_allows(policy: &Policy) -> bool
     ensures value { result ≡ spec.wasm_allows policy.now }

@@ -11,8 +11,8 @@ ghost use Rattle.csp_model.specs.declared.source.Keyword.TheVariants.{StrictDyna
 ghost use Rattle.csp_model.specs.declared.source.Source.{Source};
 ghost use Rattle.csp_model.specs.declared.source.Source.TheVariants as source;
 
-/// `'unsafe-inline'` is void beside a nonce or a hash, and for code beside `'strict-dynamic'` (Content Security Policy
-/// Level 3, section 6.7.3.2).
+/// `'unsafe-inline'` is void beside a nonce or a hash, and for code beside `'strict-dynamic'` (Content
+/// Security Policy Level 3, section 6.7.3.2).
 pub fn unsafe_inline_is_void_beside_these()
     ensures nonce { (kind : InlineKind) (sources : Items Source) (value : Items ℕ)
         → Contains sources (source.Nonce value) → spec.allows_all_inline kind sources ≡ false }

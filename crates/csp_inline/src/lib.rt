@@ -1,5 +1,5 @@
-//! Whether a policy allows inline code and style, string compilation and WebAssembly (Content Security Policy Level 3,
-//! sections 4.2.3, 4.3, 4.4 and 6.7.3).
+//! Whether a policy allows inline code and style, string compilation and WebAssembly (Content Security Policy
+//! Level 3, sections 4.2.3, 4.3, 4.4 and 6.7.3).
 //!
 //! No call takes memory.
 #![tactic(auto)]

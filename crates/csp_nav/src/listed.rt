@@ -15,7 +15,8 @@ pub fn base_allows(policy: &Policy, url: &Url) -> bool
     listed_allows(policy, Name::BaseUri, url, false)
 }
 
-/// Whether a policy allows a form submission, or a hop of one (section 6.4.1). After a redirect no path is compared.
+/// Whether a policy allows a form submission, or a hop of one (section 6.4.1). After a redirect no path is
+/// compared.
 #[tactic(auto, using(csp_model::proofs::NavigationDecided::form_decides))]
 pub fn form_allows(policy: &Policy, url: &Url, redirects: u32) -> bool
     ensures value { result ≡ spec.form_allows policy.now url.now redirects }
@@ -24,7 +25,8 @@ pub fn form_allows(policy: &Policy, url: &Url, redirects: u32) -> bool
     listed_allows(policy, Name::FormAction, url, redirects != 0)
 }
 
-/// Whether a policy allows one ancestor of a frame, given by its origin as a URL with the path `/` (section 6.4.2).
+/// Whether a policy allows one ancestor of a frame, given by its origin as a URL with the path `/` (section
+/// 6.4.2).
 #[tactic(auto, using(csp_model::proofs::NavigationDecided::ancestor_decides))]
 pub fn ancestor_allows(policy: &Policy, url: &Url) -> bool
     ensures value { result ≡ spec.ancestor_allows policy.now url.now }
@@ -33,8 +35,8 @@ pub fn ancestor_allows(policy: &Policy, url: &Url) -> bool
     listed_allows(policy, Name::FrameAncestors, url, false)
 }
 
-/// Whether a policy allows an ancestor whose origin is opaque: only one without `frame-ancestors` does, since nothing
-/// matches such an origin (section 6.4.2).
+/// Whether a policy allows an ancestor whose origin is opaque: only one without `frame-ancestors` does, since
+/// nothing matches such an origin (section 6.4.2).
 #[tactic(auto, using(csp_model::proofs::NavigationDecided::opaque_ancestor_decides))]
 pub fn opaque_ancestor_allows(policy: &Policy) -> bool
     ensures value { result ≡ spec.opaque_ancestor_allows policy.now }

@@ -12,9 +12,9 @@ ghost use Rattle.csp_model.specs.Navigation.{CapabilityAllows, WorkerStartAllows
 use csp_match::governor;
 use csp_model::{Capability, Disposition, List, Name, Policy, Text};
 
-/// Whether a policy leaves a document a capability. A policy that only reports does, and so does one without `sandbox`;
-/// another one where a token of its `sandbox` grants the capability: `allow-` and its name, in letters of either case.
-/// `allow-top-navigation` grants navigations of the top by a user's activation too.
+/// Whether a policy leaves a document a capability. A policy that only reports does, and so does one without
+/// `sandbox`; another one where a token of its `sandbox` grants the capability: `allow-` and its name, in
+/// letters of either case. `allow-top-navigation` grants navigations of the top by a user's activation too.
 #[tactic(auto, using(csp_model::proofs::NavigationDecided::capability_decides))]
 pub fn capability_allows(policy: &Policy, capability: Capability) -> bool
     ensures value { result ≡ spec.capability_allows policy.now capability }
@@ -23,7 +23,8 @@ pub fn capability_allows(policy: &Policy, capability: Capability) -> bool
     policy.disposition == Disposition::Report || sandbox_grants(policy, capability)
 }
 
-/// Whether a policy lets a worker start: where it leaves scripts and the document's origin, as `capability_allows` says.
+/// Whether a policy lets a worker start: where it leaves scripts and the document's origin, as
+/// `capability_allows` says.
 #[tactic(auto, using(csp_model::proofs::NavigationDecided::worker_start_decides))]
 pub fn worker_start_allows(policy: &Policy) -> bool
     ensures value { result ≡ spec.worker_start_allows policy.now }
