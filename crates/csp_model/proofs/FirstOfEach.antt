@@ -42,15 +42,15 @@ module _ {X K : Type 0} (key : X → K) (same : K → K → Bool) (decides : (a 
   has_key-filter x k [] = grind (arith, common_steps)
   has_key-filter x k (y ∷ ys) = elim (same (key y) (key x)) as (λ b. same (key y) (key x) ≡ b
       → has_key key same (filter (is_other key same x) (y ∷ ys)) k ≡ (not (same (key x) k) && has_key key same (y ∷ ys) k)) [
-    | true ↦ λ e. let one : same (key y) k ≡ same (key x) k = ap (λ j. same j k) ((decides (key y) (key x)).0 e) in
-      grind (arith, common_steps, e, one, has_key-filter x k ys)
-    | false ↦ λ e. elim (same (key y) k) as (λ b. same (key y) k ≡ b
-        → has_key key same (filter (is_other key same x) (y ∷ ys)) k ≡ (not (same (key x) k) && has_key key same (y ∷ ys) k)) [
-      | true ↦ λ f. let one : same (key x) k ≡ same (key y) (key x) = turned (key x) k ∙ ap (λ j. same j (key x)) (sym ((decides (key y) k).0 f)) in
-        grind (arith, common_steps, e, f, one)
-      | false ↦ λ f. grind (arith, common_steps, e, f, has_key-filter x k ys)
-    ] refl
-  ] refl
+        | true ↦ λ e. let one : same (key y) k ≡ same (key x) k = ap (λ j. same j k) ((decides (key y) (key x)).0 e) in
+            grind (arith, common_steps, e, one, has_key-filter x k ys)
+        | false ↦ λ e. elim (same (key y) k) as (λ b. same (key y) k ≡ b
+            → has_key key same (filter (is_other key same x) (y ∷ ys)) k ≡ (not (same (key x) k) && has_key key same (y ∷ ys) k)) [
+              | true ↦ λ f. let one : same (key x) k ≡ same (key y) (key x) = turned (key x) k ∙ ap (λ j. same j (key x)) (sym ((decides (key y) k).0 f)) in
+                  grind (arith, common_steps, e, f, one)
+              | false ↦ λ f. grind (arith, common_steps, e, f, has_key-filter x k ys)
+            ] refl
+      ] refl
 
   -- no key is lost
   pub has_key-first_of_each : (xs : List X) (k : K) → has_key key same (first_of_each key same xs) k ≡ has_key key same xs k

@@ -107,7 +107,7 @@ impl Reader {
     pub(crate) fn excess(&self) -> Option<BlockError>
         ensures { (ps : Items AnyPolicy) → AreRead ps self.now.policies self.now.room
             → MatchOption result ((refusal.excess ps ≡ None) × (self.now.policies ≡ ps))
-                (λ error. refusal.excess ps ≡ Some error) }
+            (λ error. refusal.excess ps ≡ Some error) }
     {
         if self.policies.len() > MOST_POLICIES {
             Some(BlockError::TooManyPolicies)

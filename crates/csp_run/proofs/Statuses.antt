@@ -10,10 +10,10 @@ use Rattle.csp_run.specs.declared.plan.Form.{Form}
 use Rattle.csp_run.specs.declared.plan.Form.TheVariants.{Judge}
 use Rattle.csp_run.specs.declared.status.Status.{Status}
 use Rattle.csp_run.specs.declared.status.Status.TheVariants.{Clean, Found}
-use Rattle.csp_run.specs.Due.{IsEndOf, IsDue}
+use Rattle.csp_run.specs.Due.{IsEndOf}
 use Rattle.csp_run.specs.Files.{World}
 use Rattle.csp_run.specs.Outputs.{IsOutput}
-use Rattle.csp_run.specs.Words.{Plan, plan_of}
+use Rattle.csp_run.specs.Words.{Plan}
 
 -- the statuses of outputs
 abbrev pub is_done : Status → Bool
@@ -30,7 +30,7 @@ printed_done : (form : Form) (found : Result (List Content) Fault) (built : Buil
     → is_done built.status ≡ true
 printed_done form (Err f) built is = absurd (cc is)
 printed_done Judge (Ok (content.Policies list ∷ content.Image there ∷ [])) built is =
-    ap is_done is.status ∙ clean_or_found _
+    ap (λ (b : Built). is_done b.status) is ∙ clean_or_found _
 printed_done form (Ok contents) built is = absurd is
 
 ended_done : (w : World) (asked : Result Plan Fault) (built : Built) → IsEndOf w asked (Ok built)

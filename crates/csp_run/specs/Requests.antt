@@ -8,7 +8,7 @@ use Rattle.serde_json.specs.Data.{Data, Items, no_items, item, Members, no_membe
 use Rattle.serde_json.specs.Read.{read}
 use Rattle.serde_json.specs.Find.{get, as_null, as_str, as_number, as_u64, as_array, as_object}
 use Rattle.csp_url.specs.Reading.{url_of}
-use Rattle.csp_url.specs.Parts.{parts_answer}
+use Rattle.csp_url.specs.Parts as parts
 use Rattle.csp_model.specs.declared.check.Check.{Check}
 use Rattle.csp_model.specs.declared.check.Check.TheVariants.{Fetch}
 use Rattle.csp_model.specs.declared.check.Group.TheVariants.{Img}
@@ -45,7 +45,7 @@ abbrev pub url_with : Option (List ℕ) → Option (Option (List ℕ)) → Optio
     → Option (Option (List ℕ)) → Option Url
 url_with scheme host port path =
     option_and_then (λ s. option_and_then (λ h. option_and_then (λ n. option_and_then (λ p.
-    result_ok (parts_answer s h n (unwrap_or p (codes "/")))) path) port) host) scheme
+    result_ok (parts.url_of_parts s h n (unwrap_or p (codes "/")))) path) port) host) scheme
 
 -- the URL of an object in parts: scheme, and host, port and path, which may be absent
 abbrev pub url_of_parts : Data → Option Url

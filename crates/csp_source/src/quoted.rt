@@ -105,11 +105,7 @@ fn value_before_apostrophe(rest: &[u8]) -> Option<&[u8]>
 }
 
 // The base64-value between the word, which is in lower case, and an apostrophe.
-#[tactic(
-    auto,
-    using(csp_model::proofs::AsciiParts::drop_ascii),
-    unfolding(csp_model::specs::Reading::quoted_value)
-)]
+#[tactic(auto, using(csp_model::proofs::AsciiParts::drop_ascii), unfolding(csp_model::specs::Reading::quoted_value))]
 fn quoted_value<'a>(word: &[u8], token: &'a [u8]) -> Option<&'a [u8]>
     requires { lower word.now ≡ word.now }
     ensures value { option_copied result ≡ spec.quoted_value word.now token.now }

@@ -17,11 +17,7 @@ pub(crate) fn scheme_len(text: &[u8]) -> usize
 }
 
 // The source that is a scheme and a colon.
-#[tactic(
-    auto,
-    using(csp_model::proofs::FinalBytes::byte_turned, csp_model::proofs::AsciiParts::take_ascii),
-    unfolding(csp_model::specs::Reading::scheme_source)
-)]
+#[tactic(auto, using(csp_model::proofs::FinalBytes::byte_turned, csp_model::proofs::AsciiParts::take_ascii), unfolding(csp_model::specs::Reading::scheme_source))]
 pub(crate) fn scheme_source(alloc: Global, token: &[u8]) -> Result<Option<Source>, Memory>
     requires { IsTrue (is_ascii_text token.now) }
     ensures { IfOk result (λ found. found ≡ spec.scheme_source token.now) }
