@@ -1,5 +1,5 @@
 -- The output of one verdict.
-use Rattle.std.proofs.Common.{◌≡◌, ℕ, true, false, List, [], ◌∷◌, refl, sym, ◌∙◌, append-nil, ap, Bool, ◌||◌}
+use Rattle.std.proofs.Common.{◌≡◌, true, false, List, [], ◌∷◌, refl, sym, ◌∙◌, append-nil, ap, Bool, ◌||◌}
 use Rattle.std.proofs.Common.{if◌then◌else◌}
 use Rattle.csp_model.specs.Verdict.{IsVerdict}
 use Rattle.csp_model.specs.declared.check.Check.{Check}

@@ -10,10 +10,10 @@ use Rattle.csp_run.specs.declared.plan.Form.{Form}
 use Rattle.csp_run.specs.declared.plan.Form.TheVariants.{Judge}
 use Rattle.csp_run.specs.declared.status.Status.{Status}
 use Rattle.csp_run.specs.declared.status.Status.TheVariants.{Clean, Found}
-use Rattle.csp_run.specs.Due.{IsEndOf, IsDue}
+use Rattle.csp_run.specs.Due.{IsEndOf}
 use Rattle.csp_run.specs.Files.{World}
 use Rattle.csp_run.specs.Outputs.{IsOutput}
-use Rattle.csp_run.specs.Words.{Plan, plan_of}
+use Rattle.csp_run.specs.Words.{Plan}
 
 -- the statuses of outputs
 abbrev pub is_done : Status → Bool

@@ -1,5 +1,5 @@
 -- What laws of runs say.
-use Rattle.std.specs.Prelude.{◌≡◌, ℕ, List, Option, Some, Result, Err}
+use Rattle.std.specs.Prelude.{◌≡◌, ℕ, List, Some, Err}
 use Rattle.csp_io.specs.Told.{Rose}
 use Rattle.csp_model.specs.declared.url.Origin.{Origin}
 use Rattle.csp_run.specs.declared.fault.Fault.{Fault}
