@@ -101,7 +101,7 @@ fn tokens_of_no_kind(rt: HostRuntime) -> Result<(), Fail> {
 }
 
 #[test]
-fn words_between_apostrophes(rt: HostRuntime) -> Result<(), Fail> {
+fn keywords(rt: HostRuntime) -> Result<(), Fail> {
     for (token, word) in [
         ("'self'", Keyword::SelfOrigin),
         ("'UNSAFE-inline'", Keyword::UnsafeInline),
@@ -113,6 +113,11 @@ fn words_between_apostrophes(rt: HostRuntime) -> Result<(), Fail> {
     ] {
         assert_eq!(rt; source(&rt, token)?, Source::Word { word }, "{token}");
     }
+    Ok(())
+}
+
+#[test]
+fn hashes(rt: HostRuntime) -> Result<(), Fail> {
     for (token, algorithm) in [
         ("'sha256-Zz'", Algorithm::Sha256),
         ("'SHA384-Zz'", Algorithm::Sha384),

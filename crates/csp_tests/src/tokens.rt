@@ -103,20 +103,27 @@ fn hashes_that_stand_for_digests(rt: HostRuntime) -> Result<(), Fail> {
     Ok(())
 }
 
+const VALUE: &str = "'nonce-abc' 'sha256-abc' 'sha384-d' 'strict-dynamic'";
+
 #[test]
-fn nonces_and_integrity_metadata(rt: HostRuntime) -> Result<(), Fail> {
-    let alloc = rt.alloc();
-    let sources = sources(&rt, "'nonce-abc' 'sha256-abc' 'sha384-d' 'strict-dynamic'")?;
+fn nonces(rt: HostRuntime) -> Result<(), Fail> {
+    let sources = sources(&rt, VALUE)?;
     for (nonce, wanted) in [("", false), ("abc", true), ("ABC", false)] {
-        let nonce = Text::new(alloc, nonce)?;
-        assert_eq!(rt; nonce_matches(&nonce, &sources), wanted, "{nonce:?}");
+        let text = Text::new(rt.alloc(), nonce)?;
+        assert_eq!(rt; nonce_matches(&text, &sources), wanted, "{nonce}");
     }
+    Ok(())
+}
+
+#[test]
+fn integrity_metadata(rt: HostRuntime) -> Result<(), Fail> {
+    let sources = sources(&rt, VALUE)?;
     for (metadata, wanted) in [
         ("", false),
         ("sha384-d sha256-abc", true),
         ("sha256-abc sha512-d", false),
     ] {
-        let pairs = read_integrity(alloc, metadata)?;
+        let pairs = read_integrity(rt.alloc(), metadata)?;
         assert_eq!(rt; integrity_matches(&pairs, &sources), wanted, "{metadata}");
     }
     Ok(())
