@@ -64,7 +64,8 @@ fn tokens(rt: HostRuntime) -> Result<(), Fail> {
         ("'sha512-Zz'", "sha512", "'sha512-Zz'"),
     ] {
         let (found, printed) = told(&rt, token)?;
-        assert_eq!(rt; (found, printed.as_str()), (kind, text), "{token}");
+        assert_eq!(rt; found, kind, "{token}");
+        assert_eq!(rt; printed.as_str(), text);
     }
     Ok(())
 }
@@ -98,7 +99,8 @@ fn tokens_of_no_kind(rt: HostRuntime) -> Result<(), Fail> {
         "a b",
     ] {
         let (found, printed) = told(&rt, token)?;
-        assert_eq!(rt; (found, printed.as_str()), ("none", token));
+        assert_eq!(rt; found, "none", "{token}");
+        assert_eq!(rt; printed.as_str(), token);
     }
     Ok(())
 }
