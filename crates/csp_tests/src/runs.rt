@@ -201,6 +201,15 @@ const URLS: [(&str, &str, &str); 15] = [
     ("*", "//", "bad requests: request 1 url\n"),
 ];
 
+#[test]
+fn urls(rt: HostRuntime) -> Result<(), Fail> {
+    for (token, url, text) in URLS {
+        let written = image_judged(rt.alloc(), "https://a.example", token, url)?;
+        assert_eq!(rt; written.as_slice(), text.as_bytes(), "at {token} {url}");
+    }
+    Ok(())
+}
+
 // The same with the origin before them.
 const ORIGINS: [(&str, &str, &str, &str); 5] = [
     ("null", "localhost:*", "https://localhost:3000/", BLOCKED),
@@ -226,11 +235,7 @@ const ORIGINS: [(&str, &str, &str, &str); 5] = [
 ];
 
 #[test]
-fn urls_and_origins(rt: HostRuntime) -> Result<(), Fail> {
-    for (token, url, text) in URLS {
-        let written = image_judged(rt.alloc(), "https://a.example", token, url)?;
-        assert_eq!(rt; written.as_slice(), text.as_bytes(), "at {token} {url}");
-    }
+fn origins(rt: HostRuntime) -> Result<(), Fail> {
     for (origin, token, url, text) in ORIGINS {
         let written = image_judged(rt.alloc(), origin, token, url)?;
         assert_eq!(rt;
@@ -351,30 +356,31 @@ fn a_failing_read_names_its_file(rt: HostRuntime) -> Result<(), Fail> {
     Ok(())
 }
 
-// The status, and what is taken by a sink of some room that fails at these writes of a byte.
-fn taken(
-    alloc: Global,
-    words: &[&str],
-    room: usize,
-    failing: &[u64],
-) -> Result<(Status, Bytes), Memory> {
-    written(alloc, words, inputs(alloc, "", IMAGE, &[])?, room, failing)
+#[test]
+fn a_full_sink_holds_a_prefix(rt: HostRuntime) -> Result<(), Fail> {
+    let text = ALLOWED.as_bytes();
+    for room in 0..text.len() {
+        let files = inputs(rt.alloc(), "", IMAGE, &[])?;
+        let (status, taken) = written(rt.alloc(), &WORDS, files, room, &[])?;
+        assert_eq!(rt; status, Status::WriteFault);
+        assert_eq!(rt; taken.as_slice(), &text[..room]);
+    }
+    Ok(())
 }
 
 #[test]
-fn a_full_or_failing_sink_holds_a_prefix(rt: HostRuntime) -> Result<(), Fail> {
+fn a_failing_sink_holds_a_prefix(rt: HostRuntime) -> Result<(), Fail> {
     let text = ALLOWED.as_bytes();
-    for place in 0..text.len() {
-        let (status, full) = taken(rt.alloc(), &WORDS, place, &[])?;
+    for call in 0..text.len() {
+        let files = inputs(rt.alloc(), "", IMAGE, &[])?;
+        let (status, taken) = written(rt.alloc(), &WORDS, files, 100, &[call as u64])?;
         assert_eq!(rt; status, Status::WriteFault);
-        assert_eq!(rt; full.as_slice(), &text[..place]);
-        let (status, failed) = taken(rt.alloc(), &WORDS, 100, &[place as u64])?;
-        assert_eq!(rt; status, Status::WriteFault);
-        assert_eq!(rt; failed.as_slice(), &text[..place]);
+        assert_eq!(rt; taken.as_slice(), &text[..call]);
     }
-    let (status, usage) = taken(rt.alloc(), &["judge"], 400, &[0])?;
+    let files = inputs(rt.alloc(), "", IMAGE, &[])?;
+    let (status, taken) = written(rt.alloc(), &["judge"], files, 400, &[0])?;
     assert_eq!(rt; status, Status::WriteFault);
-    assert_eq!(rt; usage.as_slice(), b"".as_slice());
+    assert_eq!(rt; taken.as_slice(), b"".as_slice());
     Ok(())
 }
 

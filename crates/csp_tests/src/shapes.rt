@@ -30,14 +30,6 @@ fn direct_fetch(group: Group, parser_inserted: bool) -> Shape {
     }
 }
 
-fn inline(kind: InlineKind) -> Shape {
-    Shape::Inline { kind }
-}
-
-fn sandboxed(capability: Capability) -> Shape {
-    Shape::Capability { capability }
-}
-
 #[test]
 fn the_first_of_each_kind(rt: HostRuntime) {
     let scheme = Some(Scheme::Http);
@@ -59,13 +51,38 @@ fn the_first_of_each_kind(rt: HostRuntime) {
         (156, Shape::Base { scheme }),
         (162, Shape::Ancestor { scheme }),
         (168, Shape::OpaqueAncestor),
-        (169, inline(InlineKind::Script)),
-        (171, inline(InlineKind::Style)),
-        (173, inline(InlineKind::Navigation)),
+        (
+            169,
+            Shape::Inline {
+                kind: InlineKind::Script,
+            },
+        ),
+        (
+            171,
+            Shape::Inline {
+                kind: InlineKind::Style,
+            },
+        ),
+        (
+            173,
+            Shape::Inline {
+                kind: InlineKind::Navigation,
+            },
+        ),
         (174, Shape::Eval),
         (175, Shape::Wasm),
-        (176, sandboxed(Capability::Forms)),
-        (187, sandboxed(Capability::Downloads)),
+        (
+            176,
+            Shape::Capability {
+                capability: Capability::Forms,
+            },
+        ),
+        (
+            187,
+            Shape::Capability {
+                capability: Capability::Downloads,
+            },
+        ),
         (188, Shape::WorkerStart),
     ] {
         assert_eq!(rt; shape_at(number), Some(shape), "{number}");

@@ -1,64 +1,76 @@
 //! Tests of csp_token: the examples of FIPS 180-4, of RFC 4648's two alphabets and of Subresource Integrity.
 use crate::values::{are_hashes, hash, sources};
-use csp_model::{Algorithm, Digest, Text};
+use csp_model::{Algorithm, Digest, Memory, Text};
 use csp_token::{
     digest_matches, digests, hash_of, integrity_matches, integrity_text, nonce_matches,
     read_integrity,
 };
+use std::alloc::Global;
 use std::test::Fail;
 
-// A message and its digests in hexadecimal.
-#[derive(Drop)]
-struct Vector<'a> {
-    message: &'a [u8],
-    sha256: &'static str,
-    sha384: &'static str,
-    sha512: &'static str,
+// Whether these are a message's digests in hexadecimal.
+fn are_digests(
+    alloc: Global,
+    message: &[u8],
+    [sha256, sha384, sha512]: [&str; 3],
+) -> Result<bool, Memory> {
+    let found = digests(message);
+    let found256 = hex::encode(alloc, &found.sha256)?;
+    let found384 = hex::encode(alloc, &found.sha384)?;
+    let found512 = hex::encode(alloc, &found.sha512)?;
+    Ok(found256.as_str() == sha256 && found384.as_str() == sha384 && found512.as_str() == sha512)
 }
 
 #[test]
 fn digests_of_the_standard(rt: HostRuntime) -> Result<(), Fail> {
     let alloc = rt.alloc();
     let million = vec![in alloc; b'a'; 1_000_000]?;
-    let rows = [
-        Vector {
-            message: b"",
-            sha256: "e3b0c44298fc1c149afbf4c8996fb92427ae41e4649b934ca495991b7852b855",
-            sha384: "38b060a751ac96384cd9327eb1b1e36a21fdb71114be07434c0cc7bf63f6e1da274edebfe76f65fbd51ad2f14898b95b",
-            sha512: "cf83e1357eefb8bdf1542850d66d8007d620e4050b5715dc83f4a921d36ce9ce47d0d13c5d85f2b0ff8318d2877eec2f63b931bd47417a81a538327af927da3e",
-        },
-        Vector {
-            message: b"abc",
-            sha256: "ba7816bf8f01cfea414140de5dae2223b00361a396177a9cb410ff61f20015ad",
-            sha384: "cb00753f45a35e8bb5a03d699ac65007272c32ab0eded1631a8b605a43ff5bed8086072ba1e7cc2358baeca134c825a7",
-            sha512: "ddaf35a193617abacc417349ae20413112e6fa4e89a97ea20a9eeee64b55d39a2192992a274fc1a836ba3c23a3feebbd454d4423643ce80e2a9ac94fa54ca49f",
-        },
+    let rows: [(&[u8], [&str; 3]); 5] = [
+        (
+            b"",
+            [
+                "e3b0c44298fc1c149afbf4c8996fb92427ae41e4649b934ca495991b7852b855",
+                "38b060a751ac96384cd9327eb1b1e36a21fdb71114be07434c0cc7bf63f6e1da274edebfe76f65fbd51ad2f14898b95b",
+                "cf83e1357eefb8bdf1542850d66d8007d620e4050b5715dc83f4a921d36ce9ce47d0d13c5d85f2b0ff8318d2877eec2f63b931bd47417a81a538327af927da3e",
+            ],
+        ),
+        (
+            b"abc",
+            [
+                "ba7816bf8f01cfea414140de5dae2223b00361a396177a9cb410ff61f20015ad",
+                "cb00753f45a35e8bb5a03d699ac65007272c32ab0eded1631a8b605a43ff5bed8086072ba1e7cc2358baeca134c825a7",
+                "ddaf35a193617abacc417349ae20413112e6fa4e89a97ea20a9eeee64b55d39a2192992a274fc1a836ba3c23a3feebbd454d4423643ce80e2a9ac94fa54ca49f",
+            ],
+        ),
         // Two blocks of SHA-256.
-        Vector {
-            message: b"abcdbcdecdefdefgefghfghighijhijkijkljklmklmnlmnomnopnopq",
-            sha256: "248d6a61d20638b8e5c026930c3e6039a33ce45964ff2167f6ecedd419db06c1",
-            sha384: "3391fdddfc8dc7393707a65b1b4709397cf8b1d162af05abfe8f450de5f36bc6b0455a8520bc4e6f5fe95b1fe3c8452b",
-            sha512: "204a8fc6dda82f0a0ced7beb8e08a41657c16ef468b228a8279be331a703c33596fd15c13b1b07f9aa1d3bea57789ca031ad85c7a71dd70354ec631238ca3445",
-        },
+        (
+            b"abcdbcdecdefdefgefghfghighijhijkijkljklmklmnlmnomnopnopq",
+            [
+                "248d6a61d20638b8e5c026930c3e6039a33ce45964ff2167f6ecedd419db06c1",
+                "3391fdddfc8dc7393707a65b1b4709397cf8b1d162af05abfe8f450de5f36bc6b0455a8520bc4e6f5fe95b1fe3c8452b",
+                "204a8fc6dda82f0a0ced7beb8e08a41657c16ef468b228a8279be331a703c33596fd15c13b1b07f9aa1d3bea57789ca031ad85c7a71dd70354ec631238ca3445",
+            ],
+        ),
         // Two blocks of SHA-384 and SHA-512.
-        Vector {
-            message: b"abcdefghbcdefghicdefghijdefghijkefghijklfghijklmghijklmnhijklmnoijklmnopjklmnopqklmnopqrlmnopqrsmnopqrstnopqrstu",
-            sha256: "cf5b16a778af8380036ce59e7b0492370b249b11e8f07a51afac45037afee9d1",
-            sha384: "09330c33f71147e83d192fc782cd1b4753111b173b3b05d22fa08086e3b0f712fcc7c71a557e2db966c3e9fa91746039",
-            sha512: "8e959b75dae313da8cf4f72814fc143f8f7779c6eb9f7fa17299aeadb6889018501d289e4900f7e4331b99dec4b5433ac7d329eeb6dd26545e96e55b874be909",
-        },
-        Vector {
-            message: million.as_slice(),
-            sha256: "cdc76e5c9914fb9281a1c7e284d73e67f1809a48a497200e046d39ccc7112cd0",
-            sha384: "9d0e1809716474cb086e834e310a4a1ced149e9c00f248527972cec5704c2a5b07b8b3dc38ecc4ebae97ddd87f3d8985",
-            sha512: "e718483d0ce769644e2e42c7bc15b4638e1f98b13b2044285632a803afa973ebde0ff244877ea60a4cb0432ce577c31beb009c5c2c49aa2e4eadb217ad8cc09b",
-        },
+        (
+            b"abcdefghbcdefghicdefghijdefghijkefghijklfghijklmghijklmnhijklmnoijklmnopjklmnopqklmnopqrlmnopqrsmnopqrstnopqrstu",
+            [
+                "cf5b16a778af8380036ce59e7b0492370b249b11e8f07a51afac45037afee9d1",
+                "09330c33f71147e83d192fc782cd1b4753111b173b3b05d22fa08086e3b0f712fcc7c71a557e2db966c3e9fa91746039",
+                "8e959b75dae313da8cf4f72814fc143f8f7779c6eb9f7fa17299aeadb6889018501d289e4900f7e4331b99dec4b5433ac7d329eeb6dd26545e96e55b874be909",
+            ],
+        ),
+        (
+            million.as_slice(),
+            [
+                "cdc76e5c9914fb9281a1c7e284d73e67f1809a48a497200e046d39ccc7112cd0",
+                "9d0e1809716474cb086e834e310a4a1ced149e9c00f248527972cec5704c2a5b07b8b3dc38ecc4ebae97ddd87f3d8985",
+                "e718483d0ce769644e2e42c7bc15b4638e1f98b13b2044285632a803afa973ebde0ff244877ea60a4cb0432ce577c31beb009c5c2c49aa2e4eadb217ad8cc09b",
+            ],
+        ),
     ];
-    for row in &rows {
-        let found = digests(row.message);
-        assert_eq!(rt; hex::encode(alloc, &found.sha256)?.as_str(), row.sha256);
-        assert_eq!(rt; hex::encode(alloc, &found.sha384)?.as_str(), row.sha384);
-        assert_eq!(rt; hex::encode(alloc, &found.sha512)?.as_str(), row.sha512);
+    for (message, wanted) in rows {
+        assert!(rt; are_digests(alloc, message, wanted)?, "{wanted:?}");
     }
     Ok(())
 }
@@ -103,20 +115,27 @@ fn hashes_that_stand_for_digests(rt: HostRuntime) -> Result<(), Fail> {
     Ok(())
 }
 
+const VALUE: &str = "'nonce-abc' 'sha256-abc' 'sha384-d' 'strict-dynamic'";
+
 #[test]
-fn nonces_and_integrity_metadata(rt: HostRuntime) -> Result<(), Fail> {
-    let alloc = rt.alloc();
-    let sources = sources(&rt, "'nonce-abc' 'sha256-abc' 'sha384-d' 'strict-dynamic'")?;
+fn nonces(rt: HostRuntime) -> Result<(), Fail> {
+    let sources = sources(&rt, VALUE)?;
     for (nonce, wanted) in [("", false), ("abc", true), ("ABC", false)] {
-        let nonce = Text::new(alloc, nonce)?;
-        assert_eq!(rt; nonce_matches(&nonce, &sources), wanted, "{nonce:?}");
+        let text = Text::new(rt.alloc(), nonce)?;
+        assert_eq!(rt; nonce_matches(&text, &sources), wanted, "{nonce}");
     }
+    Ok(())
+}
+
+#[test]
+fn integrity_metadata(rt: HostRuntime) -> Result<(), Fail> {
+    let sources = sources(&rt, VALUE)?;
     for (metadata, wanted) in [
         ("", false),
         ("sha384-d sha256-abc", true),
         ("sha256-abc sha512-d", false),
     ] {
-        let pairs = read_integrity(alloc, metadata)?;
+        let pairs = read_integrity(rt.alloc(), metadata)?;
         assert_eq!(rt; integrity_matches(&pairs, &sources), wanted, "{metadata}");
     }
     Ok(())

@@ -1,5 +1,5 @@
 //! Tests of csp_url. What a text reads as is the URL Standard's.
-use csp_model::{Host, Origin, Scheme, Text, Url, pieces_of};
+use csp_model::{Host, Origin, Scheme, Text, Url};
 use csp_url::{
     OriginError, Part, PartsError, UrlError, read_origin, read_url, strip_url, url_from_parts,
     url_text,
@@ -108,20 +108,31 @@ fn texts_that_are_no_urls(rt: HostRuntime) {
     }
 }
 
+fn is_domain(host: &Host, text: &str) -> bool {
+    matches!(host, Host::Domain(_)) && host.as_str() == text
+}
+
 #[test]
 fn a_url_with_every_part(rt: HostRuntime) -> Result<(), Fail> {
-    let alloc = rt.alloc();
-    let url = Url::Hosted {
-        scheme: Scheme::Https,
-        host: Host::Domain(Text::new(alloc, "b.example")?),
-        port: None,
-        path: pieces_of(alloc, b"~b")?,
+    let url = read_url(rt.alloc(), "https://u:p@B.example:443/a/../%7Eb?q#f")?;
+    let is_so = match &url {
+        Url::Hosted {
+            scheme: Scheme::Https,
+            host,
+            port: None,
+            path,
+        } => {
+            is_domain(host, "b.example")
+                && path.len() == 1
+                && path
+                    .get(0)
+                    .is_some_and(|piece| piece.as_slice() == b"~b".as_slice())
+        }
+        _ => false,
     };
-    assert_eq!(rt; url_text(alloc, &url)?.as_str(), "https://b.example/~b");
-    assert_eq!(rt;
-        read_url(alloc, "https://u:p@B.example:443/a/../%7Eb?q#f"),
-        Ok(url)
-    );
+    assert!(rt; is_so);
+    let text = url_text(rt.alloc(), &url)?;
+    assert_eq!(rt; text.as_str(), "https://b.example/~b");
     Ok(())
 }
 
@@ -219,22 +230,25 @@ fn parts_of_no_url(rt: HostRuntime) {
 
 #[test]
 fn origins(rt: HostRuntime) -> Result<(), Fail> {
-    let alloc = rt.alloc();
-    assert_eq!(rt; read_origin(alloc, "null"), Ok(Origin::Opaque));
-    for (text, scheme, host, port) in [
+    for (text, scheme, domain, port) in [
         ("https://A.example:443", Scheme::Https, "a.example", None),
         ("https://a.example/", Scheme::Https, "a.example", None),
         ("https://@a.example", Scheme::Https, "a.example", None),
         ("https://a.example/x/..", Scheme::Https, "a.example", None),
         ("http://a.example:443", Scheme::Http, "a.example", Some(443)),
     ] {
-        let host = Host::Domain(Text::new(alloc, host)?);
-        assert_eq!(rt;
-            read_origin(alloc, text),
-            Ok(Origin::Tuple { scheme, host, port }),
-            "{text}"
-        );
+        let origin = read_origin(rt.alloc(), text)?;
+        let is_so = match &origin {
+            Origin::Tuple {
+                scheme: s,
+                host,
+                port: p,
+            } => { (*s, *p) == (scheme, port) && is_domain(host, domain) }
+            Origin::Opaque => false,
+        };
+        assert!(rt; is_so, "{text}");
     }
+    assert_eq!(rt; read_origin(rt.alloc(), "null"), Ok(Origin::Opaque));
     Ok(())
 }
 
