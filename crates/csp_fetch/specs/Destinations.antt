@@ -30,8 +30,8 @@ destination_text Sharedworker = codes "sharedworker"
 destination_text Report = codes "report"
 
 abbrev pub destinations : List Destination
-destinations = Empty ∷ Manifest ∷ Object ∷ Embed ∷ Frame ∷ Iframe ∷ Audio ∷ Track ∷ Video ∷ Font ∷ Image ∷ Style
-    ∷ Script ∷ Audioworklet ∷ Paintworklet ∷ Worker ∷ Serviceworker ∷ Sharedworker ∷ Report ∷ []
+destinations = Empty ∷ Manifest ∷ Object ∷ Embed ∷ Frame ∷ Iframe ∷ Audio ∷ Track ∷ Video ∷ Font ∷ Image
+    ∷ Style ∷ Script ∷ Audioworklet ∷ Paintworklet ∷ Worker ∷ Serviceworker ∷ Sharedworker ∷ Report ∷ []
 
 -- the destination that is so written
 abbrev pub destination_named : List ℕ → Option Destination

@@ -5,8 +5,8 @@ ghost use Rattle.csp_model.specs.Ends as ends;
 
 use csp_model::{Host, HostPart, is_subdomain};
 
-// Whether a host-source's host matches a URL's. `*` and suffixes match domains alone, and an exact host the
-// domain or the address that is printed so.
+/// Whether a host-source's host matches a URL's. `*` and suffixes match domains alone, and an exact host the
+/// domain or the address that is printed so.
 pub fn host_matches(part: &HostPart, host: &Host) -> bool
     ensures { result ≡ spec.host_matches part.now host.now }
 {

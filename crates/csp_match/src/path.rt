@@ -4,7 +4,7 @@ ghost use Rattle.csp_model.specs.DecideMatching as spec;
 
 use csp_model::{Bytes, List, PathPart, goes_beyond};
 
-// Whether a host-source's path matches a URL's, piece by piece.
+/// Whether a host-source's path matches a URL's, piece by piece.
 pub fn path_matches(part: &PathPart, path: &List<Bytes>) -> bool
     ensures { result ≡ spec.path_matches part.now path.now }
 {

@@ -4,7 +4,7 @@ ghost use Rattle.csp_model.specs.DecideMatching as spec;
 
 use csp_model::{PortPart, Scheme};
 
-// Whether a host-source's port matches a URL's, which is None where it is its scheme's default.
+/// Whether a host-source's port matches a URL's, which is None where it is its scheme's default.
 pub fn port_matches(part: PortPart, port: Option<u16>, scheme: Scheme) -> bool
     ensures { result ≡ spec.port_matches part port scheme }
 {

@@ -6,8 +6,8 @@ ghost use Rattle.csp_model.specs.Schemes.{scheme_text};
 
 use csp_model::{Origin, Scheme, Text, Url};
 
-// Whether a source expression's scheme matches a URL's: `http` stands for https too, `ws` also for wss, http
-// and https, and `wss` also for https.
+/// Whether a source expression's scheme matches a URL's: `http` stands for https too, `ws` also for wss, http
+/// and https, and `wss` also for https.
 pub fn scheme_matches(part: &str, scheme: &str) -> bool
     ensures { result ≡ spec.scheme_matches part.now scheme.now }
 {
@@ -19,7 +19,7 @@ pub fn scheme_matches(part: &str, scheme: &str) -> bool
     }
 }
 
-// Whether a host-source's scheme, or else the origin's, matches a URL's. An opaque origin has none.
+/// Whether a host-source's scheme, or else the origin's, matches a URL's. An opaque origin has none.
 pub fn own_scheme_matches(part: &Option<Text>, origin: &Origin, scheme: Scheme) -> bool
     ensures { result ≡ spec.own_scheme_matches part.now origin.now (scheme_text scheme) }
 {
@@ -30,7 +30,7 @@ pub fn own_scheme_matches(part: &Option<Text>, origin: &Origin, scheme: Scheme) 
     }
 }
 
-// Whether the token `*` matches a URL of a scheme.
+/// Whether the token `*` matches a URL of a scheme.
 pub fn is_network_scheme(scheme: &str) -> bool
     ensures { result ≡ spec.is_network_scheme scheme.now }
 {

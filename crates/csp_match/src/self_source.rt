@@ -5,7 +5,7 @@ ghost use Rattle.csp_model.specs.DecideMatching as spec;
 
 use csp_model::{Origin, Scheme, Url};
 
-// Whether `'self'` matches a URL: the same host and port, and the same scheme or one that is safe to take.
+/// Whether `'self'` matches a URL: the same host and port, and the same scheme or one that is safe to take.
 pub fn self_matches(origin: &Origin, url: &Url) -> bool
     ensures { result ≡ spec.self_matches origin.now url.now }
 {

@@ -23,7 +23,8 @@ abbrev pub sources_allow : FetchRule → List Source → List ℕ → List Hash 
 sources_allow rule.Script sources nonce integrity parser_inserted listed =
     nonce_matches nonce sources
     || (integrity_matches integrity sources || dynamic_or_listed sources parser_inserted listed)
-sources_allow rule.Style sources nonce integrity parser_inserted listed = nonce_matches nonce sources || listed
+sources_allow rule.Style sources nonce integrity parser_inserted listed =
+    nonce_matches nonce sources || listed
 sources_allow rule.List sources nonce integrity parser_inserted listed = listed
 
 abbrev pub fetch_allows : Policy → Group → Url → ℕ → List ℕ → List Hash → Bool → Bool

@@ -37,7 +37,8 @@ integrity_matches integrity sources =
     is_nonempty integrity && list_all (λ h. list_any (is_hash h) sources) integrity
 
 abbrev pub hash_matches : Hash → Digests → Bool
-hash_matches hash digests = bytes_eq (plain_value hash.value) (encode_of standard (digest_by hash.algorithm digests))
+hash_matches hash digests =
+    bytes_eq (plain_value hash.value) (encode_of standard (digest_by hash.algorithm digests))
 
 -- a hash-source that stands for one of these digests
 abbrev pub is_hash_of : Digests → Source → Bool

@@ -30,7 +30,8 @@ authority scheme text =
 
 unfoldable pub host_source : List ℕ → Option Source
 host_source token =
-    if is_scheme (take_while is_scheme_char token) && starts_with nat_eq (skip_while is_scheme_char token) (codes "://")
+    if is_scheme (take_while is_scheme_char token)
+    && starts_with nat_eq (skip_while is_scheme_char token) (codes "://")
     then authority (Some (lower (take_while is_scheme_char token))) (drop 3 (skip_while is_scheme_char token))
     else authority None token
 

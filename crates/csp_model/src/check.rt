@@ -44,8 +44,9 @@ impl Group {
         }
     }
 
-    /// How a directive of this name decides on the group's fetches, where it governs them. A worker is decided on as a
-    /// script where `script-src` governs it (Content Security Policy Level 3, sections 6.1 and 6.7.1).
+    /// How a directive of this name decides on the group's fetches, where it governs them. A worker is
+    /// decided on as a script where `script-src` governs it (Content Security Policy Level 3, sections 6.1
+    /// and 6.7.1).
     pub fn rule(self, governing: Name) -> FetchRule
         ensures { result ≡ fetch_rule self governing }
     {

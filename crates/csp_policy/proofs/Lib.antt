@@ -1,4 +1,3 @@
-pub mod BlockLaws
 pub mod FirstWord
 pub mod Firsts
 pub mod Joined

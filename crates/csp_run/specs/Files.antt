@@ -62,8 +62,8 @@ read_as origin file bytes =
     if nat_lt file_limit (length bytes) then Err (fault.TooLarge file limit.Bytes)
     else read_within origin file bytes
 
--- what a call knows of its inputs: the bytes that are told, its counts before the call and now, the file that was
--- started last, and how many bytes of it were given
+-- what a call knows of its inputs: the bytes that are told, its counts before the call and now, the file that
+-- was started last, and how many bytes of it were given
 pub record World : Type 0 where
   pub contents : List ℕ → Option (List ℕ)
   pub faults_before : List ℕ → ℕ
@@ -102,8 +102,8 @@ pub record IsCurrent (w : World) (file : File) (bytes : List ℕ) : Type 0 where
   pub opened : w.current ≡ Some file.name
   pub given : w.given ≡ min (length bytes) (file_limit + 1)
 
--- A file has these bytes, the told ones where they are told, and this is what they hold. Where no file was started
--- after it, so many bytes were given.
+-- A file has these bytes, the told ones where they are told, and this is what they hold. Where no file was
+-- started after it, so many bytes were given.
 pub record IsHeld (w : World) (origin : Origin) (last : Bool) (file : File) (found : Result Content Fault) :
     Type 0 where
   pub bytes : List ℕ
@@ -119,8 +119,8 @@ abbrev pub is_empty : List File → Bool
 is_empty [] = true
 is_empty (file ∷ files) = false
 
--- What is found of files, each read once and in their order, n others before these: what each one holds, or the
--- fault of the first that has one, after which no file is started.
+-- What is found of files, each read once and in their order, n others before these: what each one holds, or
+-- the fault of the first that has one, after which no file is started.
 abbrev pub AreRead : World → Origin → ℕ → List File → Result (List Content) Fault → Type 0
 AreRead w origin n [] (Ok contents) = (contents ≡ []) × HasStarted w n
 AreRead w origin n [] (Err f) = ⊥

@@ -17,7 +17,8 @@ use Rattle.csp_run.specs.declared.plan.Form.TheVariants.{Judge}
 -- how many pairs of sources a drill has: a decimal number from 1 to 200, without leading zeros
 unfoldable pub is_drill_number : List ℕ → Bool
 is_drill_number word =
-    are_digits word && nat_lt (length word) 4 && not (slice_index word 0 == digit_zero) && nat_le (decimal_value word) 200
+    are_digits word && nat_lt (length word) 4 && not (slice_index word 0 == digit_zero)
+    && nat_le (decimal_value word) 200
 
 -- words of a form that isn't built yet
 abbrev pub is_unbuilt : List (List ℕ) → Bool

@@ -100,7 +100,8 @@ fn pieces<'a>(fault: Fault, digits: &'a mut Buffer) -> [&'a str; 5]
 /// Writes the text of a fault. It takes no memory.
 pub fn write_fault<S: Sink>(out: &mut S, fault: Fault) -> Result<(), Failed>
     ensures taken { OnOk result (GrewBy (S.taken out.old) (S.taken out.new) (texts.fault_text fault)) }
-    ensures prefix { OnErr result (GrewByPrefix (S.taken out.old) (S.taken out.new) (texts.fault_text fault)) }
+    ensures prefix { OnErr result
+        (GrewByPrefix (S.taken out.old) (S.taken out.new) (texts.fault_text fault)) }
     ensures later { S.faults out.old ≤ S.faults out.new }
     ensures cause { OnErr result (Rose (S.faults out.old) (S.faults out.new)) }
 {

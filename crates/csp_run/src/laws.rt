@@ -18,8 +18,8 @@ pub fn usage_comes_only_by_the_words()
         → end_status end ≡ status.Usage → plan_of words ≡ Err fault.Usage }
 {}
 
-/// Where a file's bytes are told and have a fault, and the file didn't fail, that fault is what is found of it
-/// and the files after it, and none of these was started.
+/// Where a file's bytes are told and have a fault, and the file didn't fail, that fault is what is found of
+/// it and the files after it, and none of these was started.
 pub fn a_told_fault_is_found()
     ensures { (w : World) (origin : Origin) (n : ℕ) (file : File) (files : List File) (f : Fault)
         (found : Result (List Content) Fault) → IsFaulty w origin file f

@@ -34,8 +34,8 @@ pub fn role_at(form: Form, place: usize) -> Role
     }
 }
 
-/// What these words ask for, or why it is nothing: `Usage`, `NotBuilt` or `BadOrigin`, tested in this order, or
-/// `Memory`.
+/// What these words ask for, or why it is nothing: `Usage`, `NotBuilt` or `BadOrigin`, tested in this order,
+/// or `Memory`.
 pub fn plan_of(alloc: Global, words: &[Text]) -> Result<Plan<'_>, Fault>
     ensures plan { result ≢ Err Fault.Memory → shown result ≡ spec.plan_of words.now }
     ensures takes { IfOk result (λ plan. IsTrue (spec.takes plan.form (length plan.names.now))) }

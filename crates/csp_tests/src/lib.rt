@@ -1,5 +1,5 @@
-//! Tests of the public calls of all crates: worked examples and the vectors of the standards as tables, each call once
-//! with memory enough, and a read, a write and an allocation that fail.
+//! Tests of the public calls of all crates: worked examples and the vectors of the standards as tables, each
+//! call once with memory enough, and a read, a write and an allocation that fail.
 //!
 //! Nothing stands on this crate. What a proved clause says of every input is not tested again.
 #![tactic(auto)]

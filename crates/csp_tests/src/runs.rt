@@ -337,7 +337,8 @@ fn urls_by_parts(rt: HostRuntime) -> Result<(), Fail> {
 #[test]
 fn a_failing_read_names_its_file(rt: HostRuntime) -> Result<(), Fail> {
     let policy = "Content-Security-Policy: img-src https://b.example";
-    // A start, a read of all the policy's bytes and one of none; then a start and three reads of the requests.
+    // A start, a read of all the policy's bytes and one of none; then a start and three reads of the
+    // requests.
     for (call, status, text) in [
         (0, Status::ReadFault, "read fault: policy\n"),
         (1, Status::ReadFault, "read fault: policy\n"),

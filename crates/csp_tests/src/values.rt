@@ -27,14 +27,14 @@ pub fn long(alloc: Global, (front, part, count, end): Long<'_>) -> Result<String
     Ok(text)
 }
 
-// The source of a token, which has to be ASCII.
+/// The source of a token, which has to be ASCII.
 pub fn source(rt: &(impl Abort + AllocGlobal), token: &str) -> Result<Source, Memory> {
     let bytes = token.as_bytes();
     assert!(rt; is_ascii_text(bytes), "{token}");
     read_source(rt.alloc(), bytes)
 }
 
-// The sources of the tokens between spaces.
+/// The sources of the tokens between spaces.
 pub fn sources(rt: &(impl Abort + AllocGlobal), value: &str) -> Result<List<Source>, Memory> {
     let mut made = List::new(rt.alloc());
     for token in value.split(' ') {
@@ -43,7 +43,7 @@ pub fn sources(rt: &(impl Abort + AllocGlobal), value: &str) -> Result<List<Sour
     Ok(made)
 }
 
-// The policies of a header block, of the origin `https://a.example`.
+/// The policies of a header block, of the origin `https://a.example`.
 pub fn policies(rt: &(impl Abort + AllocGlobal), block: &str) -> Result<PolicyList, BlockError> {
     let bytes = block.as_bytes();
     assert!(rt; bytes.len() < 4_000_000_000);
@@ -53,7 +53,7 @@ pub fn policies(rt: &(impl Abort + AllocGlobal), block: &str) -> Result<PolicyLi
     }
 }
 
-// The policy of a header's value, the last one where there are several.
+/// The policy of a header's value, the last one where there are several.
 pub fn policy(rt: &(impl Abort + AllocGlobal), value: &str) -> Result<Policy, Fail> {
     let block = format!(in rt.alloc(); "Content-Security-Policy: {value}")?;
     let mut list = policies(rt, block.as_str())?;
@@ -74,7 +74,7 @@ pub fn are_hashes(hashes: &List<Hash>, wanted: &[(Algorithm, &str)]) -> bool {
         })
 }
 
-// A fetch with the nonce `abc` and with two pairs of integrity metadata.
+/// A fetch with the nonce `abc` and with two pairs of integrity metadata.
 pub fn fetch(
     alloc: Global,
     group: Group,
@@ -92,7 +92,7 @@ pub fn fetch(
     })
 }
 
-// Inline style with the nonce `abc`, whose digests are ones.
+/// Inline style with the nonce `abc`, whose digests are ones.
 pub fn inline_style(alloc: Global) -> Result<Check, Memory> {
     Ok(Check::Inline {
         kind: InlineKind::Style,

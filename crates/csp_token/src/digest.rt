@@ -59,8 +59,8 @@ pub fn digest_matches(hash: &Hash, digests: &Digests) -> bool
     }
 }
 
-/// Whether some hash-source of a source list stands for the digest of its algorithm (Content Security Policy Level 3,
-/// section 6.7.3.3).
+/// Whether some hash-source of a source list stands for the digest of its algorithm (Content Security Policy
+/// Level 3, section 6.7.3.3).
 #[tactic(auto, using(csp_model::proofs::TokensDecided::digests_decide))]
 pub fn digests_match(digests: &Digests, sources: &List<Source>) -> bool
     ensures value { result ≡ tests.digests_match digests.now sources.now }

@@ -13,7 +13,8 @@ use csp_nav::{
     worker_start_allows,
 };
 
-/// Whether a policy allows a check, whatever its disposition. Only a `sandbox` that isn't enforced allows everything.
+/// Whether a policy allows a check, whatever its disposition. Only a `sandbox` that isn't enforced allows
+/// everything.
 #[tactic(auto, using(csp_model::proofs::VerdictDecided::allows_decides))]
 pub fn allows(policy: &Policy, check: &Check) -> bool
     ensures value { result ≡ spec.allows policy.now check.now }

@@ -9,8 +9,9 @@ use crate::allowed::allows;
 use csp_match::governor;
 use csp_model::{Check, Disposition, Item, List, Memory, Name, Policy, PolicyList};
 
-// Adds the items of a check: one for each policy that doesn't allow it, in order; for a base URL only those up to and with
-// the first enforced one (section 6.3.1.1). Answers whether one is enforced, that is whether the list blocks the check.
+/// Adds the items of a check: one for each policy that doesn't allow it, in order; for a base URL only those
+/// up to and with the first enforced one (section 6.3.1.1). Answers whether one is enforced, that is whether
+/// the list blocks the check.
 pub fn push_items(items: &mut List<Item>, list: &PolicyList, check: &Check) -> Result<bool, Memory>
     requires { length list.now.policies ≤ policy_limit }
     ensures items { OnOk result (items.new ≡ items.old ++ spec.items_of list.now check.now) }
@@ -72,7 +73,7 @@ fn effective_name(check: &Check) -> Name
     }
 }
 
-// Whether some item is of an enforced policy.
+/// Whether some item is of an enforced policy.
 pub fn has_enforced(items: &[Item]) -> bool
     ensures { result ≡ list_any spec.is_enforced items.now }
 {

@@ -1,5 +1,5 @@
-//! What a policy and a list of policies answer to checks and requests (Content Security Policy Level 3, sections 4.1.2,
-//! 4.2 and 6.3.1.1).
+//! What a policy and a list of policies answer to checks and requests (Content Security Policy Level 3,
+//! sections 4.1.2, 4.2 and 6.3.1.1).
 #![tactic(auto)]
 
 mod allowed;

@@ -8,11 +8,12 @@ use crate::item::{has_enforced, push_items};
 use csp_model::{Check, Described, Item, List, Memory, PolicyList, Verdict};
 use std::alloc::Global;
 
-/// The verdict of a list of at most 64 policies on a described request (Content Security Policy Level 3, section 4.1.2).
+/// The verdict of a list of at most 64 policies on a described request (Content Security Policy Level 3,
+/// section 4.1.2).
 ///
-/// The checks are judged in order, up to and with the first that the list blocks. The verdict has an item for each policy
-/// that doesn't allow one of them, report-only ones too, in the order of the list; of a base URL the items end with the
-/// first enforced one. The request is blocked where an item is of an enforced policy.
+/// The checks are judged in order, up to and with the first that the list blocks. The verdict has an item for
+/// each policy that doesn't allow one of them, report-only ones too, in the order of the list; of a base URL
+/// the items end with the first enforced one. The request is blocked where an item is of an enforced policy.
 #[tactic(auto, using(csp_model::proofs::VerdictLaws::blocked_where_refused))]
 pub fn judge(alloc: Global, list: &PolicyList, described: &Described) -> Result<Verdict, Memory>
     requires { length list.now.policies ≤ policy_limit }
