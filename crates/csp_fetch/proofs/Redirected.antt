@@ -3,7 +3,8 @@ use Rattle.std.proofs.Common.{◌≡◌, ℕ, Bool, true, ◌||◌, List, [], �
 use Rattle.csp_model.specs.DecideFetch.{sources_allow, fetch_allows}
 use Rattle.csp_model.specs.DecideMatching.{matches, list_matches}
 use Rattle.csp_model.specs.Fetch.{is_redirected, fetch_rule}
-use Rattle.csp_model.specs.Governing.{Governor, governor, allows_by}
+use Rattle.csp_model.specs.DecideGoverning.{allows_by}
+use Rattle.csp_model.specs.Governing.{Governor, governor}
 use Rattle.csp_model.specs.Names.{group_directive}
 use Rattle.csp_model.specs.declared.check.Group.{Group}
 use Rattle.csp_model.specs.declared.policy.Policy.{Policy}

@@ -1,7 +1,8 @@
 -- Whether a policy allows a fetch of which is known whether the governing list matches its URL.
 use Rattle.std.specs.Prelude.{ℕ, Bool, IsTrue, List}
 use Rattle.csp_model.specs.Names.{group_directive}
-use Rattle.csp_model.specs.Governing.{WhereGoverned, where_governed}
+use Rattle.csp_model.specs.DecideGoverning.{where_governed}
+use Rattle.csp_model.specs.Governing.{WhereGoverned}
 use Rattle.csp_model.specs.Fetch.{fetch_rule, SourcesAllow}
 use Rattle.csp_model.specs.DecideFetch.{sources_allow}
 use Rattle.csp_model.specs.declared.check.Group.{Group}

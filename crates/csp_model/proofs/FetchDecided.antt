@@ -4,7 +4,8 @@ use Rattle.std.specs.Bool.{Decides}
 use Rattle.std.specs.Option.{MatchOption}
 use Rattle.std.proofs.lemmas.Bool.Decides.{Decides-and, Decides-or, Decides-not}
 use Rattle.csp_model.specs.Names.{group_directive}
-use Rattle.csp_model.specs.Governing.{Governor, governor, allows_by, where_governed, WhereGoverned}
+use Rattle.csp_model.specs.DecideGoverning.{allows_by, where_governed}
+use Rattle.csp_model.specs.Governing.{Governor, governor, WhereGoverned}
 use Rattle.csp_model.specs.Fetch.{is_redirected, fetch_rule, DynamicOrListed, SourcesAllow, FetchAllows}
 use Rattle.csp_model.specs.Matching.{ListMatches}
 use Rattle.csp_model.specs.DecideFetch.{dynamic_or_listed, sources_allow, fetch_allows}

@@ -8,7 +8,8 @@ use Rattle.std.proofs.lemmas.List.Elements.{All-head, All-tail}
 use Rattle.csp_model.specs.Inclusion.{Subsumes}
 use Rattle.csp_model.specs.Validity.{IsValidCheck}
 use Rattle.csp_model.specs.Laws.{joined, AllowSame}
-use Rattle.csp_model.specs.Verdict.{allows, is_enforce, list_allows, allows_all}
+use Rattle.csp_model.specs.DecideVerdict.{allows}
+use Rattle.csp_model.specs.Verdict.{is_enforce, list_allows, allows_all}
 use Rattle.csp_model.proofs.Deciding.{all_decides, itself, same_bool}
 use Rattle.csp_model.specs.declared.check.Check.{Check}
 use Rattle.csp_model.specs.declared.policy.Disposition.{Disposition}

@@ -6,7 +6,8 @@ use Rattle.std.specs.Str.{bytes_eq}
 use Rattle.std.proofs.lemmas.Bool.Decides.{Decides-and, Decides-or}
 use Rattle.std.proofs.lemmas.Slice.Eq.{bytes_eq-Decides}
 use Rattle.csp_model.specs.Ascii.{lower}
-use Rattle.csp_model.specs.Governing.{where_governed, WhereGoverned}
+use Rattle.csp_model.specs.DecideGoverning.{where_governed}
+use Rattle.csp_model.specs.Governing.{WhereGoverned}
 use Rattle.csp_model.specs.Fetch.{is_redirected}
 use Rattle.csp_model.specs.Matching.{ListMatches}
 use Rattle.csp_model.specs.Navigation.{BaseAllows, FormAllows, AncestorAllows, OpaqueAncestorAllows, capability_tokens, Grants, CapabilityAllows, WorkerStartAllows}

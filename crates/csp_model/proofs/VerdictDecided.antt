@@ -2,10 +2,12 @@
 use Rattle.std.proofs.Common.{◌≡◌, Bool, true, not, ◌||◌, Option, None, refl, ap}
 use Rattle.std.specs.Bool.{Decides}
 use Rattle.std.proofs.lemmas.Bool.Decides.{Decides-like}
-use Rattle.csp_model.specs.Governing.{Governor, governor, allows_by}
+use Rattle.csp_model.specs.DecideGoverning.{allows_by}
+use Rattle.csp_model.specs.Governing.{Governor, governor}
 use Rattle.csp_model.specs.DecideNavigation.{is_report}
 use Rattle.csp_model.specs.Laws.{EnforcedAllow}
-use Rattle.csp_model.specs.Verdict.{Allows, allows, is_enforce, list_allows, effective_name}
+use Rattle.csp_model.specs.DecideVerdict.{allows}
+use Rattle.csp_model.specs.Verdict.{Allows, is_enforce, list_allows, effective_name}
 use Rattle.csp_model.proofs.Deciding.{yes, all_decides}
 use Rattle.csp_model.proofs.FetchDecided.{fetch_decides}
 use Rattle.csp_model.proofs.InlineDecided.{inline_decides, eval_decides, wasm_decides}

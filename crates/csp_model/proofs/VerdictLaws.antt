@@ -6,7 +6,8 @@ use Rattle.std.proofs.lemmas.Bool.{false≢true}
 use Rattle.std.proofs.lemmas.Grind.{common_steps}
 use Rattle.std.proofs.lemmas.List.Folds.{list_any-append}
 use Rattle.csp_model.specs.Governing.{Governor, governor}
-use Rattle.csp_model.specs.Verdict.{allows, list_allows, allows_all, effective_name, item_by, item_of, items_from, is_enforce, is_enforced, through_enforced, shown_items, items_of, judged_checks}
+use Rattle.csp_model.specs.DecideVerdict.{allows}
+use Rattle.csp_model.specs.Verdict.{list_allows, allows_all, effective_name, item_by, item_of, items_from, is_enforce, is_enforced, through_enforced, shown_items, items_of, judged_checks}
 use Rattle.csp_model.proofs.VerdictDecided.{ungoverned}
 use Rattle.csp_model.specs.declared.check.Check.{Check}
 use Rattle.csp_model.specs.declared.check.Check.TheVariants as check

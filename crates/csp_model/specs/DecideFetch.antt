@@ -1,7 +1,7 @@
 -- Whether a policy allows a fetch, as a test. It says what `Fetch` says.
 use Rattle.std.specs.Prelude.{ℕ, Bool, not, ◌&&◌, ◌||◌, List}
 use Rattle.csp_model.specs.Names.{group_directive}
-use Rattle.csp_model.specs.Governing.{where_governed}
+use Rattle.csp_model.specs.DecideGoverning.{where_governed}
 use Rattle.csp_model.specs.Fetch.{is_redirected, fetch_rule}
 use Rattle.csp_model.specs.DecideMatching.{list_matches}
 use Rattle.csp_model.specs.DecideTokens.{has_keyword, nonce_matches, integrity_matches}

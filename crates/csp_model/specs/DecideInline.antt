@@ -3,7 +3,7 @@
 use Rattle.std.specs.Prelude.{ℕ, Bool, not, ◌&&◌, ◌||◌, List}
 use Rattle.std.specs.List.{list_any}
 use Rattle.csp_model.specs.Names.{inline_directive}
-use Rattle.csp_model.specs.Governing.{where_governed}
+use Rattle.csp_model.specs.DecideGoverning.{where_governed}
 use Rattle.csp_model.specs.Inline.{is_element_kind, is_script_kind, is_nonce_or_hash}
 use Rattle.csp_model.specs.DecideTokens.{has_keyword, nonce_matches, digests_match}
 use Rattle.csp_model.specs.declared.name.Name.TheVariants.{ScriptSrc}

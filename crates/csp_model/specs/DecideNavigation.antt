@@ -4,7 +4,7 @@ use Rattle.std.specs.Prelude.{ℕ, Bool, true, false, ◌&&◌, ◌||◌, List}
 use Rattle.std.specs.List.{list_any}
 use Rattle.std.specs.Str.{bytes_eq}
 use Rattle.csp_model.specs.Ascii.{lower}
-use Rattle.csp_model.specs.Governing.{where_governed}
+use Rattle.csp_model.specs.DecideGoverning.{where_governed}
 use Rattle.csp_model.specs.Fetch.{is_redirected}
 use Rattle.csp_model.specs.Navigation.{capability_tokens}
 use Rattle.csp_model.specs.DecideMatching.{list_matches}

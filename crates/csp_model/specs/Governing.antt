@@ -1,33 +1,12 @@
 -- Which directive of a policy governs a check (Content Security Policy Level 3, sections 6.8.3 and 6.8.4).
-use Rattle.std.specs.Prelude.{ℕ, Bool, true, List, [], ◌∷◌, map, position, Option, Some, None, ⊤}
+use Rattle.std.specs.Prelude.{ℕ, Bool, List, [], ◌∷◌, map, position, Option, Some, None, ⊤}
 use Rattle.std.specs.List.{find}
 use Rattle.std.specs.Option.{option_map, MatchOption}
 use Rattle.std.specs.Str.{bytes_eq}
 use Rattle.csp_model.specs.Names.{name_text}
 use Rattle.csp_model.specs.Reading.{first_of}
 use Rattle.csp_model.specs.declared.name.Name.{Name}
-use Rattle.csp_model.specs.declared.name.Name.TheVariants.{
-  ConnectSrc,
-  FontSrc,
-  FrameSrc,
-  ImgSrc,
-  ManifestSrc,
-  MediaSrc,
-  ObjectSrc,
-  StyleSrcElem,
-  ScriptSrcElem,
-  WorkerSrc,
-  ScriptSrcAttr,
-  StyleSrcAttr,
-  ScriptSrc,
-  StyleSrc,
-  ChildSrc,
-  DefaultSrc,
-  BaseUri,
-  FormAction,
-  FrameAncestors,
-  Sandbox,
-}
+use Rattle.csp_model.specs.declared.name.Name.TheVariants.{ConnectSrc, FontSrc, FrameSrc, ImgSrc, ManifestSrc, MediaSrc, ObjectSrc, StyleSrcElem, ScriptSrcElem, WorkerSrc, ScriptSrcAttr, StyleSrcAttr, ScriptSrc, StyleSrc, ChildSrc, DefaultSrc, BaseUri, FormAction, FrameAncestors, Sandbox}
 use Rattle.csp_model.specs.declared.policy.Directive.{Directive}
 use Rattle.csp_model.specs.declared.policy.Policy.{Policy}
 
@@ -82,11 +61,3 @@ governing_place policy effective = first_of (map (place_of_name policy.directive
 -- P of what governs; where nothing does, the policy allows
 abbrev pub WhereGoverned : Policy → Name → (Governor → Type 0) → Type 0
 WhereGoverned policy effective P = MatchOption (governor policy effective) ⊤ P
-
-abbrev pub allows_by : Option Governor → (Governor → Bool) → Bool
-allows_by None test = true
-allows_by (Some g) test = test g
-
--- the same as a test
-abbrev pub where_governed : Policy → Name → (Governor → Bool) → Bool
-where_governed policy effective test = allows_by (governor policy effective) test

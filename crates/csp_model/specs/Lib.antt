@@ -2,11 +2,13 @@ pub mod Answers
 pub mod Ascii
 pub mod Bytes
 pub mod DecideFetch
+pub mod DecideGoverning
 pub mod DecideInline
 pub mod DecideMatching
 pub mod DecideNavigation
 pub mod DecideNonces
 pub mod DecideTokens
+pub mod DecideVerdict
 pub mod Ends
 pub mod Fetch
 pub mod Governing

@@ -8,9 +8,7 @@ use Rattle.csp_model.specs.Governing.{Governor, governor}
 use Rattle.csp_model.specs.Fetch.{FetchAllows}
 use Rattle.csp_model.specs.Inline.{InlineAllows, EvalAllows, WasmAllows}
 use Rattle.csp_model.specs.Navigation.{BaseAllows, FormAllows, AncestorAllows, OpaqueAncestorAllows, CapabilityAllows, WorkerStartAllows}
-use Rattle.csp_model.specs.DecideFetch.{fetch_allows}
-use Rattle.csp_model.specs.DecideInline.{inline_allows, eval_allows, wasm_allows}
-use Rattle.csp_model.specs.DecideNavigation.{base_allows, form_allows, ancestor_allows, opaque_ancestor_allows, capability_allows, worker_start_allows}
+use Rattle.csp_model.specs.DecideVerdict.{allows}
 use Rattle.csp_model.specs.DecideTokens.{has_keyword}
 use Rattle.csp_model.specs.Policies.{policy_text}
 use Rattle.csp_model.specs.declared.name.Name.{Name}
@@ -42,20 +40,6 @@ Allows policy (check.Ancestor there) = AncestorAllows policy there
 Allows policy check.OpaqueAncestor = OpaqueAncestorAllows policy
 Allows policy (check.Capability capability) = CapabilityAllows policy capability
 Allows policy check.WorkerStart = WorkerStartAllows policy
-
--- the same as a test
-abbrev pub allows : Policy → Check → Bool
-allows policy (check.Fetch group there redirects nonce integrity parser_inserted) =
-    fetch_allows policy group there redirects nonce integrity parser_inserted
-allows policy (check.Inline kind nonce digests) = inline_allows policy kind nonce digests
-allows policy check.Eval = eval_allows policy
-allows policy check.Wasm = wasm_allows policy
-allows policy (check.Base there) = base_allows policy there
-allows policy (check.Form there redirects) = form_allows policy there redirects
-allows policy (check.Ancestor there) = ancestor_allows policy there
-allows policy check.OpaqueAncestor = opaque_ancestor_allows policy
-allows policy (check.Capability capability) = capability_allows policy capability
-allows policy check.WorkerStart = worker_start_allows policy
 
 abbrev pub is_enforce : Disposition → Bool
 is_enforce Enforce = true

@@ -4,7 +4,7 @@ ghost use Rattle.std.specs.List.{list_any};
 ghost use Rattle.std.specs.Str.{bytes_eq};
 ghost use Rattle.csp_model.specs.Ascii.{lower};
 ghost use Rattle.csp_model.specs.DecideNavigation as spec;
-ghost use Rattle.csp_model.specs.Governing.{where_governed};
+ghost use Rattle.csp_model.specs.DecideGoverning.{where_governed};
 ghost use Rattle.csp_model.specs.Names.{capability_text};
 ghost use Rattle.csp_model.specs.declared.name.Name.TheVariants.{Sandbox};
 ghost use Rattle.csp_model.specs.Navigation.{CapabilityAllows, WorkerStartAllows, capability_tokens};

@@ -2,6 +2,7 @@
 ghost use Rattle.std.specs.Prelude.{◌≡◌, ◌↔◌, ◌||◌, not, IsTrue};
 ghost use Rattle.std.specs.List.{list_all};
 ghost use Rattle.csp_model.specs.Laws.{EnforcedAllow};
+ghost use Rattle.csp_model.specs.DecideVerdict as tests;
 ghost use Rattle.csp_model.specs.Verdict as spec;
 ghost use Rattle.csp_model.specs.Verdict.{Allows};
 
@@ -17,7 +18,7 @@ use csp_nav::{
 /// everything.
 #[tactic(auto, using(csp_model::proofs::VerdictDecided::allows_decides))]
 pub fn allows(policy: &Policy, check: &Check) -> bool
-    ensures value { result ≡ spec.allows policy.now check.now }
+    ensures value { result ≡ tests.allows policy.now check.now }
     ensures allows { IsTrue result ↔ Allows policy.now check.now }
 {
     match check {
@@ -63,13 +64,13 @@ pub fn list_allows(list: &PolicyList, check: &Check) -> bool
 
 fn each_enforced_allows(policies: &[Policy], check: &Check) -> bool
     ensures { result
-        ≡ list_all (λ p. not (spec.is_enforce p.disposition) || spec.allows p check.now) policies.now }
+        ≡ list_all (λ p. not (spec.is_enforce p.disposition) || tests.allows p check.now) policies.now }
 {
     policies.iter().all(|policy| enforced_allows(policy, check))
 }
 
 fn enforced_allows(policy: &Policy, check: &Check) -> bool
-    ensures { result ≡ (not (spec.is_enforce policy.now.disposition) || spec.allows policy.now check.now) }
+    ensures { result ≡ (not (spec.is_enforce policy.now.disposition) || tests.allows policy.now check.now) }
 {
     policy.disposition != Disposition::Enforce || allows(policy, check)
 }
