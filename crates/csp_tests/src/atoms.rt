@@ -36,7 +36,9 @@ fn literal(alloc: Global, positive: bool, spelling: &str) -> Result<Literal, Mem
 }
 
 // Whether the literal is positive, its atom, the atom that is asked for, and what is said of it.
-const FOLLOWS: [(bool, &str, &str, Option<bool>); 75] = [
+type Row = (bool, &'static str, &'static str, Option<bool>);
+
+const OF_HOSTS: [Row; 33] = [
     (true, "under a.example", "under example", Some(true)),
     (true, "under a.example", "host b.example", Some(false)),
     (true, "under a.example", "under x.a.example", None),
@@ -70,6 +72,9 @@ const FOLLOWS: [(bool, &str, &str, Option<bool>); 75] = [
     (false, "domain", "under a.example", Some(false)),
     (false, "domain", "host a.example", Some(false)),
     (false, "domain", "address 10.0.0.1", None),
+];
+
+const OF_PORTS_AND_PATHS: [Row; 22] = [
     (true, "https", "https", Some(true)),
     (true, "https", "http", Some(false)),
     (false, "https", "https", Some(false)),
@@ -92,6 +97,9 @@ const FOLLOWS: [(bool, &str, &str, Option<bool>); 75] = [
     (false, "below x", "path x/y", Some(false)),
     (false, "below x", "path x", None),
     (true, "path x", "https", None),
+];
+
+const OF_THE_REST: [Row; 20] = [
     (true, "scheme data", "scheme data", Some(true)),
     (true, "scheme data", "scheme blob", Some(false)),
     (false, "scheme data", "scheme data", Some(false)),
@@ -114,18 +122,23 @@ const FOLLOWS: [(bool, &str, &str, Option<bool>); 75] = [
     (false, "outside", "has abc", None),
 ];
 
-// What a literal says of an atom.
-fn said(alloc: Global, positive: bool, known: &str, asked: &str) -> Result<Option<bool>, Memory> {
-    let literal = literal(alloc, positive, known)?;
-    Ok(follows(&literal, &atom(alloc, asked)?))
+// The first row that is answered otherwise.
+fn first_wrong(alloc: Global, rows: &[Row]) -> Result<Option<Row>, Memory> {
+    for row in rows {
+        let (positive, known, asked, answer) = *row;
+        let literal = literal(alloc, positive, known)?;
+        if follows(&literal, &atom(alloc, asked)?) != answer {
+            return Ok(Some(*row));
+        }
+    }
+    Ok(None)
 }
 
 #[test]
 fn what_literals_say(rt: HostRuntime) -> Result<(), Fail> {
-    for (positive, known, asked, answer) in FOLLOWS {
-        let found = said(rt.alloc(), positive, known, asked)?;
-        assert_eq!(rt; found, answer, "{positive} {known} {asked}");
-    }
+    assert_eq!(rt; first_wrong(rt.alloc(), &OF_HOSTS)?, None);
+    assert_eq!(rt; first_wrong(rt.alloc(), &OF_PORTS_AND_PATHS)?, None);
+    assert_eq!(rt; first_wrong(rt.alloc(), &OF_THE_REST)?, None);
     Ok(())
 }
 

@@ -19,53 +19,54 @@ fn files(alloc: Global, all: &[(&str, &str)]) -> Result<List<(Text, Bytes)>, Mem
     Ok(made)
 }
 
-// Reads "hello", which is neither the first file nor the only one of its name.
+// Whether "hello" is read from the file of these bytes, which is neither the first nor the only one of its name.
 fn read_hello(
     alloc: Global,
     piece: usize,
     limit: u8,
     failing: &[u64],
-) -> Result<Result<Bytes, ReadError>, Memory>
+) -> Result<Result<bool, ReadError>, Memory>
     requires { 0 < piece }
 {
     let held = files(alloc, &[("a", "other"), ("b", "hello"), ("b", "second")])?;
     let mut inputs = MemoryInputs::new(held, piece, numbers(alloc, failing)?);
-    Ok(read_all(alloc, &mut inputs, "b", usize::from(limit)))
+    match read_all(alloc, &mut inputs, "b", usize::from(limit)) {
+        Ok(bytes) => Ok(Ok(bytes.as_slice() == b"hello".as_slice())),
+        Err(error) => Ok(Err(error)),
+    }
 }
+
+// The bytes a read gives, the limit, the calls that fail, and what comes of the file.
+const HELLO: [(usize, u8, &[u64], Result<bool, ReadError>); 16] = [
+    (1, 5, &[], Ok(true)),
+    (3, 5, &[], Ok(true)),
+    (5, 5, &[], Ok(true)),
+    (9, 200, &[], Ok(true)),
+    (1, 4, &[], Err(ReadError::TooLong)),
+    (3, 4, &[], Err(ReadError::TooLong)),
+    (9, 0, &[], Err(ReadError::TooLong)),
+    // A start and six reads, of which the last finds the end.
+    (1, 5, &[0], Err(ReadError::Fault)),
+    (1, 5, &[3], Err(ReadError::Fault)),
+    (1, 5, &[6], Err(ReadError::Fault)),
+    (1, 5, &[7], Ok(true)),
+    // A start and three reads.
+    (3, 5, &[3], Err(ReadError::Fault)),
+    (3, 5, &[4], Ok(true)),
+    // A start and three reads of a byte, one past the limit.
+    (1, 2, &[3], Err(ReadError::Fault)),
+    (1, 2, &[4], Err(ReadError::TooLong)),
+    (3, 2, &[2], Err(ReadError::TooLong)),
+];
 
 #[test]
 fn whole_files_at_and_past_the_limit(rt: HostRuntime) -> Result<(), Fail> {
-    let alloc = rt.alloc();
-    // The bytes a read gives, the limit, the calls that fail, and why the file "hello" isn't read.
-    let rows: [(usize, u8, &[u64], Option<ReadError>); 16] = [
-        (1, 5, &[], None),
-        (3, 5, &[], None),
-        (5, 5, &[], None),
-        (9, 200, &[], None),
-        (1, 4, &[], Some(ReadError::TooLong)),
-        (3, 4, &[], Some(ReadError::TooLong)),
-        (9, 0, &[], Some(ReadError::TooLong)),
-        // A start and six reads, of which the last finds the end.
-        (1, 5, &[0], Some(ReadError::Fault)),
-        (1, 5, &[3], Some(ReadError::Fault)),
-        (1, 5, &[6], Some(ReadError::Fault)),
-        (1, 5, &[7], None),
-        // A start and three reads.
-        (3, 5, &[3], Some(ReadError::Fault)),
-        (3, 5, &[4], None),
-        // A start and three reads of a byte, one past the limit.
-        (1, 2, &[3], Some(ReadError::Fault)),
-        (1, 2, &[4], Some(ReadError::TooLong)),
-        (3, 2, &[2], Some(ReadError::TooLong)),
-    ];
-    let hello = Bytes::new(alloc, b"hello")?;
-    for (piece, limit, failing, error) in rows {
+    for (piece, limit, failing, wanted) in HELLO {
         assert!(rt; 0 < piece);
-        let got = read_hello(alloc, piece, limit, failing)?;
-        assert_eq!(rt; got.as_ref().ok(), error.is_none().then_some(&hello));
+        let found = read_hello(rt.alloc(), piece, limit, failing)?;
         assert_eq!(rt;
-            got.err(),
-            error,
+            found,
+            wanted,
             "pieces of {piece}, limit {limit}, calls {failing:?}"
         );
     }
