@@ -48,14 +48,15 @@ pub fn a_nonce_allows_whatever_the_list_says()
 
 /// After a redirect no path is compared: neither the expression's nor the URL's makes a difference.
 pub fn a_redirect_drops_the_path()
-    ensures expression { (scheme : Option (Items ℕ)) (host : HostPart) (port : PortPart) (first second : PathPart)
-        (self : Origin) (there : UrlValue)
+    ensures expression { (scheme : Option (Items ℕ)) (host : HostPart) (port : PortPart)
+        (first second : PathPart) (self : Origin) (there : UrlValue)
         → matches (source.Hosted scheme host port first) self there true
         ≡ matches (source.Hosted scheme host port second) self there true }
     ensures url { (p : PolicyValue) (kind : GroupValue) (scheme : Scheme) (host : Host) (port : Option ℕ)
         (first second : Items (Items ℕ)) (redirects : ℕ) (nonce : Items ℕ) (integrity : Items HashValue)
         (parser_inserted : Bool) → IsTrue (is_redirected redirects)
-        → spec.fetch_allows p kind (url.Hosted scheme host port first) redirects nonce integrity parser_inserted
+        → spec.fetch_allows p kind (url.Hosted scheme host port first) redirects nonce integrity
+        parser_inserted
         ≡ spec.fetch_allows p kind (url.Hosted scheme host port second) redirects nonce integrity
         parser_inserted }
 {}

@@ -57,7 +57,8 @@ fn json_of(alloc: Global, bytes: &[u8]) -> Result<Option<Value>, Memory>
 // What stands for the URL in an array of one image's fetch.
 fn only_image(value: &Value) -> Option<&Value>
     ensures { option_map (λ v. view v.now) result
-        ≡ option_and_then requests.image_value (option_and_then requests.only_item (as_array (view value.now))) }
+        ≡ option_and_then requests.image_value
+        (option_and_then requests.only_item (as_array (view value.now))) }
 {
     match only_item(value) {
         None => None,
@@ -66,7 +67,8 @@ fn only_image(value: &Value) -> Option<&Value>
 }
 
 fn only_item(value: &Value) -> Option<&Value>
-    ensures { option_map (λ v. view v.now) result ≡ option_and_then requests.only_item (as_array (view value.now)) }
+    ensures { option_map (λ v. view v.now) result
+        ≡ option_and_then requests.only_item (as_array (view value.now)) }
 {
     match value.as_array() {
         None => None,
@@ -155,7 +157,8 @@ fn required_text<'v>(value: &'v Value, name: &str) -> Option<&'v str>
 }
 
 fn text_or_absent(value: Option<&Value>) -> Option<Option<&str>>
-    ensures { option_map option_copied result ≡ requests.text_or_absent (option_map (λ v. view v.now) value.entry) }
+    ensures { option_map option_copied result
+        ≡ requests.text_or_absent (option_map (λ v. view v.now) value.entry) }
 {
     match value {
         None => Some(None),

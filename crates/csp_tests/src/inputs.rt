@@ -19,7 +19,8 @@ fn files(alloc: Global, all: &[(&str, &str)]) -> Result<List<(Text, Bytes)>, Mem
     Ok(made)
 }
 
-// Whether "hello" is read from the file of these bytes, which is neither the first nor the only one of its name.
+// Whether "hello" is read from the file of these bytes, which is neither the first nor the only
+// one of its name.
 fn read_hello(
     alloc: Global,
     piece: usize,

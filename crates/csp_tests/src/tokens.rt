@@ -75,8 +75,8 @@ fn digests_of_the_standard(rt: HostRuntime) -> Result<(), Fail> {
     Ok(())
 }
 
-// The base64 of the SHA-256 digest of no bytes in either alphabet, and with its padding left out; and the base64 of 48
-// zeros.
+// The base64 of the SHA-256 digest of no bytes in either alphabet, and with its padding left out;
+// and the base64 of 48 zeros.
 #[test]
 fn hashes_that_stand_for_digests(rt: HostRuntime) -> Result<(), Fail> {
     let empty = digests(b"");
