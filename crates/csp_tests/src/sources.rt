@@ -70,37 +70,39 @@ fn tokens(rt: HostRuntime) -> Result<(), Fail> {
     Ok(())
 }
 
+const OF_NO_KIND: [&str; 24] = [
+    "",
+    "'none'",
+    "'NONE'",
+    "'nonce-'",
+    "'sha256-='",
+    "https://",
+    "*.",
+    "a..b",
+    "//x",
+    "a/%2",
+    "a:b",
+    "a//x",
+    "'nonce-a===",
+    "'nonce-a==='",
+    "a/x;y",
+    "a/x,y",
+    "a?x",
+    "1a:",
+    "'self",
+    "*a",
+    ".a",
+    "a:80:80",
+    "'sha1-abc'",
+    "a b",
+];
+
 #[test]
 fn tokens_of_no_kind(rt: HostRuntime) -> Result<(), Fail> {
-    for token in [
-        "",
-        "'none'",
-        "'NONE'",
-        "'nonce-'",
-        "'sha256-='",
-        "https://",
-        "*.",
-        "a..b",
-        "//x",
-        "a/%2",
-        "a:b",
-        "a//x",
-        "'nonce-a===",
-        "'nonce-a==='",
-        "a/x;y",
-        "a/x,y",
-        "a?x",
-        "1a:",
-        "'self",
-        "*a",
-        ".a",
-        "a:80:80",
-        "'sha1-abc'",
-        "a b",
-    ] {
+    for token in OF_NO_KIND {
         let (found, printed) = told(&rt, token)?;
-        assert_eq!(rt; found, "none", "{token}");
-        assert_eq!(rt; printed.as_str(), token);
+        let printed = printed.as_str();
+        assert!(rt; found == "none" && printed == token, "{printed}");
     }
     Ok(())
 }
