@@ -75,7 +75,7 @@ checks_have (shape.Base scheme) part = is_url_part scheme part
 checks_have (shape.Ancestor scheme) part = is_url_part scheme part
 checks_have (shape.Inline kind) Nonce = true
 checks_have (shape.Inline kind) (Digest algorithm) = true
-checks_have other part = false
+checks_have other _ = false
 
 -- the shape looks at the part: no answer on its checks depends on another
 abbrev pub looks_at : Shape → CheckPart → Bool
