@@ -59,7 +59,7 @@ fn read_directive(
 }
 
 // The name of a piece's directive, and the text behind it. None where the piece has no word, or a byte
-// outside ASCII.
+// outside ASCII. An empty piece is passed at once: a file may hold nothing else.
 #[tactic(auto, unfolding(csp_model::specs::Policies::directive_of))]
 fn split_name(piece: &[u8]) -> Option<(&[u8], &[u8])>
     ensures directive { MatchOption result (spec.directive_of piece.now ≡ None)
@@ -67,7 +67,7 @@ fn split_name(piece: &[u8]) -> Option<(&[u8], &[u8])>
     ensures ascii_name { IfSome result (λ found. is_ascii_text found.0.now ≡ true) }
     ensures ascii_text { IfSome result (λ found. is_ascii_text found.1.now ≡ true) }
 {
-    if is_ascii_text(piece) {
+    if !piece.is_empty() && is_ascii_text(piece) {
         next_word(piece)
     } else {
         None
