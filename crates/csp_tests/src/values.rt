@@ -11,14 +11,14 @@ use std::alloc::Global;
 use std::process::Abort;
 use std::test::Fail;
 
-pub fn numbers(alloc: Global, all: &[u64]) -> Result<List<u64>, Memory> {
+pub(crate) fn numbers(alloc: Global, all: &[u64]) -> Result<List<u64>, Memory> {
     Ok(List::from_vec(Vec::from_slice(alloc, all)?))
 }
 
 // A front, a part so many times, and an end.
-pub type Long<'a> = (&'a str, &'a str, u32, &'a str);
+pub(crate) type Long<'a> = (&'a str, &'a str, u32, &'a str);
 
-pub fn long(alloc: Global, (front, part, count, end): Long<'_>) -> Result<String, Memory> {
+pub(crate) fn long(alloc: Global, (front, part, count, end): Long<'_>) -> Result<String, Memory> {
     let mut text = String::from_str(alloc, front)?;
     for _ in 0..count {
         text.push_str(part)?;
@@ -27,15 +27,18 @@ pub fn long(alloc: Global, (front, part, count, end): Long<'_>) -> Result<String
     Ok(text)
 }
 
-/// The source of a token, which has to be ASCII.
-pub fn source(rt: &(impl Abort + AllocGlobal), token: &str) -> Result<Source, Memory> {
+// The source of a token, which has to be ASCII.
+pub(crate) fn source(rt: &(impl Abort + AllocGlobal), token: &str) -> Result<Source, Memory> {
     let bytes = token.as_bytes();
     assert!(rt; is_ascii_text(bytes), "{token}");
     read_source(rt.alloc(), bytes)
 }
 
-/// The sources of the tokens between spaces.
-pub fn sources(rt: &(impl Abort + AllocGlobal), value: &str) -> Result<List<Source>, Memory> {
+// The sources of the tokens between spaces.
+pub(crate) fn sources(
+    rt: &(impl Abort + AllocGlobal),
+    value: &str,
+) -> Result<List<Source>, Memory> {
     let mut made = List::new(rt.alloc());
     for token in value.split(' ') {
         made.push(source(rt, token)?)?;
@@ -43,8 +46,11 @@ pub fn sources(rt: &(impl Abort + AllocGlobal), value: &str) -> Result<List<Sour
     Ok(made)
 }
 
-/// The policies of a header block, of the origin `https://a.example`.
-pub fn policies(rt: &(impl Abort + AllocGlobal), block: &str) -> Result<PolicyList, BlockError> {
+// The policies of a header block, of the origin `https://a.example`.
+pub(crate) fn policies(
+    rt: &(impl Abort + AllocGlobal),
+    block: &str,
+) -> Result<PolicyList, BlockError> {
     let bytes = block.as_bytes();
     assert!(rt; bytes.len() < 4_000_000_000);
     match read_origin(rt.alloc(), "https://a.example") {
@@ -53,29 +59,29 @@ pub fn policies(rt: &(impl Abort + AllocGlobal), block: &str) -> Result<PolicyLi
     }
 }
 
-/// The policy of a header's value, the last one where there are several.
-pub fn policy(rt: &(impl Abort + AllocGlobal), value: &str) -> Result<Policy, Fail> {
+// The policy of a header's value, the last one where there are several.
+pub(crate) fn policy(rt: &(impl Abort + AllocGlobal), value: &str) -> Result<Policy, Fail> {
     let block = format!(in rt.alloc(); "Content-Security-Policy: {value}")?;
     let mut list = policies(rt, block.as_str())?;
     Ok(list.policies.pop().ok_or("no policy")?)
 }
 
-pub fn hash(alloc: Global, algorithm: Algorithm, value: &str) -> Result<Hash, Memory> {
+pub(crate) fn hash(alloc: Global, algorithm: Algorithm, value: &str) -> Result<Hash, Memory> {
     Ok(Hash {
         algorithm,
         value: Text::new(alloc, value)?,
     })
 }
 
-pub fn are_hashes(hashes: &List<Hash>, wanted: &[(Algorithm, &str)]) -> bool {
+pub(crate) fn are_hashes(hashes: &List<Hash>, wanted: &[(Algorithm, &str)]) -> bool {
     hashes.len() == wanted.len()
         && hashes.as_slice().iter().zip(wanted).all(|(hash, (algorithm, value))| {
             hash.algorithm == *algorithm && hash.value.as_str() == *value
         })
 }
 
-/// A fetch with the nonce `abc` and with two pairs of integrity metadata.
-pub fn fetch(
+// A fetch with the nonce `abc` and with two pairs of integrity metadata.
+pub(crate) fn fetch(
     alloc: Global,
     group: Group,
     url: &str,
@@ -92,8 +98,8 @@ pub fn fetch(
     })
 }
 
-/// Inline style with the nonce `abc`, whose digests are ones.
-pub fn inline_style(alloc: Global) -> Result<Check, Memory> {
+// Inline style with the nonce `abc`, whose digests are ones.
+pub(crate) fn inline_style(alloc: Global) -> Result<Check, Memory> {
     Ok(Check::Inline {
         kind: InlineKind::Style,
         nonce: Text::new(alloc, "abc")?,
@@ -105,6 +111,9 @@ pub fn inline_style(alloc: Global) -> Result<Check, Memory> {
     })
 }
 
-pub fn is_copied<T: Duplicate + PartialEq>(alloc: Global, value: &T) -> Result<bool, Memory> {
+pub(crate) fn is_copied<T: Duplicate + PartialEq>(
+    alloc: Global,
+    value: &T,
+) -> Result<bool, Memory> {
     Ok(value.copy(alloc)? == *value)
 }
