@@ -7,10 +7,10 @@ use Rattle.std.proofs.lemmas.Bool.{not-true}
 use Rattle.std.proofs.lemmas.Bool.Decides.{Decides-eqb, Decides-not}
 use Rattle.std.proofs.lemmas.Slice.Eq.{bytes_eq-Decides}
 use Rattle.csp_model.specs.DecideMatching.{is_domain_host, path_matches}
-use Rattle.csp_model.specs.Ends.{is_host_under}
+use Rattle.csp_model.specs.DecideEnds.{is_host_under}
 use Rattle.csp_model.specs.Matching.{IsDomainHost, IsHostUnder, PathMatches}
 use Rattle.csp_model.specs.Parts.{checked_url, checked_nonce, checked_integrity, checked_digests}
-use Rattle.csp_model.specs.Same.{same_host, same_hash}
+use Rattle.csp_model.specs.DecideEquality.{same_host, same_hash}
 use Rattle.csp_model.specs.Schemes.{default_port}
 use Rattle.csp_model.specs.Tokens.{digest_by, algorithm_of, bytes_of}
 use Rattle.csp_model.specs.declared.check.Check.{Check}
@@ -24,7 +24,7 @@ use Rattle.csp_model.specs.declared.url.Url.{Url}
 use Rattle.csp_model.specs.declared.url.Url.TheVariants as url
 use Rattle.csp_model.proofs.Deciding.{no, any_decides, has_decides}
 use Rattle.csp_model.proofs.MatchingDecided.{domain_host_decides, host_under_decides, path_decides}
-use Rattle.csp_model.proofs.SameLaws.{same_host_decides, same_hash_decides}
+use Rattle.csp_model.proofs.EqualityDecided.{same_host_decides, same_hash_decides}
 use Rattle.csp_atom.specs.Atoms.{OnHosted, OnPlain, HasDigest, HasOther, Holds}
 use Rattle.csp_atom.specs.Holding.{on_hosted, on_plain, on_part, has_digest, has_hash, has_other, holds, is_true_of}
 use Rattle.csp_atom.specs.declared.atom.Atom.{Atom}

@@ -5,9 +5,9 @@ use Rattle.std.proofs.lemmas.Bool.Decides.{Decides-eqb}
 use Rattle.std.proofs.lemmas.List.{append-nil}
 use Rattle.std.proofs.lemmas.Slice.Eq.{bytes_eq-Decides}
 use Rattle.csp_model.proofs.EndLaws.{begins_Decides}
-use Rattle.csp_model.proofs.SameLaws.{same_host_decides, same_hash_decides}
-use Rattle.csp_model.specs.Ends.{begins_with}
-use Rattle.csp_model.specs.Same.{same_host, same_hash}
+use Rattle.csp_model.proofs.EqualityDecided.{same_host_decides, same_hash_decides}
+use Rattle.csp_model.specs.DecideEnds.{begins_with}
+use Rattle.csp_model.specs.DecideEquality.{same_host, same_hash}
 use Rattle.csp_model.specs.declared.check.Digest.TheVariants.{Sha256, Sha384, Sha512}
 use Rattle.csp_model.specs.declared.source.Hash.{Hash}
 use Rattle.csp_model.specs.declared.url.Host.{Host}

@@ -5,9 +5,9 @@ use Rattle.std.specs.Str.{bytes_eq}
 use Rattle.std.proofs.lemmas.Bool.Decides.{Decides-eqb, same_from_decides}
 use Rattle.std.proofs.lemmas.Slice.Eq.{bytes_eq-Decides}
 use Rattle.csp_model.specs.DecideMatching.{is_domain_host}
-use Rattle.csp_model.specs.Ends.{is_host_under, begins_with, goes_beyond}
-use Rattle.csp_model.specs.Same.{same_host, same_hash}
-use Rattle.csp_model.proofs.SameLaws.{same_host_decides, same_hash_decides}
+use Rattle.csp_model.specs.DecideEnds.{is_host_under, begins_with, goes_beyond}
+use Rattle.csp_model.specs.DecideEquality.{same_host, same_hash}
+use Rattle.csp_model.proofs.EqualityDecided.{same_host_decides, same_hash_decides}
 use Rattle.csp_model.specs.declared.check.Digest.TheVariants.{Sha256, Sha384, Sha512}
 use Rattle.csp_atom.specs.Follows.{lies_within, same_path, true_where, false_where, nested, follows_true, follows_false, Refutes}
 use Rattle.csp_atom.specs.declared.atom.Atom.{Atom}

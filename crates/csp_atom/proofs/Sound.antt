@@ -4,8 +4,8 @@ use Rattle.std.specs.Str.{bytes_eq}
 use Rattle.std.proofs.lemmas.Bool.Decides.{Decides-eqb, Decides-like}
 use Rattle.std.proofs.lemmas.Slice.Eq.{bytes_eq-Decides}
 use Rattle.csp_model.specs.DecideMatching.{is_domain_host}
-use Rattle.csp_model.specs.Ends.{is_host_under, begins_with, goes_beyond}
-use Rattle.csp_model.specs.Same.{same_host, same_hash}
+use Rattle.csp_model.specs.DecideEnds.{is_host_under, begins_with, goes_beyond}
+use Rattle.csp_model.specs.DecideEquality.{same_host, same_hash}
 use Rattle.csp_model.specs.Matching.{IsDomainHost, IsHostUnder, PathMatches}
 use Rattle.csp_model.specs.Parts.{checked_url, checked_nonce, checked_integrity, checked_digests}
 use Rattle.csp_model.specs.declared.check.Check.{Check}
@@ -21,7 +21,7 @@ use Rattle.csp_model.specs.declared.url.Url.TheVariants as url
 use Rattle.csp_model.proofs.EndLaws.{begins_Decides, beyond_Decides}
 use Rattle.csp_model.proofs.Deciding.{fails}
 use Rattle.csp_model.proofs.MatchingDecided.{domain_host_decides, host_under_decides}
-use Rattle.csp_model.proofs.SameLaws.{same_host_decides, same_hash_decides}
+use Rattle.csp_model.proofs.EqualityDecided.{same_host_decides, same_hash_decides}
 use Rattle.csp_atom.specs.Atoms.{OnHosted, OnPlain, HasDigest, Holds}
 use Rattle.csp_atom.specs.Follows.{lies_within, same_path, true_where, false_where, nested, same_digest, follows_true, follows_false, follows}
 use Rattle.csp_atom.specs.Holding.{holds, is_true_of}

@@ -1,6 +1,6 @@
 -- Two ends of one list are nested, and so are two fronts: so are the domains under two suffixes, and the paths beyond two fronts.
 use Rattle.std.proofs.Common.{◌≡◌, ◌≢◌, ℕ, List, [], ◌∷◌, ◌++◌, refl, sym, ap, ◌∙◌, append_assoc, ◌⊎◌, inl, inr}
-use Rattle.csp_model.specs.Bytes.{dot}
+use Rattle.csp_model.specs.Ascii.{code}
 use Rattle.csp_model.specs.Matching.{IsDomainHost, IsHostUnder, PathMatches}
 use Rattle.csp_model.specs.declared.source.PathPart.TheVariants.{Prefix}
 use Rattle.csp_model.specs.declared.url.Host.{Host}
@@ -31,12 +31,12 @@ module _ {X : Type 0} where
 -- what lies under a suffix lies under those that the suffix lies within
 pub under_through : (inner outer : List ℕ) (host : Host) → IsWithin inner outer → IsHostUnder host inner → IsHostUnder host outer
 under_through inner outer (Domain text) (front, within) (start, under) =
-    (start ++ front, under ∙ ap (λ tail. start ++ tail) within ∙ sym (append_assoc start front (dot ∷ outer)))
+    (start ++ front, under ∙ ap (λ tail. start ++ tail) within ∙ sym (append_assoc start front (code "." ∷ outer)))
 under_through inner outer (Address text) within under = under
 
 -- a host lies under two suffixes only where one of them lies within the other
 pub under_both : (s t : List ℕ) (host : Host) → IsHostUnder host s → IsHostUnder host t → IsWithin s t ⊎ IsWithin t s
-under_both s t (Domain text) (f, first) (g, second) = ends_nest f g (dot ∷ s) (dot ∷ t) (sym first ∙ second)
+under_both s t (Domain text) (f, first) (g, second) = ends_nest f g (code "." ∷ s) (code "." ∷ t) (sym first ∙ second)
 under_both s t (Address text) first second = absurd first
 
 pub under_is_domain : (suffix : List ℕ) (host : Host) → IsHostUnder host suffix → IsDomainHost host

@@ -1,7 +1,7 @@
 -- A valid host is spelled by a word, and no other valid host by the same.
 use Rattle.std.proofs.Common.{arith, nat_lt, ◌≡◌, ◌∙◌, sym, ap, subst, refl, ℕ, ◌<◌, Bool, true, false, ◌&&◌, ◌||◌, ◌==◌, not, List, [], ◌∷◌, length, All, inl, inr}
-use Rattle.std.specs.Prelude.{slice_index, if◌then◌else◌}
-use Rattle.std.specs.List.{list_all, join_with_byte, onto_first}
+use Rattle.std.specs.Prelude.{slice_index, if◌then◌else◌, None, unwrap_or}
+use Rattle.std.specs.List.{last_or, list_all, join_with_byte, onto_first}
 use Rattle.std.specs.Char.{is_ascii_digit}
 use Rattle.std.proofs.lemmas.Bool.{and_parts, cond-false, false_from_ne_true, not-true, or_cases, or_left, both_ways, eqb-true, ltb-true, false≢true}
 use Rattle.std.proofs.lemmas.Bool.Decides.{nat_tests}
@@ -10,7 +10,7 @@ use Rattle.std.proofs.lemmas.List.Splits.{join_with_byte-slice_split}
 use Rattle.csp_model.proofs.FinalBytes.{ends_in-cons, one_byte}
 use Rattle.csp_model.specs.Ascii.{is_nonempty, ends_in, without_last, without_final, split_at}
 use Rattle.csp_model.specs.Grammar.{are_digits, decimal_value}
-use Rattle.csp_model.specs.Validity.{is_domain_byte, is_domain, last_part, ends_in_number, is_octet, is_four_numbers, is_group_char, is_bracketed, is_address, IsValidHost}
+use Rattle.csp_model.specs.Validity.{is_domain_byte, is_domain, ends_in_number, is_octet, is_four_numbers, is_group_char, is_bracketed, is_address, IsValidHost}
 use Rattle.csp_model.specs.declared.url.Host.{Host}
 use Rattle.csp_model.specs.declared.url.Host.TheVariants.{Domain, Address}
 use Rattle.csp_model.specs.Paths.{host_text}
@@ -101,6 +101,9 @@ host_word (Domain text) valid = domain_word text valid
 host_word (Address text) valid = address_word text valid
 
 -- No domain is an address
+
+abbrev last_part : List (List ℕ) → List ℕ
+last_part parts = unwrap_or (last_or None parts) []
 
 last_octet : (parts : List (List ℕ)) → 0 < length parts → list_all is_octet parts ≡ true → are_digits (last_part parts) ≡ true
 last_octet [] some h = absurd (omega arith)

@@ -4,10 +4,10 @@ use Rattle.std.specs.List.{filter}
 use Rattle.std.proofs.lemmas.Bool.{false≢true}
 use Rattle.std.proofs.lemmas.List.Elements.{Contains-get_or}
 use Rattle.std.proofs.lemmas.List.Quantifiers.{all_pairs_push}
-use Rattle.csp_model.specs.Same.{same_hash}
+use Rattle.csp_model.specs.DecideEquality.{same_hash}
 use Rattle.csp_model.specs.declared.source.Hash.{Hash}
 use Rattle.csp_model.proofs.FirstOfEach.{first_of_each, has_key-first_of_each, first_known, first_new}
-use Rattle.csp_model.proofs.SameLaws.{same_hash_decides}
+use Rattle.csp_model.proofs.EqualityDecided.{same_hash_decides}
 use Rattle.csp_atom.specs.Holding.{has_hash}
 use Rattle.csp_atom.specs.Vocabulary.{distinct}
 use Rattle.csp_atom.proofs.HoldingDecided.{has_hash_decides}

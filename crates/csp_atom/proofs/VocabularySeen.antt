@@ -5,7 +5,7 @@ use Rattle.std.specs.Ordering.{is_eq}
 use Rattle.std.specs.BTreeSet.{BTreeSet, contains_by}
 use Rattle.std.proofs.lemmas.Map.Text.{is_eq-slice_cmp}
 use Rattle.csp_model.specs.contracts.source.HashOrd.TheImpl as order
-use Rattle.csp_model.specs.Same.{same_hash}
+use Rattle.csp_model.specs.DecideEquality.{same_hash}
 use Rattle.csp_model.specs.declared.source.Algorithm.{Algorithm}
 use Rattle.csp_model.specs.declared.source.Algorithm.TheVariants.{Sha256, Sha384, Sha512}
 use Rattle.csp_model.specs.declared.source.Hash.{Hash}

@@ -3,10 +3,10 @@
 use Rattle.std.specs.Prelude.{◌≡◌, ℕ, ◌==◌, Bool, true, false, not, List, ◌∷◌, Option, Some, None, if◌then◌else◌}
 use Rattle.std.specs.Str.{bytes_eq}
 use Rattle.std.specs.Cmp.Lexicographic.{pointwise}
-use Rattle.csp_model.specs.Bytes.{dot}
+use Rattle.csp_model.specs.Ascii.{code}
 use Rattle.csp_model.specs.DecideMatching.{is_domain_host}
-use Rattle.csp_model.specs.Ends.{is_subdomain, is_host_under, begins_with, goes_beyond}
-use Rattle.csp_model.specs.Same.{same_host, same_hash}
+use Rattle.csp_model.specs.DecideEnds.{is_subdomain, is_host_under, begins_with, goes_beyond}
+use Rattle.csp_model.specs.DecideEquality.{same_host, same_hash}
 use Rattle.csp_model.specs.declared.check.Digest.{Digest}
 use Rattle.csp_model.specs.declared.check.Digest.TheVariants.{Sha256, Sha384, Sha512}
 use Rattle.csp_atom.specs.declared.atom.Atom.{Atom}
@@ -17,7 +17,7 @@ use Rattle.csp_atom.specs.declared.atom.Literal.{Literal}
 
 -- the domain is the suffix, or lies under it: with "." before it, it ends in "." and the suffix
 abbrev pub lies_within : List ℕ → List ℕ → Bool
-lies_within domain suffix = is_subdomain (dot ∷ domain) suffix
+lies_within domain suffix = is_subdomain (code "." ∷ domain) suffix
 
 abbrev pub same_path : List (List ℕ) → List (List ℕ) → Bool
 same_path p q = pointwise bytes_eq p q

@@ -4,9 +4,9 @@ use Rattle.std.specs.Prelude.{ℕ, ◌==◌, Bool, false, not, if◌then◌else�
 use Rattle.std.specs.List.{list_any}
 use Rattle.std.specs.Str.{bytes_eq}
 use Rattle.csp_model.specs.DecideMatching.{is_domain_host, path_matches}
-use Rattle.csp_model.specs.Ends.{is_host_under}
+use Rattle.csp_model.specs.DecideEnds.{is_host_under}
 use Rattle.csp_model.specs.Parts.{checked_url, checked_nonce, checked_integrity, checked_digests}
-use Rattle.csp_model.specs.Same.{same_host, same_hash}
+use Rattle.csp_model.specs.DecideEquality.{same_host, same_hash}
 use Rattle.csp_model.specs.Schemes.{default_port}
 use Rattle.csp_model.specs.Tokens.{digest_by, algorithm_of, bytes_of}
 use Rattle.csp_model.specs.declared.check.Check.{Check}

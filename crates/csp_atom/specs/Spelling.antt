@@ -2,8 +2,7 @@
 use Rattle.std.specs.Prelude.{ℕ, ◌&&◌, Bool, List, [], ◌∷◌, decimal, codes, nat_lt}
 use Rattle.std.specs.List.{list_all}
 use Rattle.hex.specs.Hex.{encode_lower}
-use Rattle.csp_model.specs.Ascii.{is_nonempty}
-use Rattle.csp_model.specs.Bytes.{space, delete}
+use Rattle.csp_model.specs.Ascii.{code, is_nonempty}
 use Rattle.csp_model.specs.Grammar.{algorithm_text}
 use Rattle.csp_model.specs.Paths.{host_text, path_text}
 use Rattle.csp_model.specs.Tokens.{algorithm_of, bytes_of}
@@ -27,7 +26,7 @@ spelled (DigestIs digest) =
 
 -- one or more visible ASCII characters
 abbrev pub is_visible : ℕ → Bool
-is_visible c = nat_lt space c && nat_lt c delete
+is_visible c = nat_lt (code " ") c && nat_lt c (code "\u{7f}")
 
 abbrev pub is_word : List ℕ → Bool
 is_word text = is_nonempty text && list_all is_visible text

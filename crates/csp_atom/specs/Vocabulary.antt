@@ -1,7 +1,7 @@
 -- The hashes that two lists of policies speak of, each once.
 use Rattle.std.specs.Prelude.{not, List, [], ◌∷◌, ◌++◌, filter, Option, Some, None}
 use Rattle.std.specs.List.{filter_map, flat_map}
-use Rattle.csp_model.specs.Same.{same_hash}
+use Rattle.csp_model.specs.DecideEquality.{same_hash}
 use Rattle.csp_model.specs.declared.policy.Directive.{Directive}
 use Rattle.csp_model.specs.declared.policy.Policy.{Policy}
 use Rattle.csp_model.specs.declared.policy.PolicyList.{PolicyList}

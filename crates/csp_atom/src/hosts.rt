@@ -1,7 +1,7 @@
 //! Tests of hosts and of suffixes, each in one pass.
 ghost use Rattle.std.specs.Prelude.{◌≡◌};
 ghost use Rattle.csp_model.specs.DecideMatching as matching;
-ghost use Rattle.csp_model.specs.Ends as ends;
+ghost use Rattle.csp_model.specs.DecideEnds as ends;
 ghost use Rattle.csp_atom.specs.Follows as spec;
 
 use csp_model::{Host, is_subdomain};

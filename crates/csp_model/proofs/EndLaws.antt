@@ -4,14 +4,14 @@ use Rattle.std.specs.Bool.{Decides}
 use Rattle.std.proofs.lemmas.Slice.Eq.{starts_is, ends_is, bytes_eq-Decides}
 use Rattle.std.proofs.lemmas.Bool.Decides.{Decides-eqb, Decides-ltb, Decides-and, Decides-like}
 use Rattle.std.specs.List.{ends_with}
-use Rattle.csp_model.specs.Bytes.{dot}
-use Rattle.csp_model.specs.Ends.{is_subdomain, begins_with, goes_beyond}
+use Rattle.csp_model.specs.Ascii.{code}
+use Rattle.csp_model.specs.DecideEnds.{is_subdomain, begins_with, goes_beyond}
 
 pub ends_Decides : (text tail : List ℕ) → Decides (ends_with nat_eq text tail) ((front : List ℕ) × (text ≡ front ++ tail))
 ends_Decides text tail = let t = ends_is Decides-eqb text tail (ends_with nat_eq text tail) refl in (λ e. (take (length text - length tail) text, t.0 e), λ h. t.1 h.0 h.1)
 
-pub subdomain_Decides : (domain suffix : List ℕ) → Decides (is_subdomain domain suffix) ((front : List ℕ) × (domain ≡ front ++ dot ∷ suffix))
-subdomain_Decides domain suffix = ends_Decides domain (dot ∷ suffix)
+pub subdomain_Decides : (domain suffix : List ℕ) → Decides (is_subdomain domain suffix) ((front : List ℕ) × (domain ≡ front ++ code "." ∷ suffix))
+subdomain_Decides domain suffix = ends_Decides domain (code "." ∷ suffix)
 
 pub begins_Decides : (path front : List (List ℕ)) → Decides (begins_with path front) ((rest : List (List ℕ)) × (path ≡ front ++ rest))
 begins_Decides path front = let t = starts_is bytes_eq-Decides path front (begins_with path front) refl in (λ e. (drop (length front) path, t.0 e), λ h. t.1 h.0 h.1)

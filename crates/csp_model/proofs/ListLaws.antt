@@ -7,7 +7,6 @@ use Rattle.std.proofs.lemmas.Bool.{and_parts}
 use Rattle.std.proofs.lemmas.List.Elements.{All-head, All-tail}
 use Rattle.csp_model.specs.Inclusion.{Subsumes}
 use Rattle.csp_model.specs.Validity.{IsValidCheck}
-use Rattle.csp_model.specs.Laws.{joined, AllowSame}
 use Rattle.csp_model.specs.DecideVerdict.{allows}
 use Rattle.csp_model.specs.Verdict.{is_enforce, list_allows, allows_all}
 use Rattle.csp_model.proofs.Deciding.{all_decides, itself, same_bool}
@@ -21,15 +20,15 @@ abbrev enforced_allows : Check → Policy → Bool
 enforced_allows asked p = not (is_enforce p.disposition) || allows p asked
 
 pub joined_allows : (first second : PolicyList) (asked : Check)
-    → list_allows (joined first second) asked ≡ (list_allows first asked && list_allows second asked)
+    → list_allows (record { policies = first.policies ++ second.policies }) asked ≡ (list_allows first asked && list_allows second asked)
 joined_allows first second asked = list_all-append (enforced_allows asked) first.policies second.policies
 
 report_allows : (asked : Check) (p : Policy) → p.disposition ≡ Report → enforced_allows asked p ≡ true
 report_allows asked p report = ap (λ (d : Disposition). not (is_enforce d) || allows p asked) report
 
-pub report_forbids_nothing : (front back : List Policy) (p : Policy) → p.disposition ≡ Report
-    → AllowSame (record { policies = front ++ p ∷ back }) (record { policies = front ++ back })
-report_forbids_nothing front back p report asked =
+pub report_forbids_nothing : (front back : List Policy) (p : Policy) (asked : Check) → p.disposition ≡ Report
+    → list_allows (record { policies = front ++ p ∷ back }) asked ≡ list_allows (record { policies = front ++ back }) asked
+report_forbids_nothing front back p asked report =
     let test = enforced_allows asked in
     list_all-append test front (p ∷ back)
     ∙ ap (λ (b : Bool). list_all test front && (b && list_all test back)) (report_allows asked p report)
@@ -42,8 +41,9 @@ shuffled_allows asked ps qs shuffled h =
     let decides = all_decides (enforced_allows asked) P (λ p. itself (enforced_allows asked p)) in
     (decides qs).1 (All-permutation P ps qs shuffled ((decides ps).0 h))
 
-pub order_is_free : (first second : PolicyList) → IsPermutation first.policies second.policies → AllowSame first second
-order_is_free first second shuffled asked =
+pub order_is_free : (first second : PolicyList) (asked : Check) → IsPermutation first.policies second.policies
+    → list_allows first asked ≡ list_allows second asked
+order_is_free first second asked shuffled =
     same_bool (list_allows first asked) (list_allows second asked)
     (shuffled_allows asked first.policies second.policies shuffled)
     (shuffled_allows asked second.policies first.policies (IsPermutation-sym first.policies second.policies shuffled))

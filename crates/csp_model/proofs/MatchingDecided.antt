@@ -1,5 +1,5 @@
 -- The tests of `DecideMatching` decide what `Matching` says.
-use Rattle.std.proofs.Common.{◌≡◌, ℕ, ◌&&◌, ◌||◌, Bool, List, Option, Some, None, Contains, refl, inl, inr}
+use Rattle.std.proofs.Common.{◌≡◌, ℕ, ◌&&◌, ◌||◌, Bool, List, Option, Some, None, Contains, refl, inl, inr, ◌⊎◌}
 use Rattle.std.specs.Prelude.{unwrap_or}
 use Rattle.std.specs.Bool.{Decides}
 use Rattle.std.specs.List.{list_any}
@@ -7,15 +7,15 @@ use Rattle.std.specs.Str.{bytes_eq}
 use Rattle.std.specs.Cmp.Lexicographic.{pointwise}
 use Rattle.std.proofs.lemmas.Bool.Decides.{Decides-and, Decides-or, Decides-eqb}
 use Rattle.std.proofs.lemmas.Slice.Eq.{bytes_eq-Decides, slice_eq-Decides}
-use Rattle.csp_model.specs.Ends.{is_host_under}
-use Rattle.csp_model.specs.Matching.{upgrades, SchemeMatches, url_scheme, IsDomainHost, IsHostUnder, HostMatches, PortMatches, PathMatches, SchemeOrOwn, SelfScheme, SelfMatches, HostSourceMatches, network_schemes, Matches, ListMatches}
+use Rattle.csp_model.specs.DecideEnds.{is_host_under}
+use Rattle.csp_model.specs.Matching.{upgrades, SchemeMatches, url_scheme, IsDomainHost, IsHostUnder, HostMatches, PortMatches, PathMatches, SchemeOrOwn, SelfMatches, HostSourceMatches, network_schemes, Matches, ListMatches}
 use Rattle.csp_model.specs.DecideMatching.{scheme_matches, is_domain_host, host_matches, port_matches, path_matches, own_scheme_matches, self_scheme_matches, self_matches, host_source_matches, matches, list_matches}
 use Rattle.csp_model.specs.Paths.{host_text}
-use Rattle.csp_model.specs.Same.{same_host, same_port, same_keyword}
+use Rattle.csp_model.specs.DecideEquality.{same_host, same_port, same_keyword}
 use Rattle.csp_model.specs.Schemes.{scheme_text, default_port}
 use Rattle.csp_model.proofs.Deciding.{no, yes, itself, both3, both4, any_decides, has_decides, none_decides}
 use Rattle.csp_model.proofs.EndLaws.{subdomain_Decides, beyond_Decides}
-use Rattle.csp_model.proofs.SameLaws.{same_host_decides, same_port_decides, same_keyword_decides}
+use Rattle.csp_model.proofs.EqualityDecided.{same_host_decides, same_port_decides, same_keyword_decides}
 use Rattle.csp_model.specs.declared.url.Scheme.{Scheme}
 use Rattle.csp_model.specs.declared.url.Scheme.TheVariants.{Http, Https, Ws, Wss, Ftp}
 use Rattle.csp_model.specs.declared.url.Host.{Host}
@@ -50,7 +50,10 @@ own_scheme_decides (Some part) self scheme = scheme_decides part scheme
 own_scheme_decides None (origin.Tuple own host port) scheme = scheme_decides (scheme_text own) scheme
 own_scheme_decides None origin.Opaque scheme = no (λ h. h)
 
-pub self_scheme_decides : (own scheme : Scheme) → Decides (self_scheme_matches own scheme) (SelfScheme own scheme)
+abbrev SelfScheme : Scheme → Scheme → Type 0
+SelfScheme own scheme = (own ≡ scheme) ⊎ ((scheme ≡ Https) ⊎ ((scheme ≡ Wss) ⊎ ((own ≡ Http) × (scheme ≡ Ws))))
+
+self_scheme_decides : (own scheme : Scheme) → Decides (self_scheme_matches own scheme) (SelfScheme own scheme)
 self_scheme_decides own Https = yes (inr (inl refl))
 self_scheme_decides own Wss = yes (inr (inr (inl refl)))
 self_scheme_decides Http Http = yes (inl refl)

@@ -8,11 +8,11 @@ use Rattle.std.proofs.lemmas.Slice.Eq.{bytes_eq-Decides}
 use Rattle.base64.specs.GeneralPurpose.{encode_of}
 use Rattle.base64.specs.Engines.{standard}
 use Rattle.csp_model.specs.Ascii.{is_nonempty}
-use Rattle.csp_model.specs.Same.{same_keyword, same_hash}
+use Rattle.csp_model.specs.DecideEquality.{same_keyword, same_hash}
 use Rattle.csp_model.specs.Tokens.{HasKeyword, NonceMatches, IntegrityMatches, HashMatches, digest_by, plain_value, IsHashOf, DigestsMatch}
 use Rattle.csp_model.specs.DecideTokens.{is_keyword, has_keyword, is_nonce, nonce_matches, is_hash, integrity_matches, hash_matches, is_hash_of, digests_match}
 use Rattle.csp_model.proofs.Deciding.{no, any_decides, all_decides, has_decides, nonempty_decides}
-use Rattle.csp_model.proofs.SameLaws.{same_keyword_decides, same_hash_decides}
+use Rattle.csp_model.proofs.EqualityDecided.{same_keyword_decides, same_hash_decides}
 use Rattle.csp_model.specs.declared.source.Hash.{Hash}
 use Rattle.csp_model.specs.declared.source.Keyword.{Keyword}
 use Rattle.csp_model.specs.declared.source.Source.{Source}

@@ -7,13 +7,22 @@ use Rattle.std.proofs.lemmas.Grind.{common_steps}
 use Rattle.std.proofs.lemmas.List.Folds.{list_any-append}
 use Rattle.csp_model.specs.Governing.{Governor, governor}
 use Rattle.csp_model.specs.DecideVerdict.{allows}
-use Rattle.csp_model.specs.Verdict.{list_allows, allows_all, effective_name, item_by, item_of, items_from, is_enforce, is_enforced, through_enforced, shown_items, items_of, judged_checks}
+use Rattle.csp_model.specs.Verdict.{list_allows, allows_all, effective_name, item_of, items_from, is_enforce, is_enforced, through_enforced, shown_items, items_of, judged_checks}
 use Rattle.csp_model.proofs.VerdictDecided.{ungoverned}
 use Rattle.csp_model.specs.declared.check.Check.{Check}
 use Rattle.csp_model.specs.declared.check.Check.TheVariants as check
 use Rattle.csp_model.specs.declared.policy.Policy.{Policy}
 use Rattle.csp_model.specs.declared.policy.PolicyList.{PolicyList}
 use Rattle.csp_model.specs.declared.verdict.Item.{Item}
+use Rattle.csp_model.specs.declared.verdict.Verdict.{Verdict}
+
+-- the item of the policy of this number by what governs
+abbrev pub item_by : ℕ → Policy → Check → Governor → Item
+item_by n p asked g = record { policy = n; disposition = p.disposition; effective = effective_name asked; governing = g.name }
+
+-- the verdict of these items
+abbrev pub verdict_with : List Item → Verdict
+verdict_with items = record { blocked = list_any is_enforced items; items = items }
 
 -- where a policy doesn't allow a check, the item is there
 refused_item : (n : ℕ) (p : Policy) (asked : Check) (o : Option Governor) → governor p (effective_name asked) ≡ o

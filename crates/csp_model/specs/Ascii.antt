@@ -1,7 +1,9 @@
--- Words on ASCII texts (Infra Standard, section 4.6).
+-- Words on bytes and ASCII texts (Infra Standard, section 4.6).
 use Rattle.std.specs.Prelude.{ℕ, ◌-◌, ◌==◌, Bool, List, [], ◌∷◌, length, map, filter, take, drop, nat_lt, nat_eq, if◌then◌else◌}
 use Rattle.std.specs.List.{slice_split, list_all, ends_with, prefix_len}
 use Rattle.std.specs.Char.{is_ascii_whitespace, to_ascii_lowercase}
+-- the byte of one character, as `code "."`
+pub use Prim.Native.Char.{code}
 
 -- the text in ASCII lower case
 abbrev pub lower : List ℕ → List ℕ

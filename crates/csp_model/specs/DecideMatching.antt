@@ -3,10 +3,10 @@ use Rattle.std.specs.Prelude.{ℕ, Bool, true, false, ◌&&◌, ◌||◌, ◌==�
 use Rattle.std.specs.List.{list_any}
 use Rattle.std.specs.Str.{bytes_eq}
 use Rattle.std.specs.Cmp.Lexicographic.{pointwise}
-use Rattle.csp_model.specs.Ends.{is_host_under, goes_beyond}
+use Rattle.csp_model.specs.DecideEnds.{is_host_under, goes_beyond}
 use Rattle.csp_model.specs.Matching.{upgrades, url_scheme, network_schemes}
 use Rattle.csp_model.specs.Paths.{host_text}
-use Rattle.csp_model.specs.Same.{same_host, same_port, same_keyword}
+use Rattle.csp_model.specs.DecideEquality.{same_host, same_port, same_keyword}
 use Rattle.csp_model.specs.Schemes.{scheme_text, default_port}
 use Rattle.csp_model.specs.declared.url.Scheme.{Scheme}
 use Rattle.csp_model.specs.declared.url.Scheme.TheVariants.{Http, Https, Ws, Wss, Ftp}

@@ -6,7 +6,7 @@ use Rattle.std.specs.Str.{bytes_eq}
 use Rattle.base64.specs.GeneralPurpose.{encode_of}
 use Rattle.base64.specs.Engines.{standard}
 use Rattle.csp_model.specs.Ascii.{is_nonempty}
-use Rattle.csp_model.specs.Same.{same_keyword, same_hash}
+use Rattle.csp_model.specs.DecideEquality.{same_keyword, same_hash}
 use Rattle.csp_model.specs.Tokens.{digest_by, plain_value}
 use Rattle.csp_model.specs.declared.source.Hash.{Hash}
 use Rattle.csp_model.specs.declared.source.Keyword.{Keyword}

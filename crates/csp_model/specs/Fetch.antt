@@ -19,12 +19,8 @@ use Rattle.csp_model.specs.declared.url.Url.{Url}
 abbrev pub is_redirected : ℕ → Bool
 is_redirected redirects = not (redirects == 0)
 
--- a worker is decided on as a script where script-src governs it
-abbrev pub worker_rule : Name → FetchRule
-worker_rule ScriptSrc = rule.Script
-worker_rule governing = rule.List
-
--- the rule for a fetch that a directive of this name governs
+-- the rule for a fetch that a directive of this name governs; a worker is decided on as a script where
+-- script-src governs it
 abbrev pub fetch_rule : Group → Name → FetchRule
 fetch_rule group.Connect governing = rule.List
 fetch_rule group.Font governing = rule.List
@@ -35,7 +31,8 @@ fetch_rule group.Media governing = rule.List
 fetch_rule group.Object governing = rule.List
 fetch_rule group.StyleElem governing = rule.Style
 fetch_rule group.ScriptElem governing = rule.Script
-fetch_rule group.Worker governing = worker_rule governing
+fetch_rule group.Worker ScriptSrc = rule.Script
+fetch_rule group.Worker governing = rule.List
 
 -- what the list decides, or 'strict-dynamic' in its place
 abbrev pub DynamicOrListed : List Source → Bool → Type 0 → Type 0

@@ -1,5 +1,5 @@
 -- Which directive of a policy governs a check (Content Security Policy Level 3, sections 6.8.3 and 6.8.4).
-use Rattle.std.specs.Prelude.{ℕ, Bool, List, [], ◌∷◌, map, position, Option, Some, None, ⊤}
+use Rattle.std.specs.Prelude.{ℕ, Bool, List, [], ◌∷◌, map, position, Option, ⊤}
 use Rattle.std.specs.List.{find}
 use Rattle.std.specs.Option.{option_map, MatchOption}
 use Rattle.std.specs.Str.{bytes_eq}

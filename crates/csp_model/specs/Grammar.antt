@@ -1,12 +1,11 @@
 -- The grammar of source expressions (Content Security Policy Level 3, section 2.3.1; RFC 3986, sections 2 and
 -- 3): which texts are a source of which kind, each text built from its parts.
-use Rattle.std.specs.Prelude.{◌≡◌, ◌≢◌, ℕ, ◌+◌, ◌-◌, ◌*◌, Bool, true, false, ◌&&◌, ◌||◌, nat_lt, nat_eq, ◌==◌, if◌then◌else◌, List, [], ◌∷◌, ◌++◌, map, drop, Option, Some, None, IsTrue, codes}
+use Rattle.std.specs.Prelude.{◌≡◌, ◌≢◌, ℕ, ◌+◌, ◌-◌, ◌*◌, Bool, true, false, not, ◌&&◌, ◌||◌, nat_lt, nat_eq, ◌==◌, if◌then◌else◌, List, [], ◌∷◌, ◌++◌, map, drop, Option, Some, None, IsTrue, codes}
 use Rattle.std.specs.List.{list_all, list_any, fold, starts_with}
 use Rattle.std.specs.Str.{bytes_eq}
 use Rattle.std.specs.Char.{is_ascii_alphabetic, is_ascii_alphanumeric, is_ascii_digit, is_ascii_hexdigit}
 use Rattle.percent_encoding.specs.Percent.{percent_decode}
-use Rattle.csp_model.specs.Bytes.{percent, quote, plus, hyphen, dot, slash, colon, equals_sign}
-use Rattle.csp_model.specs.Ascii.{lower, is_nonempty, without_last, without_final, ends_in, split_at}
+use Rattle.csp_model.specs.Ascii.{code, lower, is_nonempty, without_last, without_final, ends_in, split_at}
 use Rattle.csp_model.specs.declared.source.Algorithm.{Algorithm}
 use Rattle.csp_model.specs.declared.source.Algorithm.TheVariants.{Sha256, Sha384, Sha512}
 use Rattle.csp_model.specs.declared.source.HostPart.{HostPart}
@@ -22,7 +21,7 @@ use Rattle.csp_model.specs.declared.source.Source.TheVariants as source
 
 -- scheme = ALPHA *( ALPHA / DIGIT / "+" / "-" / "." )
 unfoldable pub is_scheme_char : ℕ → Bool
-is_scheme_char c = is_ascii_alphanumeric c || c == plus || c == hyphen || c == dot
+is_scheme_char c = is_ascii_alphanumeric c || c == code "+" || c == code "-" || c == code "."
 
 abbrev pub is_scheme : List ℕ → Bool
 is_scheme [] = false
@@ -30,14 +29,14 @@ is_scheme (c ∷ cs) = is_ascii_alphabetic c && list_all is_scheme_char cs
 
 -- host-char = ALPHA / DIGIT / "-"; a label is one or more of them
 unfoldable pub is_label_char : ℕ → Bool
-is_label_char c = is_ascii_alphanumeric c || c == hyphen
+is_label_char c = is_ascii_alphanumeric c || c == code "-"
 
 abbrev pub is_label : List ℕ → Bool
 is_label text = is_nonempty text && list_all is_label_char text
 
 -- labels joined by ".", with or without one more "." at the end
 unfoldable pub is_name : List ℕ → Bool
-is_name text = list_all is_label (split_at dot (without_final dot text))
+is_name text = list_all is_label (split_at (code ".") (without_final (code ".") text))
 
 -- host-part = "*" / [ "*." ] name
 unfoldable pub host_part_of : List ℕ → Option HostPart
@@ -58,18 +57,14 @@ are_digits text = is_nonempty text && list_all is_ascii_digit text
 abbrev pub port_numbered : ℕ → PortPart
 port_numbered n = if nat_lt n 65536 then port.Number n else port.TooLarge
 
--- port-part = 1*DIGIT / "*"
-abbrev pub port_behind_colon : List ℕ → Option PortPart
-port_behind_colon text =
-    if bytes_eq text (codes "*") then Some port.Any
-    else if are_digits text then Some (port_numbered (decimal_value text))
-    else None
-
--- nothing, or ":" port-part
+-- nothing, or ":" port-part, where port-part = 1*DIGIT / "*"
 unfoldable pub port_part_of : List ℕ → Option PortPart
 port_part_of [] = Some port.Absent
 port_part_of (c ∷ text) =
-    if c == colon then port_behind_colon text else None
+    if not (c == code ":") then None
+    else if bytes_eq text (codes "*") then Some port.Any
+    else if are_digits text then Some (port_numbered (decimal_value text))
+    else None
 
 -- pchar without ";" and ",", its "%" apart
 unfoldable pub is_path_char : ℕ → Bool
@@ -83,7 +78,7 @@ begins_hex_pair text = false
 -- segment = *pchar: path characters, and "%" before two hexadecimal digits
 abbrev pub is_segment : List ℕ → Bool
 is_segment [] = true
-is_segment (c ∷ cs) = (if c == percent then begins_hex_pair cs else is_path_char c) && is_segment cs
+is_segment (c ∷ cs) = (if c == code "%" then begins_hex_pair cs else is_path_char c) && is_segment cs
 
 -- segments after "/" that make a path-absolute: the first is empty only where it stands alone
 abbrev pub are_segments : List (List ℕ) → Bool
@@ -93,14 +88,14 @@ are_segments (s ∷ t ∷ rest) = is_nonempty s && list_all is_segment (s ∷ t 
 
 -- the pieces of a path behind its first "/", percent-decoded
 abbrev pub pieces_of : List ℕ → List (List ℕ)
-pieces_of text = map percent_decode (split_at slash text)
+pieces_of text = map percent_decode (split_at (code "/") text)
 
 -- nothing, or path-part = path-absolute without ";" and ",": "/" [ segment-nz *( "/" segment ) ]
 unfoldable pub path_part_of : List ℕ → Option PathPart
 path_part_of [] = Some path.Absent
 path_part_of (c ∷ text) =
-    if (c == slash) && are_segments (split_at slash text)
-    then Some (if ends_in slash (c ∷ text) then path.Prefix (without_last (pieces_of text))
+    if (c == code "/") && are_segments (split_at (code "/") text)
+    then Some (if ends_in (code "/") (c ∷ text) then path.Prefix (without_last (pieces_of text))
     else path.Exact (pieces_of text))
     else None
 
@@ -137,7 +132,7 @@ unfoldable pub is_base64_char : ℕ → Bool
 is_base64_char c = is_ascii_alphanumeric c || list_any (λ d. d == c) (codes "+/-_")
 
 abbrev pub without_padding : List ℕ → List ℕ
-without_padding text = without_final equals_sign (without_final equals_sign text)
+without_padding text = without_final (code "=") (without_final (code "=") text)
 
 unfoldable pub is_base64_value : List ℕ → Bool
 is_base64_value text = is_nonempty (without_padding text) && list_all is_base64_char (without_padding text)
@@ -172,7 +167,7 @@ IsKind token (source.Word word) = lower token ≡ keyword_text word
 IsKind token (source.Nonce value) = IsQuoted (codes "'nonce-") token value
 -- hash-source = "'" hash-algorithm "-" base64-value "'"
 IsKind token (source.Digest hash) =
-    IsQuoted (quote ∷ algorithm_text hash.algorithm ++ codes "-") token hash.value
+    IsQuoted (code "'" ∷ algorithm_text hash.algorithm ++ codes "-") token hash.value
 IsKind token (source.Other text) = ⊥
 
 -- what a token is: of a kind, or else nothing that matches

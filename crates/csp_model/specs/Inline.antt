@@ -49,16 +49,14 @@ AllowsAllInline which sources =
     HasKeyword keyword.UnsafeInline sources × (list_any is_nonce_or_hash sources ≡ false)
     × (IsTrue (is_script_kind which) → ¬ HasKeyword keyword.StrictDynamic sources)
 
--- a hash counts for elements, and with 'unsafe-hashes' for attributes and navigations too
-abbrev pub HashCounts : InlineKind → List Source → Type 0
-HashCounts which sources = IsTrue (is_element_kind which) ⊎ HasKeyword keyword.UnsafeHashes sources
-
--- a governing list allows the inline source (6.7.3.3)
+-- a governing list allows the inline source (6.7.3.3); a hash counts for elements, and with 'unsafe-hashes'
+-- for attributes and navigations too
 abbrev pub SourcesAllowInline : InlineKind → List ℕ → Digests → List Source → Type 0
 SourcesAllowInline which nonce digests sources =
     AllowsAllInline which sources
     ⊎ ((IsTrue (is_element_kind which) × NonceMatches nonce sources)
-    ⊎ (DigestsMatch digests sources × HashCounts which sources))
+    ⊎ (DigestsMatch digests sources
+    × (IsTrue (is_element_kind which) ⊎ HasKeyword keyword.UnsafeHashes sources)))
 
 -- the policy allows the inline source
 abbrev pub InlineAllows : Policy → InlineKind → List ℕ → Digests → Type 0

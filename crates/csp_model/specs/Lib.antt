@@ -1,6 +1,7 @@
 pub mod Answers
 pub mod Ascii
-pub mod Bytes
+pub mod DecideEnds
+pub mod DecideEquality
 pub mod DecideFetch
 pub mod DecideGoverning
 pub mod DecideInline
@@ -23,7 +24,6 @@ pub mod Parts
 pub mod Paths
 pub mod Policies
 pub mod Reading
-pub mod Same
 pub mod Schemes
 pub mod Tokens
 pub mod Validity

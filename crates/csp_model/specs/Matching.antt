@@ -1,7 +1,7 @@
 -- When a source expression matches a URL (Content Security Policy Level 3, section 6.7.2, "URL Matching";
 -- each definition bears the name of its algorithm there).
 use Rattle.std.specs.Prelude.{◌≡◌, ◌≢◌, ℕ, List, [], ◌∷◌, ◌++◌, Option, Some, None, ◌⊎◌, IsTrue, codes, Bool, Any, Contains, ⊤, unwrap_or}
-use Rattle.csp_model.specs.Bytes.{dot}
+use Rattle.csp_model.specs.Ascii.{code}
 use Rattle.csp_model.specs.Paths.{host_text}
 use Rattle.csp_model.specs.Schemes.{scheme_text, default_port}
 use Rattle.csp_model.specs.declared.url.Scheme.{Scheme}
@@ -42,7 +42,7 @@ IsDomainHost (Domain text) = ⊤
 IsDomainHost (Address text) = ⊥
 
 abbrev pub IsHostUnder : Host → List ℕ → Type 0
-IsHostUnder (Domain text) suffix = (front : List ℕ) × (text ≡ front ++ dot ∷ suffix)
+IsHostUnder (Domain text) suffix = (front : List ℕ) × (text ≡ front ++ code "." ∷ suffix)
 IsHostUnder (Address text) suffix = ⊥
 
 abbrev pub HostMatches : HostPart → Host → Type 0
@@ -69,15 +69,11 @@ SchemeOrOwn (Some scheme) self P = P scheme
 SchemeOrOwn None (origin.Tuple scheme host port) P = P (scheme_text scheme)
 SchemeOrOwn None origin.Opaque P = ⊥
 
--- 'self' matches the origin's scheme, the secure ones, and ws from http
-abbrev pub SelfScheme : Scheme → Scheme → Type 0
-SelfScheme own scheme =
-    (own ≡ scheme) ⊎ ((scheme ≡ Https) ⊎ ((scheme ≡ Wss) ⊎ ((own ≡ Http) × (scheme ≡ Ws))))
-
--- 'self' matches
+-- 'self' matches: the origin's host and port, and its scheme, a secure one, or ws from http
 abbrev pub SelfMatches : Origin → Url → Type 0
 SelfMatches (origin.Tuple own own_host own_port) (url.Hosted scheme host port path) =
-    (own_host ≡ host) × (own_port ≡ port) × SelfScheme own scheme
+    (own_host ≡ host) × (own_port ≡ port)
+    × ((own ≡ scheme) ⊎ ((scheme ≡ Https) ⊎ ((scheme ≡ Wss) ⊎ ((own ≡ Http) × (scheme ≡ Ws)))))
 SelfMatches self there = ⊥
 
 -- a host-source matches; after a redirect its path is not looked at

@@ -1,12 +1,11 @@
 -- The policies that a header block stands for (Content Security Policy Level 3, sections 2.2, 3.1 to 3.3 and
 -- 4; RFC 9110, sections 5.1, 5.5 and 5.6.2).
-use Rattle.std.specs.Prelude.{◌≡◌, ◌≢◌, ℕ, ◌≤◌, Bool, true, false, not, ◌==◌, if◌then◌else◌, List, [], ◌∷◌, map, filter, fold, position, take, drop, codes, length, max, nat_lt, nat_le, nat_eq, ◌+◌, ◌&&◌, ◌||◌, Option, Some, None, All, AllPairs}
-use Rattle.std.specs.List.{filter_map, list_any, list_all, flat_map, sum_by, position_or_len, starts_with, join_by, join_with_byte}
+use Rattle.std.specs.Prelude.{◌≡◌, ◌≢◌, ℕ, ◌≤◌, Bool, true, false, not, ◌==◌, if◌then◌else◌, List, [], ◌∷◌, map, filter, fold, position, take, drop, codes, length, max, nat_lt, nat_eq, ◌+◌, ◌&&◌, ◌||◌, Option, Some, None, All, AllPairs}
+use Rattle.std.specs.List.{filter_map, list_any, list_all, flat_map, sum_by, position_from, position_or_len, starts_with, join_by, join_with_byte}
 use Rattle.std.specs.Str.Lines.{strip_carriage_return}
-use Rattle.std.specs.Char.{is_ascii_alphanumeric}
+use Rattle.std.specs.Char.{is_ascii_alphanumeric, is_ascii_control}
 use Rattle.std.specs.Str.{bytes_eq}
-use Rattle.csp_model.specs.Bytes.{tab, line_feed, space, comma, colon, semicolon, delete}
-use Rattle.csp_model.specs.Ascii.{lower, is_ascii_text, words, split_at}
+use Rattle.csp_model.specs.Ascii.{code, lower, is_ascii_text, words, split_at}
 use Rattle.csp_model.specs.Reading.{source_of}
 use Rattle.csp_model.specs.Validity.{IsValidOrigin}
 use Rattle.csp_model.specs.declared.policy.Directive.{Directive}
@@ -38,13 +37,13 @@ firsts (d ∷ ds) = d ∷ filter (λ e. not (same_name e d)) (firsts ds)
 
 -- the directives of a serialized policy
 abbrev pub directives_of : List ℕ → List Directive
-directives_of value = firsts (filter_map directive_of (split_at semicolon value))
+directives_of value = firsts (filter_map directive_of (split_at (code ";") value))
 
 -- Header blocks
 
 -- the lines between line feeds, each without one carriage return at its end
 abbrev pub lines_of : List ℕ → List (List ℕ)
-lines_of bytes = map strip_carriage_return (split_at line_feed bytes)
+lines_of bytes = map strip_carriage_return (split_at (code "\n") bytes)
 
 -- token of RFC 9110, section 5.6.2: a letter, a digit or one of these
 unfoldable pub is_token_char : ℕ → Bool
@@ -53,21 +52,15 @@ is_token_char c = is_ascii_alphanumeric c || list_any (λ d. d == c) (codes "!#$
 unfoldable pub is_field_name : List ℕ → Bool
 is_field_name name = nat_lt 0 (length name) && nat_lt (length name) 65536 && list_all is_token_char name
 
--- a tab, or anything but a control
-abbrev pub is_field_char : ℕ → Bool
-is_field_char c = c == tab || (nat_le space c && not (c == delete))
-
+-- tabs, and anything but controls
 unfoldable pub is_field_value : List ℕ → Bool
-is_field_value value = list_all is_field_char value
+is_field_value value = list_all (λ c. c == code "\t" || not (is_ascii_control c)) value
 
 -- what a line says
 pub data Line : Type 0 where
   Skipped : Line
   Bad : Line
   Header : List ℕ → List ℕ → Line
-
-abbrev pub is_colon : ℕ → Bool
-is_colon c = c == colon
 
 -- the name before a colon at this place, and the value after it
 abbrev pub header_at : List ℕ → Option ℕ → Line
@@ -78,19 +71,17 @@ header_at text (Some place) =
     else Bad
 
 unfoldable pub header_of : List ℕ → Line
-header_of text = header_at text (position is_colon text)
+header_of text = header_at text (position (λ c. c == code ":") text)
 
 unfoldable pub line_of : List ℕ → Line
 line_of [] = Skipped
 line_of (c ∷ cs) = header_of (c ∷ cs)
 
-abbrev pub is_newline : ℕ → Bool
-is_newline c = c == line_feed
-
 -- the block with a status line at its front emptied, so that its lines keep their numbers
 abbrev pub without_status : List ℕ → List ℕ
 without_status bytes =
-    if starts_with nat_eq bytes (codes "HTTP/") then drop (position_or_len is_newline bytes) bytes else bytes
+    if starts_with nat_eq bytes (codes "HTTP/") then drop (position_or_len (λ c. c == code "\n") bytes) bytes
+    else bytes
 
 abbrev pub block_lines : List ℕ → List Line
 block_lines bytes = map line_of (lines_of (without_status bytes))
@@ -99,14 +90,9 @@ abbrev pub is_bad : Line → Bool
 is_bad Bad = true
 is_bad line = false
 
--- the number of the first bad line, where the first of these lines has the number n
-abbrev pub first_bad_from : ℕ → List Line → Option ℕ
-first_bad_from n [] = None
-first_bad_from n (line ∷ lines) = if is_bad line then Some n else first_bad_from (n + 1) lines
-
 -- the number of the first bad line, counted from 1
 abbrev pub first_bad : List ℕ → Option ℕ
-first_bad bytes = first_bad_from 1 (block_lines bytes)
+first_bad bytes = position_from is_bad 1 (block_lines bytes)
 
 -- Policy lists (sections 3.1 to 3.3 and 4)
 
@@ -119,7 +105,7 @@ policy_with origin disposition meta (d ∷ ds) =
 -- the policies of a header's value, between commas
 abbrev pub policies_in : Origin → Disposition → List ℕ → List Policy
 policies_in origin disposition value =
-    flat_map (λ piece. policy_with origin disposition false (directives_of piece)) (split_at comma value)
+    flat_map (λ piece. policy_with origin disposition false (directives_of piece)) (split_at (code ",") value)
 
 -- a meta element may carry the directive
 abbrev pub is_for_meta : Directive → Bool
@@ -148,13 +134,11 @@ policies bytes origin = flat_map (policies_of origin) (block_lines bytes)
 abbrev pub token_count : List Policy → ℕ
 token_count ps = sum_by (λ (p : Policy). sum_by (λ (d : Directive). length d.tokens) p.directives) ps
 
--- the names and tokens
-abbrev pub texts_in : List Policy → List (List ℕ)
-texts_in ps = flat_map (λ (p : Policy). flat_map (λ (d : Directive). d.name ∷ d.tokens) p.directives) ps
-
 -- the length of the longest name or token
 abbrev pub longest_text : List Policy → ℕ
-longest_text ps = fold (λ n text. max n (length text)) 0 (texts_in ps)
+longest_text ps =
+    fold (λ n text. max n (length text)) 0
+    (flat_map (λ (p : Policy). flat_map (λ (d : Directive). d.name ∷ d.tokens) p.directives) ps)
 
 abbrev pub policy_limit : ℕ
 policy_limit = 64
@@ -183,7 +167,7 @@ pub record IsReadable (list : PolicyList) : Type 0 where
 
 -- a directive's name and tokens, joined by spaces
 abbrev pub directive_text : Directive → List ℕ
-directive_text d = join_with_byte space (d.name ∷ d.tokens)
+directive_text d = join_with_byte (code " ") (d.name ∷ d.tokens)
 
 -- the directives, joined by "; "
 abbrev pub policy_text : Policy → List ℕ

@@ -4,8 +4,7 @@ use Rattle.std.specs.Prelude.{ℕ, Bool, ◌&&◌, ◌||◌, not, nat_eq, ◌==�
 use Rattle.std.specs.List.{starts_with, find}
 use Rattle.std.specs.Option.{option_map, option_and_then}
 use Rattle.std.specs.Str.{bytes_eq}
-use Rattle.csp_model.specs.Bytes.{quote, star, dot, slash, colon}
-use Rattle.csp_model.specs.Ascii.{lower, ends_in, without_last, skip_while}
+use Rattle.csp_model.specs.Ascii.{code, lower, ends_in, without_last, skip_while}
 use Rattle.csp_model.specs.Grammar.{is_scheme_char, is_scheme, is_label_char, host_part_of, port_part_of, path_part_of, keyword_text, is_base64_value, algorithm_text}
 use Rattle.csp_model.specs.declared.source.Algorithm.{Algorithm}
 use Rattle.csp_model.specs.declared.source.Algorithm.TheVariants.{Sha256, Sha384, Sha512}
@@ -15,10 +14,10 @@ use Rattle.csp_model.specs.declared.source.Source.{Source}
 use Rattle.csp_model.specs.declared.source.Source.TheVariants as source
 
 unfoldable pub is_host_char : ℕ → Bool
-is_host_char c = is_label_char c || c == dot || c == star
+is_host_char c = is_label_char c || c == code "." || c == code "*"
 
 unfoldable pub is_no_slash : ℕ → Bool
-is_no_slash c = not (c == slash)
+is_no_slash c = not (c == code "/")
 
 -- a host-source behind its scheme-part
 unfoldable pub authority : Option (List ℕ) → List ℕ → Option Source
@@ -37,7 +36,7 @@ host_source token =
 
 unfoldable pub scheme_source : List ℕ → Option Source
 scheme_source token =
-    if ends_in colon token && is_scheme (without_last token)
+    if ends_in (code ":") token && is_scheme (without_last token)
     then Some (source.SchemeOnly (lower (without_last token)))
     else None
 
@@ -54,7 +53,7 @@ keyword_source token =
 -- the base64-value between a word and "'"
 unfoldable pub quoted_value : List ℕ → List ℕ → Option (List ℕ)
 quoted_value word token =
-    if bytes_eq (lower (take (length word) token)) word && ends_in quote (drop (length word) token)
+    if bytes_eq (lower (take (length word) token)) word && ends_in (code "'") (drop (length word) token)
     && is_base64_value (without_last (drop (length word) token))
     then Some (without_last (drop (length word) token))
     else None
@@ -65,7 +64,7 @@ nonce_source token = option_map (λ value. source.Nonce value) (quoted_value (co
 unfoldable pub hash_source : Algorithm → List ℕ → Option Source
 hash_source algorithm token =
     option_map (λ value. source.Digest (record { algorithm = algorithm; value = value }))
-    (quoted_value (quote ∷ algorithm_text algorithm ++ codes "-") token)
+    (quoted_value (code "'" ∷ algorithm_text algorithm ++ codes "-") token)
 
 -- the first of some answers that is one
 abbrev pub first_of : {A : Type 0} → List (Option A) → Option A

@@ -3,7 +3,7 @@
 use Rattle.std.specs.Prelude.{◌≡◌, ◌≢◌, ℕ, ◌==◌, if◌then◌else◌, List, [], map, All, Any, Contains}
 use Rattle.base64.specs.GeneralPurpose.{encode_of}
 use Rattle.base64.specs.Engines.{standard}
-use Rattle.csp_model.specs.Bytes.{hyphen, plus, underscore, slash}
+use Rattle.csp_model.specs.Ascii.{code}
 use Rattle.csp_model.specs.declared.source.Algorithm.{Algorithm}
 use Rattle.csp_model.specs.declared.source.Algorithm.TheVariants.{Sha256, Sha384, Sha512}
 use Rattle.csp_model.specs.declared.source.Hash.{Hash}
@@ -50,7 +50,7 @@ size_of Sha512 = 64
 
 -- a symbol of base64 in the standard alphabet: "-" is read as "+", and "_" as "/"
 abbrev pub plain_symbol : ℕ → ℕ
-plain_symbol c = if c == hyphen then plus else if c == underscore then slash else c
+plain_symbol c = if c == code "-" then code "+" else if c == code "_" then code "/" else c
 
 -- a base64-value in the standard alphabet
 abbrev pub plain_value : List ℕ → List ℕ

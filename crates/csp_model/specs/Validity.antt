@@ -1,11 +1,10 @@
 -- Which hosts, URLs and origins there are (URL Standard, sections 3.2 to 3.6 and 4.1), as far as a policy
 -- looks at them.
-use Rattle.std.specs.Prelude.{◌≡◌, ◌≢◌, ℕ, ◌<◌, ◌^◌, ◌==◌, ◌&&◌, ◌||◌, not, nat_lt, nat_le, Bool, List, [], ◌∷◌, length, drop, slice_index, Option, All, IfSome, IsTrue, IsNone, ◌⊎◌, ⊤, codes}
-use Rattle.std.specs.List.{list_all, list_any}
+use Rattle.std.specs.Prelude.{◌≡◌, ◌≢◌, ℕ, ◌<◌, ◌^◌, ◌==◌, ◌&&◌, ◌||◌, not, nat_lt, nat_le, Bool, List, [], ◌∷◌, length, drop, slice_index, Option, None, unwrap_or, All, IfSome, IsTrue, IsNone, ◌⊎◌, ⊤, codes}
+use Rattle.std.specs.List.{list_all, list_any, last_or}
 use Rattle.std.specs.Str.{bytes_eq, IsUtf8}
 use Rattle.std.specs.Char.{is_ascii_uppercase, is_ascii_hexdigit, is_ascii_whitespace}
-use Rattle.csp_model.specs.Bytes.{dot, digit_zero, colon, question_mark, left_bracket, right_bracket, lower_x}
-use Rattle.csp_model.specs.Ascii.{lower, is_nonempty, ends_in, without_last, without_final, split_at}
+use Rattle.csp_model.specs.Ascii.{code, lower, is_nonempty, ends_in, without_last, without_final, split_at}
 use Rattle.csp_model.specs.Grammar.{is_scheme, are_digits, decimal_value}
 use Rattle.csp_model.specs.Schemes.{scheme_named, default_port}
 use Rattle.csp_model.specs.declared.url.Scheme.{Scheme}
@@ -27,21 +26,15 @@ is_domain_byte b =
     nat_le 33 b && nat_le b 126 && not (is_ascii_uppercase b)
     && not (list_any (λ c. c == b) (codes "#/:<>?@[\\]^|%"))
 
--- the last of some parts
-abbrev pub last_part : List (List ℕ) → List ℕ
-last_part [] = []
-last_part (p ∷ []) = p
-last_part (p ∷ q ∷ ps) = last_part (q ∷ ps)
-
 -- "0x" and hexadecimal digits, perhaps none
 abbrev pub is_hex_number : List ℕ → Bool
 is_hex_number label =
-    (slice_index label 0 == digit_zero) && (slice_index label 1 == lower_x)
+    (slice_index label 0 == code "0") && (slice_index label 1 == code "x")
     && list_all is_ascii_hexdigit (drop 2 label)
 
 -- the last label, where one "." may stand behind it
 abbrev pub last_label : List ℕ → List ℕ
-last_label text = last_part (split_at dot (without_final dot text))
+last_label text = unwrap_or (last_or None (split_at (code ".") (without_final (code ".") text))) []
 
 -- it is a number (URL Standard, "ends in a number")
 unfoldable pub ends_in_number : List ℕ → Bool
@@ -54,19 +47,20 @@ is_domain text = is_nonempty text && list_all is_domain_byte text && not (ends_i
 abbrev pub is_octet : List ℕ → Bool
 is_octet text =
     are_digits text && nat_lt (decimal_value text) 256
-    && (nat_lt (length text) 2 || not (slice_index text 0 == digit_zero))
+    && (nat_lt (length text) 2 || not (slice_index text 0 == code "0"))
 
 -- four numbers joined by "."
 unfoldable pub is_four_numbers : List ℕ → Bool
-is_four_numbers text = (length (split_at dot text) == 4) && list_all is_octet (split_at dot text)
+is_four_numbers text =
+    (length (split_at (code ".") text) == 4) && list_all is_octet (split_at (code ".") text)
 
 -- an address of six groups or more, loosely: hexadecimal digits in lower case and ":"
 abbrev pub is_group_char : ℕ → Bool
-is_group_char c = (is_ascii_hexdigit c && not (is_ascii_uppercase c)) || c == colon
+is_group_char c = (is_ascii_hexdigit c && not (is_ascii_uppercase c)) || c == code ":"
 
 unfoldable pub is_bracketed : List ℕ → Bool
 is_bracketed text =
-    (slice_index text 0 == left_bracket) && ends_in right_bracket text
+    (slice_index text 0 == code "[") && ends_in (code "]") text
     && is_nonempty (without_last (drop 1 text)) && list_all is_group_char (without_last (drop 1 text))
 
 unfoldable pub is_address : List ℕ → Bool
@@ -106,7 +100,7 @@ IsValidOrigin (origin.Tuple scheme host port) =
 -- a value as integrity metadata can hold it: a text without ASCII whitespace and "?"
 abbrev pub IsIntegrityValue : List ℕ → Type 0
 IsIntegrityValue value =
-    IsUtf8 value × IsTrue (list_all (λ b. not (is_ascii_whitespace b) && not (b == question_mark)) value)
+    IsUtf8 value × IsTrue (list_all (λ b. not (is_ascii_whitespace b) && not (b == code "?")) value)
 
 -- so many bytes
 abbrev pub IsOfSize : ℕ → List ℕ → Type 0

@@ -1,10 +1,10 @@
 -- What policies and lists of policies answer (Content Security Policy Level 3, sections 4.1.2, 4.2, 5 and
 -- 6.3.1.1).
-use Rattle.std.specs.Prelude.{ℕ, ◌+◌, Bool, true, false, not, ◌&&◌, ◌||◌, if◌then◌else◌, List, [], ◌∷◌, slice_get, Option, Some, None}
+use Rattle.std.specs.Prelude.{ℕ, ◌+◌, Bool, true, false, not, ◌&&◌, ◌||◌, if◌then◌else◌, List, [], ◌∷◌, slice_get, Option, None, unwrap_or}
 use Rattle.std.specs.List.{list_any, list_all, flat_map, filter_map, cons_option}
 use Rattle.std.specs.Option.{option_map}
 use Rattle.csp_model.specs.Names.{group_directive, inline_directive}
-use Rattle.csp_model.specs.Governing.{Governor, governor}
+use Rattle.csp_model.specs.Governing.{governor}
 use Rattle.csp_model.specs.Fetch.{FetchAllows}
 use Rattle.csp_model.specs.Inline.{InlineAllows, EvalAllows, WasmAllows}
 use Rattle.csp_model.specs.Navigation.{BaseAllows, FormAllows, AncestorAllows, OpaqueAncestorAllows, CapabilityAllows, WorkerStartAllows}
@@ -70,19 +70,15 @@ effective_name (check.Capability capability) = Sandbox
 effective_name check.WorkerStart = Sandbox
 
 -- the item of the policy of this number, where what governs in it doesn't allow the check
-abbrev pub item_by : ℕ → Policy → Check → Governor → Item
-item_by number policy asked g =
-    record {
+abbrev pub item_of : ℕ → Policy → Check → Option Item
+item_of number policy asked =
+    if allows policy asked then None
+    else option_map (λ g. record {
       policy = number;
       disposition = policy.disposition;
       effective = effective_name asked;
       governing = g.name;
-    }
-
-abbrev pub item_of : ℕ → Policy → Check → Option Item
-item_of number policy asked =
-    if allows policy asked then None
-    else option_map (item_by number policy asked) (governor policy (effective_name asked))
+    }) (governor policy (effective_name asked))
 
 -- the items of policies in order, of which the first has this number
 abbrev pub items_from : ℕ → List Policy → Check → List Item
@@ -112,12 +108,11 @@ abbrev pub judged_checks : PolicyList → List Check → List Check
 judged_checks list [] = []
 judged_checks list (asked ∷ rest) = asked ∷ (if list_allows list asked then judged_checks list rest else [])
 
-abbrev pub verdict_with : List Item → Verdict
-verdict_with items = record { blocked = list_any is_enforced items; items = items }
-
 -- the verdict on a request
 abbrev pub verdict_of : PolicyList → List Check → Verdict
-verdict_of list checks = verdict_with (flat_map (items_of list) (judged_checks list checks))
+verdict_of list checks =
+    let items = flat_map (items_of list) (judged_checks list checks) in
+    record { blocked = list_any is_enforced items; items = items }
 
 -- Violations (section 5)
 
@@ -140,13 +135,11 @@ has_sample (check.Inline kind nonce digests) = true
 has_sample check.Eval = true
 has_sample asked = false
 
--- what governs asks for samples
-abbrev pub asks_for_sample : Option Governor → Bool
-asks_for_sample None = false
-asks_for_sample (Some g) = has_keyword keyword.ReportSample g.directive.sources
-
+-- it does, where what governs asks for samples
 abbrev pub is_sampled : Policy → Check → Bool
-is_sampled policy asked = has_sample asked && asks_for_sample (governor policy (effective_name asked))
+is_sampled policy asked =
+    has_sample asked && unwrap_or (option_map (λ g. has_keyword keyword.ReportSample g.directive.sources)
+    (governor policy (effective_name asked))) false
 
 -- the violation of this policy for an item
 abbrev pub violation_of : Described → Check → Item → Policy → Violation

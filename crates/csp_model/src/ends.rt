@@ -1,7 +1,7 @@
 //! How domains end, and how paths begin.
 ghost use Rattle.std.specs.Prelude.{◌≡◌, ◌≢◌, ◌↔◌, IsTrue, List as Items, ℕ, [], ◌∷◌, ◌++◌};
-ghost use Rattle.csp_model.specs.Bytes.{dot};
-ghost use Rattle.csp_model.specs.Ends as spec;
+ghost use Rattle.csp_model.specs.Ascii.{code};
+ghost use Rattle.csp_model.specs.DecideEnds as spec;
 
 use crate::text::Bytes;
 
@@ -9,14 +9,14 @@ use crate::text::Bytes;
 /// It is compared from its end. No domain lies under itself.
 pub fn is_subdomain(domain: &str, suffix: &str) -> bool
     ensures value { result ≡ spec.is_subdomain domain.now suffix.now }
-    ensures under { IsTrue result ↔ ((front : Items ℕ) × (domain.now ≡ front ++ dot ∷ suffix.now)) }
+    ensures under { IsTrue result ↔ ((front : Items ℕ) × (domain.now ≡ front ++ code "." ∷ suffix.now)) }
 {
     ends_in_dot_and(domain.as_bytes(), suffix.as_bytes())
 }
 
 fn ends_in_dot_and(domain: &[u8], suffix: &[u8]) -> bool
     ensures value { result ≡ spec.is_subdomain domain.now suffix.now }
-    ensures under { IsTrue result ↔ ((front : Items ℕ) × (domain.now ≡ front ++ dot ∷ suffix.now)) }
+    ensures under { IsTrue result ↔ ((front : Items ℕ) × (domain.now ≡ front ++ code "." ∷ suffix.now)) }
 {
     match domain.strip_suffix(suffix) {
         None => false,

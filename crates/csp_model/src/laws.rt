@@ -1,14 +1,16 @@
 //! Laws of the definitions, each the contract of a function with no body.
 ghost use Rattle.std.specs.Prelude.{◌≡◌, ◌↔◌, ◌&&◌, not, ℕ, Bool, List, [], ◌∷◌, ◌++◌, All, Any, IsTrue, IsPermutation, Option, option_and_then, slice_get};
 ghost use Rattle.std.specs.Option.{option_map};
+ghost use Rattle.csp_model.specs.DecideEnds.{is_host_under};
+ghost use Rattle.csp_model.specs.DecideEquality.{same_host, same_port, same_algorithm, same_hash, same_keyword};
 ghost use Rattle.csp_model.specs.DecideMatching.{matches, list_matches};
 ghost use Rattle.csp_model.specs.DecideNonces.{is_nonceable, element_nonce};
 ghost use Rattle.csp_model.specs.DecideTokens.{has_keyword, nonce_matches, integrity_matches, digests_match};
 ghost use Rattle.csp_model.specs.Governing.{Governor, governor, governing_place};
 ghost use Rattle.csp_model.specs.Inclusion.{Subsumes};
 ghost use Rattle.csp_model.specs.Inline.{IsNonceable, IsElementNonce};
-ghost use Rattle.csp_model.specs.Laws.{joined, AllowSame, EnforcedAllow};
-ghost use Rattle.csp_model.specs.Matching.{Matches, ListMatches};
+ghost use Rattle.csp_model.specs.Laws.{EnforcedAllow};
+ghost use Rattle.csp_model.specs.Matching.{IsHostUnder, Matches, ListMatches};
 ghost use Rattle.csp_model.specs.Policies.{firsts};
 ghost use Rattle.csp_model.specs.Tokens.{HasKeyword, NonceMatches, IntegrityMatches, DigestsMatch};
 ghost use Rattle.csp_model.specs.Validity.{IsValidCheck};
@@ -21,15 +23,28 @@ ghost use Rattle.csp_model.specs.declared.policy.Directive.{Directive};
 ghost use Rattle.csp_model.specs.declared.policy.Disposition.TheVariants.{Report};
 ghost use Rattle.csp_model.specs.declared.policy.Policy.{Policy};
 ghost use Rattle.csp_model.specs.declared.policy.PolicyList.{PolicyList};
+ghost use Rattle.csp_model.specs.declared.source.Algorithm.{Algorithm};
 ghost use Rattle.csp_model.specs.declared.source.Hash.{Hash};
 ghost use Rattle.csp_model.specs.declared.source.Keyword.{Keyword};
 ghost use Rattle.csp_model.specs.declared.source.Source.{Source};
+ghost use Rattle.csp_model.specs.declared.url.Host.{Host};
 ghost use Rattle.csp_model.specs.declared.url.Origin.{Origin};
 ghost use Rattle.csp_model.specs.declared.url.Url.{Url};
 
-/// A source expression, and a source list, matches a URL by its test exactly where it does so by the
-/// standard's relation.
+/// Two hosts, ports, algorithms, hashes or keywords are one by their test exactly where they are equal.
+pub fn tests_of_equality_decide_it()
+    ensures host { (a b : Host) → (IsTrue (same_host a b) ↔ (a ≡ b)) }
+    ensures port { (a b : Option ℕ) → (IsTrue (same_port a b) ↔ (a ≡ b)) }
+    ensures algorithm { (a b : Algorithm) → (IsTrue (same_algorithm a b) ↔ (a ≡ b)) }
+    ensures hash { (a b : Hash) → (IsTrue (same_hash a b) ↔ (a ≡ b)) }
+    ensures keyword { (a b : Keyword) → (IsTrue (same_keyword a b) ↔ (a ≡ b)) }
+{}
+
+/// A host lies under a suffix, and a source expression, and a source list, matches a URL, by its test exactly
+/// where it does so by the standard's relation.
 pub fn tests_of_matching_decide_it()
+    ensures under { (host : Host) (suffix : List ℕ)
+        → (IsTrue (is_host_under host suffix) ↔ IsHostUnder host suffix) }
     ensures source { (s : Source) (self : Origin) (there : Url) (redirected : Bool)
         → (IsTrue (matches s self there redirected) ↔ Matches s self there redirected) }
     ensures list { (sources : List Source) (self : Origin) (there : Url) (redirected : Bool)
@@ -83,19 +98,21 @@ pub fn a_verdict_blocks_what_the_list_refuses()
 /// Policies that are added to a list can only forbid more: two lists joined allow what both of them allow.
 pub fn joined_lists_allow_what_both_allow()
     ensures { (first second : PolicyList) (asked : Check)
-        → list_allows (joined first second) asked ≡ (list_allows first asked && list_allows second asked) }
+        → list_allows (record { policies = first.policies ++ second.policies }) asked
+        ≡ (list_allows first asked && list_allows second asked) }
 {}
 
 /// A policy that only reports changes nothing of what is allowed, wherever it stands.
 pub fn a_report_only_policy_forbids_nothing()
-    ensures { (front back : List Policy) (p : Policy) → p.disposition ≡ Report
-        → AllowSame (record { policies = front ++ p ∷ back }) (record { policies = front ++ back }) }
+    ensures { (front back : List Policy) (p : Policy) (asked : Check) → p.disposition ≡ Report
+        → list_allows (record { policies = front ++ p ∷ back }) asked
+        ≡ list_allows (record { policies = front ++ back }) asked }
 {}
 
 /// The order of policies makes no difference to what is allowed.
 pub fn order_changes_nothing()
-    ensures { (first second : PolicyList)
-        → IsPermutation first.policies second.policies → AllowSame first second }
+    ensures { (first second : PolicyList) (asked : Check) → IsPermutation first.policies second.policies
+        → list_allows first asked ≡ list_allows second asked }
 {}
 
 /// Every list is at least as strict as itself.

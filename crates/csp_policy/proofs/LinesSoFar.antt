@@ -1,13 +1,13 @@
 -- The lines of a block so far, and the first bad one.
 use Rattle.std.proofs.Common.{arith, ◌≡◌, ◌∙◌, sym, ap, refl, ℕ, ◌+◌, ◌<◌, false, Bor, List, [], ◌∷◌, ◌++◌, length, map, take, drop, get_or, Option, Some, None, append_assoc}
-use Rattle.std.specs.List.{flat_map}
+use Rattle.std.specs.List.{flat_map, position_from}
 use Rattle.std.specs.Str.Lines.{strip_carriage_return}
 use Rattle.std.proofs.lemmas.Grind.{common_steps}
 use Rattle.std.proofs.lemmas.List.{map_push, map-append, flat_map_more, take_more, take-append-drop}
 use Rattle.std.proofs.lemmas.Iterator.{YieldsList}
 use Rattle.std.proofs.lemmas.Iterator.Consumers.{YieldsList-so_far, YieldsList-turn}
 use Rattle.std.specs.Iterator.{Yields}
-use Rattle.csp_model.specs.Policies.{Line, Skipped, Bad, Header, line_of, is_bad, first_bad_from, policies_of}
+use Rattle.csp_model.specs.Policies.{Line, Skipped, Bad, Header, line_of, is_bad, policies_of}
 use Rattle.csp_model.specs.declared.url.Origin.{Origin}
 
 -- what the lines say
@@ -23,14 +23,14 @@ says_more parts part = ap (map line_of) (map_push strip_carriage_return parts pa
 said_more : (lines : List (Bor (List ℕ))) (line : Bor (List ℕ)) → said (lines ++ line ∷ []) ≡ said lines ++ line_of (strip_carriage_return line.now) ∷ []
 said_more lines line = ap says (map_push (λ (x : Bor (List ℕ)). x.now) lines line) ∙ says_more (map (λ (x : Bor (List ℕ)). x.now) lines) line.now
 
-good_more : (n : ℕ) (lines : List Line) (line : Line) → first_bad_from n lines ≡ None → is_bad line ≡ false → first_bad_from n (lines ++ line ∷ []) ≡ None
+good_more : (n : ℕ) (lines : List Line) (line : Line) → position_from is_bad n lines ≡ None → is_bad line ≡ false → position_from is_bad n (lines ++ line ∷ []) ≡ None
 good_more n [] line h k = grind (arith, common_steps, k)
 good_more n (x ∷ lines) line h k = grind (arith, common_steps, k, good_more (n + 1) lines line)
 
 -- one more line that isn't bad
 pub still_good : (lines : List (Bor (List ℕ))) (line : Bor (List ℕ)) (said_line : Line) → said_line ≡ line_of (strip_carriage_return line.now) → is_bad said_line ≡ false
-    → first_bad_from 1 (said lines) ≡ None → first_bad_from 1 (said (lines ++ line ∷ [])) ≡ None
-still_good lines line said_line is good h = ap (first_bad_from 1) (said_more lines line) ∙ good_more 1 (said lines) _ h (ap is_bad (sym is) ∙ good)
+    → position_from is_bad 1 (said lines) ≡ None → position_from is_bad 1 (said (lines ++ line ∷ [])) ≡ None
+still_good lines line said_line is good h = ap (position_from is_bad 1) (said_more lines line) ∙ good_more 1 (said lines) _ h (ap is_bad (sym is) ∙ good)
 
 -- what one more line adds
 pub read_more : (origin : Origin) (lines : List (Bor (List ℕ))) (line : Bor (List ℕ)) (said_line : Line) → said_line ≡ line_of (strip_carriage_return line.now)
@@ -40,7 +40,7 @@ read_more origin lines line said_line is =
     ∙ ap (flat_map (policies_of origin)) (sym (said_more lines line))
 
 -- the first bad line stands after good ones, whatever follows it
-first_is : (n : ℕ) (lines rest : List Line) → first_bad_from n lines ≡ None → first_bad_from n (lines ++ Bad ∷ rest) ≡ Some (n + length lines)
+first_is : (n : ℕ) (lines rest : List Line) → position_from is_bad n lines ≡ None → position_from is_bad n (lines ++ Bad ∷ rest) ≡ Some (n + length lines)
 first_is n [] rest h = ap Some (omega arith)
 first_is n (Bad ∷ lines) rest h = cc
 first_is n (Skipped ∷ lines) rest h = first_is (n + 1) lines rest h ∙ ap Some (omega arith)
@@ -60,10 +60,10 @@ said_length [] = refl
 said_length (line ∷ lines) = let ih = said_length lines in omega arith
 
 pub bad_at : (parts : List (List ℕ)) (lines : List (Bor (List ℕ))) (line : Bor (List ℕ)) → map (λ (x : Bor (List ℕ)). x.now) lines ≡ take (length lines) parts
-    → (length lines < length parts) × (line.now ≡ get_or parts (length lines) line.now) → first_bad_from 1 (said lines) ≡ None → Bad ≡ line_of (strip_carriage_return line.now)
-    → first_bad_from 1 (says parts) ≡ Some (length lines + 1)
+    → (length lines < length parts) × (line.now ≡ get_or parts (length lines) line.now) → position_from is_bad 1 (said lines) ≡ None → Bad ≡ line_of (strip_carriage_return line.now)
+    → position_from is_bad 1 (says parts) ≡ Some (length lines + 1)
 bad_at parts lines line so_far now good bad =
-    ap (first_bad_from 1) (says_at parts (length lines) line.now now.0 ∙ ap (λ front. says front ++ line_of (strip_carriage_return (get_or parts (length lines) line.now)) ∷ says (drop (length lines + 1) parts)) (sym so_far)
+    ap (position_from is_bad 1) (says_at parts (length lines) line.now now.0 ∙ ap (λ front. says front ++ line_of (strip_carriage_return (get_or parts (length lines) line.now)) ∷ says (drop (length lines + 1) parts)) (sym so_far)
     ∙ ap (λ l. said lines ++ l ∷ says (drop (length lines + 1) parts)) (ap (λ t. line_of (strip_carriage_return t)) (sym now.1) ∙ sym bad))
     ∙ first_is 1 (said lines) (says (drop (length lines + 1) parts)) good ∙ ap Some (said_length lines)
 

@@ -1,6 +1,7 @@
 //! The lines of a header block (RFC 9110, sections 5.1, 5.5 and 5.6.2).
-ghost use Rattle.std.specs.Prelude.{◌≡◌, ◌<◌, length, IfSome, position};
+ghost use Rattle.std.specs.Prelude.{◌≡◌, ◌==◌, ◌<◌, length, IfSome, position};
 ghost use Rattle.std.specs.Str.Lines.{strip_carriage_return};
+ghost use Rattle.csp_model.specs.Ascii.{code};
 ghost use Rattle.csp_model.specs.Policies as spec;
 ghost use Rattle.csp_policy.specs.Lines.{line_said};
 
@@ -25,13 +26,11 @@ fn is_field_name(name: &[u8]) -> bool
 fn is_field_value(value: &[u8]) -> bool
     ensures { result ≡ spec.is_field_value value.now }
 {
-    value
-        .iter()
-        .all(|b| *b == b'\t' || (b' ' <= *b && *b != 127))
+    value.iter().all(|b| *b == b'\t' || !b.is_ascii_control())
 }
 
 fn colon_at(line: &[u8]) -> Option<usize>
-    ensures value { result ≡ position spec.is_colon line.now }
+    ensures value { result ≡ position (λ c. c == code ":") line.now }
     ensures bound { IfSome result (λ at. at < length line.now) }
 {
     line.iter().position(|b| *b == b':')
@@ -84,7 +83,7 @@ pub(crate) fn read_line(line: &[u8]) -> Line<'_>
 }
 
 fn newline_at(bytes: &[u8]) -> Option<usize>
-    ensures value { result ≡ position spec.is_newline bytes.now }
+    ensures value { result ≡ position (λ c. c == code "\n") bytes.now }
     ensures bound { IfSome result (λ at. at < length bytes.now) }
 {
     bytes.iter().position(|b| *b == b'\n')

@@ -1,5 +1,5 @@
 -- Host-sources: the reading and the grammar agree.
-use Rattle.std.proofs.Common.{arith, ◌≡◌, ◌∙◌, sym, ap, refl, ℕ, Bool, true, false, ◌&&◌, ◌+◌, suc, List, [], ◌∷◌, ◌++◌, length, take, drop, Some, None, nat_eq, cond, inl, inr, append_assoc}
+use Rattle.std.proofs.Common.{arith, ◌≡◌, ◌∙◌, sym, ap, refl, ℕ, Bool, true, false, ◌&&◌, List, [], ◌∷◌, ◌++◌, length, take, drop, Some, None, nat_eq, cond, inl, inr, append_assoc}
 use Rattle.std.specs.Prelude.{codes, ⊤, Option, if◌then◌else◌, ◌==◌, ◌⊎◌}
 use Rattle.std.specs.List.{list_all, slice_split, starts_with, onto_first, prefix_len, take_while}
 use Rattle.std.specs.Char.{is_ascii_digit}

@@ -1,5 +1,5 @@
 -- A port's spelling is read as that port.
-use Rattle.std.proofs.Common.{arith, ◌≡◌, ◌∙◌, sym, ap, refl, ℕ, ◌+◌, ◌-◌, ◌*◌, ◌/◌, ◌%◌, ◌^◌, ◌<◌, ◌≤◌, Bool, true, false, List, [], ◌∷◌, ◌++◌, Some, None, cond, inl, inr}
+use Rattle.std.proofs.Common.{arith, ◌≡◌, ◌∙◌, sym, ap, refl, ℕ, ◌+◌, ◌-◌, ◌*◌, ◌/◌, ◌%◌, ◌^◌, ◌<◌, ◌≤◌, Bool, true, false, not, List, [], ◌∷◌, ◌++◌, Some, None, cond, inl, inr}
 use Rattle.std.specs.Prelude.{codes, ◌==◌, bytes_eq, nat_lt, decimal, if◌then◌else◌}
 use Rattle.std.specs.Char.{is_ascii_digit}
 use Rattle.std.proofs.lemmas.Grind.{common_steps}
@@ -85,15 +85,15 @@ unfolding port_part_of
 small_port [] n e = cc
 small_port (c ∷ text) n e =
     let behind = if bytes_eq text (codes "*") then Some port.Any else if are_digits text then Some (port_numbered (decimal_value text)) else None in
-    elim (chosen (c == 58) behind None (port.Number n) e) [
-      | inl one ↦ elim (chosen (bytes_eq text (codes "*")) (Some port.Any) (if are_digits text then Some (port_numbered (decimal_value text)) else None) (port.Number n) one.1) [
+    elim (chosen (not (c == 58)) None behind (port.Number n) e) [
+      | inl other ↦ cc
+      | inr one ↦ elim (chosen (bytes_eq text (codes "*")) (Some port.Any) (if are_digits text then Some (port_numbered (decimal_value text)) else None) (port.Number n) one.1) [
         | inl two ↦ cc
         | inr three ↦ elim (chosen (are_digits text) (Some (port_numbered (decimal_value text))) None (port.Number n) three.1) [
           | inl four ↦ let is : port_numbered (decimal_value text) ≡ port.Number n = cc in small_numbered (decimal_value text) n is
           | inr five ↦ cc
         ]
       ]
-      | inr two ↦ cc
     ]
 
 pub port_spelt : (text : List ℕ) (p : PortPart) → port_part_of text ≡ Some p → port_part_of (port_spelling p) ≡ Some p

@@ -1,5 +1,5 @@
 -- What a source is written as reads back to it.
-use Rattle.std.proofs.Common.{◌≡◌, ◌∙◌, sym, ap, refl, subst, ℕ, Bool, true, ◌&&◌, List, [], ◌∷◌, ◌++◌, Some, None, Option, cond, false, drop, inl, inr, nat_eq}
+use Rattle.std.proofs.Common.{◌≡◌, ◌∙◌, sym, ap, refl, subst, ℕ, Bool, true, not, ◌&&◌, List, [], ◌∷◌, ◌++◌, Some, None, Option, cond, false, drop, inl, inr, nat_eq}
 use Rattle.std.specs.Prelude.{codes, ◌≢◌, ◌==◌, bytes_eq, nat_lt, if◌then◌else◌}
 use Rattle.std.specs.List.{starts_with}
 use Rattle.std.proofs.lemmas.Slice.Eq.{bytes_eq-Decides}
@@ -89,15 +89,15 @@ unfolding port_part_of
 no_port_is [] e = refl
 no_port_is (c ∷ text) e =
     let numbered = if are_digits text then Some (port_numbered (decimal_value text)) else None in
-    elim (chosen (c == 58) (if bytes_eq text (codes "*") then Some port.Any else numbered) None port.Absent e) [
-      | inl one ↦ elim (chosen (bytes_eq text (codes "*")) (Some port.Any) numbered port.Absent one.1) [
+    elim (chosen (not (c == 58)) None (if bytes_eq text (codes "*") then Some port.Any else numbered) port.Absent e) [
+      | inl other ↦ cc
+      | inr one ↦ elim (chosen (bytes_eq text (codes "*")) (Some port.Any) numbered port.Absent one.1) [
         | inl two ↦ cc
         | inr three ↦ elim (chosen (are_digits text) (Some (port_numbered (decimal_value text))) None port.Absent three.1) [
           | inl four ↦ absurd (numbered_not_absent (decimal_value text) (cc four.1))
           | inr five ↦ cc
         ]
       ]
-      | inr two ↦ cc
     ]
 
 path_not_absent : (b : Bool) (x y : List (List ℕ)) → cond b (path.Prefix x) (path.Exact y) ≡ path.Absent → ⊥

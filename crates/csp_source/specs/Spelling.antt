@@ -1,8 +1,7 @@
 -- The one spelling of a source (Content Security Policy Level 3, section 2.3.1): letters in lower case where
 -- case doesn't count, ports without leading zeros, pieces of paths percent-encoded (RFC 3986, section 2.1).
 use Rattle.std.specs.Prelude.{◌≡◌, ℕ, List, [], ◌∷◌, ◌++◌, Option, Some, None, IsTrue, codes, decimal}
-use Rattle.csp_model.specs.Ascii.{is_ascii_text}
-use Rattle.csp_model.specs.Bytes.{quote}
+use Rattle.csp_model.specs.Ascii.{code, is_ascii_text}
 use Rattle.csp_model.specs.Grammar.{keyword_text, algorithm_text}
 use Rattle.csp_model.specs.Paths.{path_text}
 use Rattle.csp_model.specs.Reading.{source_of}
@@ -47,7 +46,7 @@ spelling (source.Hosted scheme host_part port_part path_part) =
 spelling (source.Word word) = keyword_text word
 spelling (source.Nonce value) = codes "'nonce-" ++ (value ++ codes "'")
 spelling (source.Digest hash) =
-    (quote ∷ algorithm_text hash.algorithm ++ codes "-") ++ (hash.value ++ codes "'")
+    (code "'" ∷ algorithm_text hash.algorithm ++ codes "-") ++ (hash.value ++ codes "'")
 spelling (source.Other token) = token
 
 -- some ASCII token reads as the source

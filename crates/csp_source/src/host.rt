@@ -1,8 +1,7 @@
 //! The host of a host-source (Content Security Policy Level 3, section 2.3.1).
 ghost use Rattle.std.specs.Prelude.{◌≡◌, ◌≤◌, length, IfOk, IsTrue};
 ghost use Rattle.std.specs.List.{list_all, prefix_len};
-ghost use Rattle.csp_model.specs.Ascii.{is_ascii_text, split_at};
-ghost use Rattle.csp_model.specs.Bytes.{dot};
+ghost use Rattle.csp_model.specs.Ascii.{code, is_ascii_text, split_at};
 ghost use Rattle.csp_model.specs.Grammar as spec;
 ghost use Rattle.csp_model.specs.Reading as reading;
 
@@ -30,7 +29,7 @@ fn is_label(text: &[u8]) -> bool
 }
 
 fn are_labels(text: &[u8]) -> bool
-    ensures { result ≡ list_all spec.is_label (split_at dot text.now) }
+    ensures { result ≡ list_all spec.is_label (split_at (code ".") text.now) }
 {
     text.split(|b| *b == b'.').all(|label| is_label(label))
 }

@@ -1,8 +1,7 @@
 //! The path of a host-source (Content Security Policy Level 3, section 2.3.1; RFC 3986, section 3.3).
 ghost use Rattle.std.specs.Prelude.{◌≡◌, Some, IfOk, IsTrue, is_some};
 ghost use Rattle.std.specs.List.{list_all};
-ghost use Rattle.csp_model.specs.Ascii.{split_at};
-ghost use Rattle.csp_model.specs.Bytes.{slash};
+ghost use Rattle.csp_model.specs.Ascii.{code, split_at};
 ghost use Rattle.csp_model.specs.Grammar as spec;
 
 use csp_model::{List, Memory, PathPart, pieces_of};
@@ -43,7 +42,7 @@ fn is_segment(text: &[u8]) -> bool
 }
 
 fn all_segments(text: &[u8]) -> bool
-    ensures { result ≡ list_all spec.is_segment (split_at slash text.now) }
+    ensures { result ≡ list_all spec.is_segment (split_at (code "/") text.now) }
 {
     text.split(|b| *b == b'/')
         .all(|segment| is_segment(segment))
@@ -51,7 +50,7 @@ fn all_segments(text: &[u8]) -> bool
 
 // The text behind a path's first slash is segments, of which the first is empty only where it stands alone.
 fn are_segments(text: &[u8]) -> bool
-    ensures { result ≡ spec.are_segments (split_at slash text.now) }
+    ensures { result ≡ spec.are_segments (split_at (code "/") text.now) }
 {
     match text.split_first() {
         None => true,

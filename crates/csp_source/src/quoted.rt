@@ -3,8 +3,7 @@
 ghost use Rattle.std.specs.Prelude.{◌≡◌, ◌++◌, ◌∷◌, ◌&&◌, if◌then◌else◌, IfOk, IfSome, IsTrue, Some, None, option_copied, codes};
 ghost use Rattle.std.specs.List.{list_all, find};
 ghost use Rattle.std.specs.Str.{bytes_eq};
-ghost use Rattle.csp_model.specs.Ascii.{is_ascii_text, lower, ends_in, without_last};
-ghost use Rattle.csp_model.specs.Bytes.{quote};
+ghost use Rattle.csp_model.specs.Ascii.{code, is_ascii_text, lower, ends_in, without_last};
 ghost use Rattle.csp_model.specs.Grammar as grammar;
 ghost use Rattle.csp_model.specs.Reading as spec;
 
@@ -93,7 +92,7 @@ fn spells_word(letters: &[u8], word: &[u8]) -> bool
 #[tactic(auto, using(csp_model::proofs::FinalBytes::byte_turned, csp_model::proofs::AsciiParts::take_ascii))]
 fn value_before_apostrophe(rest: &[u8]) -> Option<&[u8]>
     ensures value { option_copied result
-        ≡ (if ends_in quote rest.now && grammar.is_base64_value (without_last rest.now)
+        ≡ (if ends_in (code "'") rest.now && grammar.is_base64_value (without_last rest.now)
         then Some (without_last rest.now) else None) }
     ensures ascii { IsTrue (is_ascii_text rest.now)
         → IfSome result (λ value. IsTrue (is_ascii_text value.now)) }
@@ -139,7 +138,7 @@ pub(crate) fn nonce_source(alloc: Global, token: &[u8]) -> Result<Option<Source>
 
 // What a hash-source of the algorithm begins with.
 pub(crate) fn hash_word(algorithm: Algorithm) -> &'static str
-    ensures { result.now ≡ quote ∷ grammar.algorithm_text algorithm ++ codes "-" }
+    ensures { result.now ≡ code "'" ∷ grammar.algorithm_text algorithm ++ codes "-" }
 {
     match algorithm {
         Algorithm::Sha256 => "'sha256-",

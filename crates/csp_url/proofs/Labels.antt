@@ -1,7 +1,10 @@
 -- The last part of a text.
 use Rattle.std.proofs.Common.{◌≡◌, List, [], ◌∷◌, ℕ, map, Bor, Some, None, refl}
 use Rattle.std.specs.List.{last_or}
-use Rattle.csp_model.specs.Validity.{last_part}
+use Rattle.std.specs.Option.{unwrap_or}
+
+abbrev last_part : List (List ℕ) → List ℕ
+last_part parts = unwrap_or (last_or None parts) []
 
 last_from : (x : Bor (List ℕ)) (xs : List (Bor (List ℕ))) (l : Bor (List ℕ)) → Some l ≡ last_or (Some x) xs → l.now ≡ last_part (map (λ p. p.now) (x ∷ xs))
 last_from x [] l e = let same : l ≡ x = cc e in rw same refl

@@ -1,5 +1,5 @@
 mod Bytes
 mod Examples
 mod Labels
-mod PathText
+pub mod PathText
 mod Valid

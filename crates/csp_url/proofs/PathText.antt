@@ -11,7 +11,7 @@ use Rattle.csp_model.proofs.PathText.{split_at-path_text, decoded_again}
 use Rattle.csp_url.specs.Reading.{whole_pieces, found_path}
 use Rattle.csp_url.specs.Texts.{ReadsBack}
 
-path_back : (pieces : List (List ℕ)) → pieces ≢ [] → list_all is_piece pieces ≡ true → found_path (path_text pieces) ≡ Some pieces
+pub path_back : (pieces : List (List ℕ)) → pieces ≢ [] → list_all is_piece pieces ≡ true → found_path (path_text pieces) ≡ Some pieces
 unfolding found_path
 path_back [] some h = absurd (some refl)
 path_back (piece ∷ pieces) some h =

@@ -10,7 +10,7 @@ use Rattle.percent_encoding.specs.Percent.{percent_decode}
 use Rattle.url.specs.Parts.{Parts, nonempty_host}
 use Rattle.url.specs.declared.host.Host as web
 use Rattle.url.specs.declared.host.Host.TheVariants as web_host
-use Rattle.csp_model.specs.Bytes.{slash}
+use Rattle.csp_model.specs.Ascii.{code}
 use Rattle.csp_model.specs.Grammar.{pieces_of}
 use Rattle.csp_model.specs.Answers.{Gives}
 use Rattle.csp_model.specs.Schemes.{scheme_named, default_port}
@@ -104,13 +104,13 @@ given_port_valid scheme (Some n) number h = let c = some_if (nat_lt n 65536) (ke
 
 nonempty_split : (text : List ℕ) → pieces_of text ≢ []
 nonempty_split text h = let e : length (pieces_of text) ≡ 0 = ap length h in
-    let some = length-map (slice_split (λ b. b == slash) text) percent_decode ∙ length-slice_split (λ b. b == slash) text in
+    let some = length-map (slice_split (λ b. b == code "/") text) percent_decode ∙ length-slice_split (λ b. b == code "/") text in
     omega (arith, e, some)
 
 pub path_valid : (text : List ℕ) (pieces : List (List ℕ)) → found_path text ≡ Some pieces → (pieces ≢ []) × IsTrue (list_all is_piece pieces)
 unfolding found_path
 path_valid [] pieces h = absurd (cc h)
-path_valid (b ∷ text) pieces h = by (b == slash) h where
+path_valid (b ∷ text) pieces h = by (b == code "/") h where
   by : (s : Bool) → (if s then whole_pieces (pieces_of text) else None) ≡ Some pieces → (pieces ≢ []) × IsTrue (list_all is_piece pieces)
   by true e = let c = some_if (list_all is_piece (pieces_of text)) (pieces_of text) pieces e in
       (subst (λ ps. ps ≢ []) c.1 (nonempty_split text), subst (λ ps. IsTrue (list_all is_piece ps)) c.1 c.0)

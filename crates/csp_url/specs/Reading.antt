@@ -7,7 +7,7 @@ use Rattle.url.specs.Parts.{Parts, nonempty_host}
 use Rattle.url.specs.Host.{host_text}
 use Rattle.url.specs.declared.host.Host as web
 use Rattle.url.specs.declared.host.Host.TheVariants as web_host
-use Rattle.csp_model.specs.Bytes.{slash}
+use Rattle.csp_model.specs.Ascii.{code}
 use Rattle.csp_model.specs.Grammar.{pieces_of}
 use Rattle.csp_model.specs.Schemes.{scheme_named, default_port}
 use Rattle.csp_model.specs.Validity.{is_domain, is_address, is_piece, is_lower_scheme}
@@ -51,7 +51,7 @@ whole_pieces pieces = if list_all is_piece pieces then Some pieces else None
 -- the decoded pieces behind the slashes of a path, where they are valid
 unfoldable pub found_path : List ℕ → Option (List (List ℕ))
 found_path [] = None
-found_path (b ∷ text) = if b == slash then whole_pieces (pieces_of text) else None
+found_path (b ∷ text) = if b == code "/" then whole_pieces (pieces_of text) else None
 
 -- the URL of a scheme that has hosts
 abbrev pub hosted_from : Scheme → Parts → Option Url

@@ -1,8 +1,7 @@
 //! Addresses as the standard prints them (URL Standard, section 3.5), those of version 6 loosely.
 ghost use Rattle.std.specs.Prelude.{◌≡◌, length};
 ghost use Rattle.std.specs.List.{list_all};
-ghost use Rattle.csp_model.specs.Ascii.{split_at};
-ghost use Rattle.csp_model.specs.Bytes.{dot};
+ghost use Rattle.csp_model.specs.Ascii.{code, split_at};
 ghost use Rattle.csp_model.specs.Validity as spec;
 
 use csp_model::{are_digits, decimal_value};
@@ -14,13 +13,13 @@ fn is_octet(part: &[u8]) -> bool
 }
 
 fn are_octets(text: &[u8]) -> bool
-    ensures { result ≡ list_all spec.is_octet (split_at dot text.now) }
+    ensures { result ≡ list_all spec.is_octet (split_at (code ".") text.now) }
 {
     text.split(|b| *b == b'.').all(|part| is_octet(part))
 }
 
 fn part_count(text: &[u8]) -> usize
-    ensures { result ≡ length (split_at dot text.now) }
+    ensures { result ≡ length (split_at (code ".") text.now) }
 {
     text.split(|b| *b == b'.').count()
 }

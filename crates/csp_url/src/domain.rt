@@ -1,9 +1,8 @@
 //! Domains (URL Standard, sections 3.2 to 3.5).
-ghost use Rattle.std.specs.Prelude.{◌≡◌};
-ghost use Rattle.std.specs.List.{list_all};
+ghost use Rattle.std.specs.Prelude.{◌≡◌, [], None, unwrap_or};
+ghost use Rattle.std.specs.List.{last_or, list_all};
 ghost use Rattle.std.specs.Char.{is_ascii_hexdigit};
-ghost use Rattle.csp_model.specs.Ascii.{without_final, split_at};
-ghost use Rattle.csp_model.specs.Bytes.{dot};
+ghost use Rattle.csp_model.specs.Ascii.{code, without_final, split_at};
 ghost use Rattle.csp_model.specs.Validity as spec;
 
 use csp_model::are_digits;
@@ -53,7 +52,7 @@ fn is_hex_number(label: &[u8]) -> bool
 }
 
 fn without_dot(text: &[u8]) -> &[u8]
-    ensures { result.now ≡ without_final dot text.now }
+    ensures { result.now ≡ without_final (code ".") text.now }
 {
     match text {
         [front @ .., b'.'] => front,
@@ -62,7 +61,7 @@ fn without_dot(text: &[u8]) -> &[u8]
 }
 
 fn last_label(text: &[u8]) -> &[u8]
-    ensures { result.now ≡ spec.last_part (split_at dot text.now) }
+    ensures { result.now ≡ unwrap_or (last_or None (split_at (code ".") text.now)) [] }
 {
     match text.split(|b| *b == b'.').last() {
         Some(label) => label,

@@ -1,10 +1,10 @@
 use Rattle.std.proofs.Common.{arith, rules, ◌∙◌, ◌==◌, ◌+◌, sym, ap, subst, refl, inr, Some, append-nil}
-use Rattle.std.specs.List.{flat_map}
+use Rattle.std.specs.List.{flat_map, position_from}
 use Rattle.std.proofs.lemmas.List.{length_push}
 use Rattle.std.proofs.lemmas.Iterator.Consumers.{YieldsList-at, YieldsList-end}
 use Rattle.std.proofs.lemmas.Iterator.Splits.{YieldsList-from_slice_split}
 use Rattle.csp_model.specs.Ascii.{split_at}
-use Rattle.csp_model.specs.Policies.{Skipped, Header, policies, policies_of, first_bad_from}
+use Rattle.csp_model.specs.Policies.{Skipped, Header, policies, policies_of, is_bad}
 use Rattle.csp_policy.specs.Room.{AreRead}
 use Rattle.csp_policy.specs.Refusal.{refusal_at}
 use Rattle.csp_policy.proofs.LinesSoFar.{says, said, still_good, read_more, bad_at, at_turn}
@@ -39,7 +39,7 @@ returns-in-Bad-clause-bad c =
     (YieldsList-from_slice_split _ (λ b. b == 10) c.without_status.result.now c.split-line-items.ensures.rest c.split-line-items.ensures.done c.split-line-items.ensures.closure (λ x b q k. search rules)))
     c.loop-line.yielded _ c.loop-line.yielded_by _ _ c.in-Some.line c.in-Some.is c.next.ensures.steps in
     inr (ap (λ o. refusal_at o (policies c.args.bytes.now c.args.origin.now))
-    (ap (λ bytes. first_bad_from 1 (says (split_at 10 bytes))) (sym c.without_status.ensures)
+    (ap (λ bytes. position_from is_bad 1 (says (split_at 10 bytes))) (sym c.without_status.ensures)
     ∙ bad_at (split_at 10 c.without_status.result.now) c.loop-line.yielded c.in-Some.line turn.0 turn.1 c.loop-line.invariant.good c.in-Bad.ensures
     ∙ ap (λ n. Some (n + 1)) (sym c.loop-line.invariant.number)))
 
@@ -56,4 +56,4 @@ returns-clause-good c =
     let all = YieldsList-end (YieldsList-at c.into_iter-line-iterator.ensures.into_iter_gives
     (YieldsList-from_slice_split _ (λ b. b == 10) c.without_status.result.now c.split-line-items.ensures.rest c.split-line-items.ensures.done c.split-line-items.ensures.closure (λ x b q k. search rules)))
     c.loop-line.yielded _ c.loop-line.yielded_by _ _ c.in-None.is c.next.ensures.steps in
-    ap (λ parts. first_bad_from 1 (says parts)) (sym (all.0 ∙ ap (split_at 10) c.without_status.ensures)) ∙ c.loop-line.invariant.good
+    ap (λ parts. position_from is_bad 1 (says parts)) (sym (all.0 ∙ ap (split_at 10) c.without_status.ensures)) ∙ c.loop-line.invariant.good

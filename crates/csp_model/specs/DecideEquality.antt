@@ -1,4 +1,4 @@
--- When two values of the types here are one.
+-- Whether two hosts, ports, algorithms, hashes or keywords are one, as tests.
 use Rattle.std.specs.Prelude.{ℕ, ◌==◌, ◌&&◌, Bool, true, false, Option, Some, None}
 use Rattle.std.specs.Str.{bytes_eq}
 use Rattle.csp_model.specs.declared.source.Algorithm.{Algorithm}

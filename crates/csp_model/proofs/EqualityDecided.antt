@@ -1,10 +1,10 @@
--- The tests of `Same` decide equality.
+-- The tests of `DecideEquality` decide equality.
 use Rattle.std.proofs.Common.{◌≡◌, ℕ, List, Option, Some, None, refl, ap, ◌∙◌, ◌==◌}
 use Rattle.std.specs.Bool.{Decides}
 use Rattle.std.specs.Str.{bytes_eq}
 use Rattle.std.proofs.lemmas.Bool.Decides.{Decides-and, Decides-like, Decides-eqb}
 use Rattle.std.proofs.lemmas.Slice.Eq.{bytes_eq-Decides}
-use Rattle.csp_model.specs.Same.{same_host, same_port, same_algorithm, same_hash, same_keyword}
+use Rattle.csp_model.specs.DecideEquality.{same_host, same_port, same_algorithm, same_hash, same_keyword}
 use Rattle.csp_model.proofs.Deciding.{no, yes}
 use Rattle.csp_model.specs.declared.source.Algorithm.{Algorithm}
 use Rattle.csp_model.specs.declared.source.Algorithm.TheVariants.{Sha256, Sha384, Sha512}
