@@ -1,13 +1,21 @@
 //! Whether a source expression matches a URL, and which directive governs a check (Content Security
 //! Policy Level 3, sections 6.7.2, 6.8.3 and 6.8.4).
 //!
-//! No call takes memory.
+//! No call but `Index::new` takes memory.
 #![tactic(auto)]
 
+mod asked;
 mod fallback;
 mod governs;
 mod host;
+mod host_index;
+mod host_key;
+mod host_source;
+mod index;
+mod multimap;
 mod path;
+mod path_key;
+mod pieces;
 mod port;
 mod scheme;
 mod self_source;
@@ -15,4 +23,5 @@ mod source;
 
 pub use fallback::{governing, governor};
 pub use governs::Governor;
+pub use index::Index;
 pub use source::{list_matches, source_matches};

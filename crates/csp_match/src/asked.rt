@@ -1,0 +1,13 @@
+//! What is asked of an index.
+use csp_model::{Bytes, Host, List, Origin, Scheme};
+
+// A URL with a host, in a policy of an origin.
+#[derive(Clone, Copy)]
+pub(crate) struct Asked<'a> {
+    pub(crate) origin: &'a Origin,
+    pub(crate) scheme: Scheme,
+    pub(crate) host: &'a Host,
+    pub(crate) port: Option<u16>,
+    pub(crate) path: &'a List<Bytes>,
+    pub(crate) redirected: bool,
+}

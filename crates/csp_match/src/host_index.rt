@@ -1,0 +1,186 @@
+//! An index of host-sources by host and path.
+ghost use Rattle.std.specs.Prelude.{◌≡◌, ◌≤◌, All, Bool, IfOk, OnOk, map};
+ghost use Rattle.std.specs.List.{list_any};
+ghost use Rattle.csp_model.specs.declared.source.HostPart.TheVariants as host_part;
+ghost use Rattle.csp_match.specs.Entries.{entry_parts, scheme_of, way_fits, way_port, IsPlace};
+ghost use Rattle.csp_match.specs.Keys.{host_of, key_length, shape_of, IsHostKey, Parts as HostSource};
+ghost use Rattle.csp_match.specs.Under as spec;
+
+use crate::asked::Asked;
+use crate::host_key::HostKey;
+use crate::host_source::{Place, Way};
+use crate::multimap::Multimap;
+use crate::path_key::PathShape;
+use csp_model::{Host, Memory};
+use std::alloc::Global;
+use std::marker::Model;
+
+// Host-sources by host, and by path under each host.
+#[derive(Drop)]
+pub(crate) struct HostIndex<'a> {
+    // The length of the longest suffix: no longer one is looked up.
+    longest_suffix: usize,
+    // The shapes of the paths under each host: only these are looked up.
+    shapes: Multimap<HostKey<'a>, PathShape>,
+    // The ways to each host and path.
+    ways: Multimap<Place<'a>, Way<'a>>,
+    // The ways to each host, for where paths aren't compared.
+    pathless: Multimap<HostKey<'a>, Way<'a>>,
+}
+
+impl<'a> Model for HostIndex<'a> {
+    ghost use Rattle.std.specs.Prelude.{List};
+    ghost use Rattle.csp_match.specs.Keys.{Parts};
+
+    ghost Value = { List Parts };
+
+    ghost use Rattle.csp_match.specs.HostIndex.{parts_inside, IsHostIndex};
+
+    ghost view = { parts_inside };
+
+    ghost invariant = { IsHostIndex };
+}
+
+impl<'a> HostIndex<'a> {
+    pub(crate) fn new(
+        alloc: Global,
+        entries: Vec<(Place<'a>, Way<'a>)>,
+    ) -> Result<HostIndex<'a>, Memory>
+        requires { All (λ e. IsPlace e.0) entries.items }
+        ensures { IfOk result (λ made. (p : HostSource → Bool)
+            → list_any p made ≡ list_any p (map entry_parts entries.entry.items)) }
+    {
+        let shapes = host_shapes(alloc, entries.as_slice())?;
+        let pathless = host_ways(alloc, entries.as_slice())?;
+        let longest_suffix = longest_suffix(entries.as_slice());
+        Ok(HostIndex {
+            longest_suffix,
+            shapes: Multimap::new(shapes),
+            ways: Multimap::new(entries),
+            pathless: Multimap::new(pathless),
+        })
+    }
+
+    // Whether some host-source matches a URL.
+    pub(crate) fn matches(&self, asked: &Asked<'_>) -> bool
+        ensures { result ≡ list_any (spec.parts_match asked.now) self.now }
+    {
+        let text = asked.host.as_str().as_bytes();
+        if self.matches_under(HostKey::Exact(text), asked) {
+            return true;
+        }
+        match asked.host {
+            Host::Domain(_) => {
+                self.matches_under(HostKey::Any, asked) || self.matches_suffix(text, asked)
+            }
+            Host::Address(_) => false,
+        }
+    }
+
+    // Whether some host-source whose suffix the domain has matches. The tails behind the domain's dots are
+    // looked up, but for those that are longer than all suffixes.
+    fn matches_suffix(&self, domain: &[u8], asked: &Asked<'_>) -> bool
+        ensures { result ≡ spec.any_suffixed domain.now asked.now self.now }
+    {
+        let longer = domain.len().saturating_sub(self.longest_suffix);
+        let first = longer.saturating_sub(1);
+        for at in first..domain.len() {
+            if domain[at] == b'.' && self.matches_under(HostKey::under(&domain[at + 1..]), asked) {
+                return true;
+            }
+        }
+        false
+    }
+
+    // Whether some host-source of a host matches.
+    fn matches_under(&self, host: HostKey<'_>, asked: &Asked<'_>) -> bool
+        requires { IsHostKey host }
+        ensures { result ≡ spec.any_under (host_of host.entry) asked.now self.now }
+    {
+        if asked.redirected {
+            any_way_fits(self.pathless.get(&host), asked)
+        } else {
+            self.matches_shapes(host, self.shapes.get(&host), asked)
+        }
+    }
+
+    // Whether some host-source of a host matches, whose path is of one of these shapes.
+    fn matches_shapes(
+        &self,
+        host: HostKey<'_>,
+        shapes: &[(HostKey<'_>, PathShape)],
+        asked: &Asked<'_>,
+    ) -> bool
+        requires { IsHostKey host }
+        ensures { result
+            ≡ list_any (λ e. spec.any_at (host_of host.entry) e.1 asked.now self.now) shapes.now }
+    {
+        shapes
+            .iter()
+            .any(|pair| self.matches_at(host, pair.1, asked))
+    }
+
+    // Whether some host-source of a host matches, whose path is of a shape.
+    fn matches_at(&self, host: HostKey<'_>, shape: PathShape, asked: &Asked<'_>) -> bool
+        requires { IsHostKey host }
+        ensures { result ≡ spec.any_at (host_of host.entry) shape asked.now self.now }
+    {
+        match shape.pieces(asked.path.as_slice()) {
+            None => false,
+            Some(pieces) => {
+                let place = Place {
+                    host,
+                    shape,
+                    pieces,
+                };
+                any_way_fits(self.ways.get(&place), asked)
+            }
+        }
+    }
+}
+
+// Whether one of the ways is a URL's.
+fn any_way_fits<K>(ways: &[(K, Way<'_>)], asked: &Asked<'_>) -> bool
+    ensures { result ≡ list_any (λ e. way_fits (scheme_of e.1) (way_port e.1) asked.now) ways.now }
+{
+    ways.iter().any(|pair| pair.1.fits(asked))
+}
+
+fn host_shapes<'a>(
+    alloc: Global,
+    entries: &[(Place<'a>, Way<'a>)],
+) -> Result<Vec<(HostKey<'a>, PathShape)>, Memory>
+    ensures { IfOk result (λ made. made.items ≡ map (λ e. (e.0.host, e.0.shape)) entries.now) }
+{
+    Ok(
+        entries
+            .iter()
+            .map(|entry| (entry.0.host, entry.0.shape))
+            .collect(alloc)?,
+    )
+}
+
+fn host_ways<'a>(
+    alloc: Global,
+    entries: &[(Place<'a>, Way<'a>)],
+) -> Result<Vec<(HostKey<'a>, Way<'a>)>, Memory>
+    ensures { IfOk result (λ made. made.items ≡ map (λ e. (e.0.host, e.1)) entries.now) }
+{
+    Ok(
+        entries
+            .iter()
+            .map(|entry| (entry.0.host, entry.1))
+            .collect(alloc)?,
+    )
+}
+
+// The length of the longest suffix.
+fn longest_suffix(entries: &[(Place<'_>, Way<'_>)]) -> usize
+    ensures { All (λ e. key_length e.0.host ≤ result) entries.now }
+{
+    let mut longest = 0;
+    for entry in entries {
+        longest = entry.0.host.suffix_length().max(longest);
+    }
+    longest
+}

@@ -1,0 +1,95 @@
+//! Host-sources, as keys.
+ghost use Rattle.std.specs.Prelude.{◌≡◌, IfSome};
+ghost use Rattle.std.specs.Option.{option_map};
+ghost use Rattle.csp_match.specs.Keys as spec;
+ghost use Rattle.csp_match.specs.Entries as entries;
+
+use crate::asked::Asked;
+use crate::host_key::HostKey;
+use crate::path_key::{PathShape, pieces_of_part};
+use crate::pieces::Pieces;
+use crate::port::port_matches;
+use crate::scheme::own_scheme_matches;
+use csp_model::{PortPart, Source, Text};
+
+// A port that some URL has.
+#[derive(Clone, Copy, PartialEq, Eq, PartialOrd, Ord)]
+pub(crate) enum PortKey {
+    Absent,
+    Any,
+    Number(u16),
+}
+
+impl PortKey {
+    // None where no URL has such a port.
+    fn of(part: PortPart) -> Option<PortKey>
+        ensures { result ≡ spec.port_key part }
+    {
+        match part {
+            PortPart::Absent => Some(PortKey::Absent),
+            PortPart::Any => Some(PortKey::Any),
+            PortPart::Number(number) => Some(PortKey::Number(number)),
+            PortPart::TooLarge => None,
+        }
+    }
+
+    fn part(self) -> PortPart
+        ensures { result ≡ spec.port_of self }
+    {
+        match self {
+            PortKey::Absent => PortPart::Absent,
+            PortKey::Any => PortPart::Any,
+            PortKey::Number(number) => PortPart::Number(number),
+        }
+    }
+}
+
+// Where the URLs of a host-source lie.
+#[derive(Clone, Copy, PartialEq, Eq, PartialOrd, Ord)]
+pub(crate) struct Place<'a> {
+    pub(crate) host: HostKey<'a>,
+    pub(crate) shape: PathShape,
+    pub(crate) pieces: Pieces<'a>,
+}
+
+// How the URLs of a host-source are reached.
+#[derive(Clone, Copy, PartialEq, Eq, PartialOrd, Ord)]
+pub(crate) struct Way<'a> {
+    pub(crate) scheme: &'a Option<Text>,
+    pub(crate) port: PortKey,
+}
+
+impl Way<'_> {
+    // Whether a URL's scheme and port are those that a host-source asks for.
+    pub(crate) fn fits(&self, asked: &Asked<'_>) -> bool
+        ensures { result
+            ≡ entries.way_fits (entries.scheme_of self.now) (entries.way_port self.now) asked.now }
+    {
+        own_scheme_matches(self.scheme, asked.origin, asked.scheme)
+            && port_matches(self.port.part(), asked.port, asked.scheme)
+    }
+}
+
+// The place and the way of a host-source. None where the source isn't one, or matches no URL by its port.
+pub(crate) fn host_source(source: &Source) -> Option<(Place<'_>, Way<'_>)>
+    ensures parts { option_map entries.entry_parts result ≡ spec.parts_of source.now }
+    ensures place { IfSome result (λ entry. entries.IsPlace entry.0) }
+{
+    match source {
+        Source::Hosted {
+            scheme,
+            host,
+            port,
+            path,
+        } => {
+            let place = Place {
+                host: HostKey::of(host),
+                shape: PathShape::of(path),
+                pieces: pieces_of_part(path),
+            };
+            let port = PortKey::of(*port)?;
+            Some((place, Way { scheme, port }))
+        }
+        _ => None,
+    }
+}

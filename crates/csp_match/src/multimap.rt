@@ -1,0 +1,61 @@
+//! Values by key, of which a key may have several.
+ghost use Rattle.std.specs.Prelude.{◌≡◌, ◌&&◌, Bool, true};
+ghost use Rattle.std.specs.List.{Any, Contains, list_any};
+ghost use Rattle.std.specs.List.Sorted.{IsStrictlySortedBy};
+ghost use Rattle.std.specs.Ordering.{is_eq};
+
+use std::marker::Model;
+
+// The items in order. Of equal items one is kept.
+pub(crate) fn sorted_once<T: Ord + Drop>(mut items: Vec<T>) -> Vec<T>
+    ensures given { (x : T) → Contains result.items x → Contains items.items x }
+    ensures kept { (x : T) → Contains items.items x → Any (λ y. T.eq x y ≡ true) result.items }
+    ensures rises { IsStrictlySortedBy T.cmp result.items }
+{
+    items.sort_unstable();
+    items.dedup();
+    items
+}
+
+// Pairs of a key and a value in the order of the keys.
+#[derive(Drop)]
+pub(crate) struct Multimap<K: Ord, V: Ord> {
+    pairs: Vec<(K, V)>,
+}
+
+impl<K: Ord, V: Ord> Model for Multimap<K, V> {
+    ghost use Rattle.std.specs.Prelude.{List};
+    ghost use Rattle.std.specs.List.Sorted.{IsSortedBy};
+    ghost use Rattle.std.specs.Ordering.{is_lt};
+
+    ghost Value = { List (K × V) };
+
+    ghost view = { λ a. a.pairs.items };
+
+    ghost invariant = { λ a. IsSortedBy (λ x y. is_lt (K.cmp x.0 y.0)) a.pairs.items };
+}
+
+impl<K: Ord + Drop, V: Ord + Drop> Multimap<K, V> {
+    // Of equal pairs one is kept.
+    pub(crate) fn new(pairs: Vec<(K, V)>) -> Multimap<K, V>
+        ensures given { (x : K × V) → Contains result x → Contains pairs.items x }
+        ensures kept { (x : K × V) → Contains pairs.items x
+            → Any (λ (y : K × V). (K.eq x.0 y.0 && V.eq x.1 y.1) ≡ true) result }
+    {
+        Multimap {
+            pairs: sorted_once(pairs),
+        }
+    }
+
+    // The pairs of a key.
+    pub(crate) fn get(&self, key: &K) -> &[(K, V)]
+        ensures { (p : K × V → Bool)
+            → list_any p result.now ≡ list_any (λ (x : K × V). is_eq (K.cmp x.0 key.now) && p x) self.now }
+    {
+        let pairs = self.pairs.as_slice();
+        let first = pairs.partition_point(|pair| pair.0.cmp(key).is_lt());
+        let rest = &pairs[first..];
+        let after = rest.partition_point(|pair| pair.0.cmp(key).is_le());
+        &rest[..after]
+    }
+}

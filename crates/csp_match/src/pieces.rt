@@ -1,0 +1,64 @@
+//! Pieces of paths, in an order.
+ghost use Rattle.std.specs.Prelude.{Some, refl, nat_eq};
+ghost use Rattle.std.specs.Cmp.{on_equiv, on_total, on_po, partial_equiv_from_equiv, po};
+ghost use Rattle.std.specs.Cmp.Lexicographic.{pointwise, slice_cmp, lists_equiv, lists_total, lists_ties};
+ghost use Rattle.std.specs.Cmp.Lexicographic.{nat_list_eq_equiv, nat_list_cmp_total, texts_ties};
+ghost use Rattle.std.specs.Ordering.{nat_cmp};
+
+use csp_model::Bytes;
+use std::cmp::Ordering;
+
+// Pieces of a path, which are compared byte by byte.
+#[derive(Clone, Copy)]
+pub(crate) struct Pieces<'a> {
+    pub(crate) pieces: &'a [Bytes],
+}
+
+impl<'a> PartialEq for Pieces<'a> {
+    ghost use Rattle.csp_match.specs.Pieces.{pieces_of};
+
+    ghost eq = { λ a b. pointwise (pointwise nat_eq) (pieces_of a) (pieces_of b) };
+
+    ghost laws = { partial_equiv_from_equiv (on_equiv pieces_of (lists_equiv nat_list_eq_equiv)) };
+
+    fn eq(&self, other: &Pieces<'a>) -> bool {
+        self.pieces == other.pieces
+    }
+}
+
+impl<'a> Eq for Pieces<'a> {
+    ghost use Rattle.csp_match.specs.Pieces.{pieces_of};
+
+    ghost laws = { on_equiv pieces_of (lists_equiv nat_list_eq_equiv) };
+}
+
+impl<'a> PartialOrd for Pieces<'a> {
+    ghost use Rattle.csp_match.specs.Pieces.{pieces_of};
+
+    ghost partial_cmp = { λ a b. Some (slice_cmp (slice_cmp nat_cmp) (pieces_of a) (pieces_of b)) };
+
+    ghost laws = { on_po pieces_of
+        (po (lists_total nat_list_cmp_total) (lists_ties (slice_cmp nat_cmp) texts_ties)) };
+
+    fn partial_cmp(&self, other: &Pieces<'a>) -> Option<Ordering> {
+        Some(self.cmp(other))
+    }
+}
+
+impl<'a> Ord for Pieces<'a> {
+    ghost use Rattle.csp_match.specs.Pieces.{pieces_of};
+
+    ghost cmp = { λ a b. slice_cmp (slice_cmp nat_cmp) (pieces_of a) (pieces_of b) };
+
+    ghost total = { on_total pieces_of (lists_total nat_list_cmp_total) };
+
+    ghost matches_partial_cmp = { λ a b. refl };
+
+    ghost matches_eq = { λ a b. lists_ties (slice_cmp nat_cmp) texts_ties (pieces_of a) (pieces_of b) };
+
+    fn cmp(&self, other: &Pieces<'a>) -> Ordering {
+        let ours = self.pieces.iter().map(|piece| piece.as_slice());
+        let theirs = other.pieces.iter().map(|piece| piece.as_slice());
+        ours.cmp(theirs)
+    }
+}
