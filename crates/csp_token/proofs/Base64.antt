@@ -2,7 +2,10 @@
 use Rattle.std.proofs.Common.{◌≡◌, ℕ, ◌+◌, ◌<◌, ◌≤◌, List, length, take, get_or, arith, sym, ap, refl, inl, inr, lit<, ◌∙◌, Ok, Err, length-append}
 use Rattle.std.proofs.lemmas.Bool.{cases_lt}
 use Rattle.std.proofs.lemmas.List.{length-map, length-replicate, get_or-map, length-take-le, get_or_past}
+use Rattle.std.proofs.lemmas.Bool.Decides.{Decides-like, same_from_decides}
 use Rattle.std.proofs.lemmas.Grind.{common_steps}
+use Rattle.std.proofs.lemmas.Slice.Eq.{bytes_eq-Decides}
+use Rattle.std.specs.Str.{bytes_eq}
 use Rattle.base64.specs.Engines.{standard}
 use Rattle.base64.specs.GeneralPurpose.{encode_of, decode_of, IsBytes, IsDecodedInto}
 use Rattle.base64.specs.Rfc4648.{unpadded_len, padding_len}
@@ -54,3 +57,19 @@ IsBytes-plain_value v h = λ i. elim (cases_lt i (length v)) [
       let past : length (plain_value v) ≤ i = simp length-map ge in
       rw (get_or_past (plain_value v) i 0 past) (lit< tt)
 ]
+
+encoded_once : (d e : List ℕ) → IsBytes d → IsBytes e → encode_of standard d ≡ encode_of standard e → d ≡ e
+encoded_once d e ds es same =
+    let a = decodes_back d ds in
+    let b = decodes_back e es in
+    let c : decode_of standard (encode_of standard e) ≡ Ok d = rw same at a in
+    cc (b, c)
+
+-- a value stands for one digest
+pub one_digest : (v d e : List ℕ) → IsBytes d → IsBytes e → plain_value v ≡ encode_of standard d
+    → bytes_eq d e ≡ bytes_eq (plain_value v) (encode_of standard e)
+one_digest v d e ds es stands =
+    same_from_decides (bytes_eq d e) (bytes_eq (plain_value v) (encode_of standard e)) (bytes_eq-Decides d e)
+    (Decides-like (bytes_eq (plain_value v) (encode_of standard e))
+    (λ (h : plain_value v ≡ encode_of standard e). encoded_once d e ds es (sym stands ∙ h))
+    (λ (h : d ≡ e). stands ∙ ap (encode_of standard) h) (bytes_eq-Decides (plain_value v) (encode_of standard e)))

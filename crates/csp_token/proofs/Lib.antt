@@ -1,5 +1,10 @@
+pub mod AnyOf
 pub mod Base64
 pub mod Cuts
+pub mod HashSets
+pub mod IndexEmpty
+pub mod IndexSteps
+pub mod NamedDigests
 pub mod ReadsBack
 pub mod Sizes
 pub mod Tokens

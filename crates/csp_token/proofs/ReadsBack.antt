@@ -5,7 +5,7 @@ use Rattle.std.specs.Char.{is_ascii_whitespace}
 use Rattle.std.proofs.lemmas.Grind.{common_steps}
 use Rattle.std.proofs.lemmas.List.Elements.{All-head, All-tail, All-weaker}
 use Rattle.std.proofs.lemmas.List.Sums.{AllPass-from_list_all}
-use Rattle.csp_model.specs.Bytes.{space}
+use Rattle.csp_model.specs.Ascii.{code}
 use Rattle.csp_model.specs.Validity.{IsIntegrityValue}
 use Rattle.csp_model.specs.declared.source.Algorithm.{Algorithm}
 use Rattle.csp_model.specs.declared.source.Algorithm.TheVariants.{Sha256, Sha384, Sha512}
@@ -15,9 +15,9 @@ use Rattle.csp_token.proofs.Values.{is_value_byte}
 use Rattle.csp_token.specs.Integrity.{is_hyphen, is_question_mark, hash_of_pair, hash_of_token, hash_text, integrity_of, integrity_text}
 
 -- the first pair, and a space and a pair for each other
-pub joined : (x : Hash) (xs : List Hash) → integrity_text (x ∷ xs) ≡ hash_text x ++ flat_map (λ pair. space ∷ hash_text pair) xs
+pub joined : (x : Hash) (xs : List Hash) → integrity_text (x ∷ xs) ≡ hash_text x ++ flat_map (λ pair. code " " ∷ hash_text pair) xs
 joined x [] = sym (append-nil (hash_text x))
-joined x (y ∷ xs) = ap (λ rest. hash_text x ++ (space ∷ rest)) (joined y xs)
+joined x (y ∷ xs) = ap (λ rest. hash_text x ++ (code " " ∷ rest)) (joined y xs)
 
 text_bytes : (a : Algorithm) (value : List ℕ) → list_all is_value_byte value ≡ true → list_all is_value_byte (hash_text (record { algorithm = a; value = value })) ≡ true
 text_bytes Sha256 value h = h
@@ -58,6 +58,6 @@ reads_back (x ∷ []) all =
 reads_back (x ∷ y ∷ hs) all =
     let is = All-head (λ pair. IsIntegrityValue pair.value) x (y ∷ hs) all in
     ap (filter_map hash_of_token)
-    (word_before (hash_text x) space (integrity_text (y ∷ hs)) (text_filled x.algorithm x.value) (solid x is) refl)
+    (word_before (hash_text x) (code " ") (integrity_text (y ∷ hs)) (text_filled x.algorithm x.value) (solid x is) refl)
     ∙ ap (λ made. cons_option made (integrity_of (integrity_text (y ∷ hs)))) (token_back x is)
     ∙ ap (λ rest. x ∷ rest) (reads_back (y ∷ hs) (All-tail (λ pair. IsIntegrityValue pair.value) x (y ∷ hs) all))

@@ -3,7 +3,7 @@ use Rattle.std.proofs.Common.{◌≡◌, ◌∙◌, sym, ap, ℕ, List, [], ◌�
 use Rattle.std.specs.List.{flat_map, filter_map, cons_option}
 use Rattle.std.proofs.lemmas.List.{map-append}
 use Rattle.std.proofs.lemmas.List.Elements.{filter_map-append}
-use Rattle.csp_model.specs.Bytes.{space}
+use Rattle.csp_model.specs.Ascii.{code}
 use Rattle.csp_model.specs.declared.source.Hash.{Hash}
 use Rattle.csp_token.specs.Integrity.{hash_of_token, hash_text, integrity_text}
 use Rattle.csp_token.proofs.ReadsBack.{joined}
@@ -32,6 +32,6 @@ kept tokens token made pair h some =
 
 pub begun : (integrity others : List Hash) (first : Hash) (text : List ℕ) → text ≡ hash_text first
     → integrity ≡ first ∷ others
-    → text ++ flat_map (λ pair. space ∷ hash_text pair) others ≡ integrity_text integrity
+    → text ++ flat_map (λ pair. code " " ∷ hash_text pair) others ≡ integrity_text integrity
 begun integrity others first text h is =
-    ap (λ t. t ++ flat_map (λ (pair : Hash). space ∷ hash_text pair) others) h ∙ sym (joined first others) ∙ ap integrity_text (sym is)
+    ap (λ t. t ++ flat_map (λ (pair : Hash). code " " ∷ hash_text pair) others) h ∙ sym (joined first others) ∙ ap integrity_text (sym is)

@@ -9,7 +9,7 @@ use Rattle.std.proofs.lemmas.List.{get_or-take, length-take, drop_all}
 use Rattle.std.proofs.lemmas.List.Elements.{All-from_get_or, All-get_or, All-drop}
 use Rattle.std.proofs.lemmas.List.Sums.{fails_before_first, passes_at_first, prefix_len-le-length, list_all-from_AllPass}
 use Rattle.std.proofs.lemmas.Str.{IsUtf8-nil, IsUtf8-take, IsUtf8-drop, IsCharBoundary-end, IsCharBoundary-before_ascii, IsCharBoundary-after_ascii}
-use Rattle.csp_model.specs.Bytes.{question_mark}
+use Rattle.csp_model.specs.Ascii.{code}
 use Rattle.csp_model.specs.Validity.{IsIntegrityValue}
 use Rattle.csp_model.proofs.WordLaws.{IsSolid}
 use Rattle.csp_token.specs.Integrity.{is_hyphen, is_question_mark}
@@ -48,7 +48,7 @@ question_mark_ascii b h = grind (arith, nat_tests, h)
 
 -- a byte of a value
 abbrev pub is_value_byte : ℕ → Bool
-is_value_byte b = not (is_ascii_whitespace b) && not (b == question_mark)
+is_value_byte b = not (is_ascii_whitespace b) && not (b == code "?")
 
 value_byte : (b : ℕ) → is_ascii_whitespace b ≡ false → is_question_mark b ≡ false → is_value_byte b ≡ true
 unfolding is_question_mark

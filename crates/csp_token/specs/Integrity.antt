@@ -1,16 +1,15 @@
 -- Integrity metadata as a text (Subresource Integrity, section 3.3).
 use Rattle.std.specs.Prelude.{ℕ, ◌==◌, Bool, List, ◌∷◌, ◌++◌, map, Option, option_map}
 use Rattle.std.specs.List.{before_first, after_first, filter_map, join_with_byte}
-use Rattle.csp_model.specs.Ascii.{lower, words}
-use Rattle.csp_model.specs.Bytes.{space, hyphen, question_mark}
+use Rattle.csp_model.specs.Ascii.{code, lower, words}
 use Rattle.csp_model.specs.Grammar.{algorithm_text, algorithm_named}
 use Rattle.csp_model.specs.declared.source.Hash.{Hash}
 
 unfoldable pub is_hyphen : ℕ → Bool
-is_hyphen c = c == hyphen
+is_hyphen c = c == code "-"
 
 unfoldable pub is_question_mark : ℕ → Bool
-is_question_mark c = c == question_mark
+is_question_mark c = c == code "?"
 
 -- algorithm "-" value: the algorithm's letters may be of either case, and without "-" the value is empty
 abbrev pub hash_of_pair : List ℕ → Option Hash
@@ -28,8 +27,8 @@ integrity_of text = filter_map hash_of_token (words text)
 
 -- a pair as it is written
 abbrev pub hash_text : Hash → List ℕ
-hash_text hash = algorithm_text hash.algorithm ++ (hyphen ∷ hash.value)
+hash_text hash = algorithm_text hash.algorithm ++ (code "-" ∷ hash.value)
 
 -- pairs as they are written: a space between each two
 abbrev pub integrity_text : List Hash → List ℕ
-integrity_text pairs = join_with_byte space (map hash_text pairs)
+integrity_text pairs = join_with_byte (code " ") (map hash_text pairs)

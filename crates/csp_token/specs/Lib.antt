@@ -1,2 +1,5 @@
+pub mod Algorithms
 pub mod Digests
+pub mod Index
 pub mod Integrity
+pub mod Keywords

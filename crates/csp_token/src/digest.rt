@@ -6,7 +6,7 @@ ghost use Rattle.csp_model.specs.Validity.{IsValidDigests};
 ghost use Rattle.csp_token.specs.Digests as spec;
 
 use crate::base64_value::{decoded, stands_for};
-use crate::size::slice_is_bytes;
+use crate::size::digests_are_bytes;
 use csp_model::{Algorithm, Digest, Digests, Hash, List, Source};
 use sha2::Digest as _;
 
@@ -15,17 +15,48 @@ pub fn digests(source: &[u8]) -> Digests
     ensures digests { result ≡ spec.digests_of source.now }
     ensures valid { IsValidDigests result }
 {
-    let sha256 = sha2::Sha256::digest(source);
-    let sha384 = sha2::Sha384::digest(source);
-    let sha512 = sha2::Sha512::digest(source);
-    slice_is_bytes(&sha256);
-    slice_is_bytes(&sha384);
-    slice_is_bytes(&sha512);
-    Digests {
-        sha256,
-        sha384,
-        sha512,
+    let digests = Digests {
+        sha256: sha2::Sha256::digest(source),
+        sha384: sha2::Sha384::digest(source),
+        sha512: sha2::Sha512::digest(source),
+    };
+    digests_are_bytes(&digests);
+    digests
+}
+
+/// Some of the digests' algorithms, as those of the digests that are worth computing.
+#[derive(Clone, Copy, Debug, PartialEq, Eq)]
+pub struct Algorithms {
+    pub sha256: bool,
+    pub sha384: bool,
+    pub sha512: bool,
+}
+
+/// The digests of a source text's bytes by the algorithms that are wanted. In place of each other digest are
+/// bytes that are all 0.
+///
+/// Where the algorithms of a source list's hash-sources are wanted, these digests match the list where all
+/// three would: `laws::only_named_algorithms_count` says so.
+pub fn digests_for(source: &[u8], wanted: Algorithms) -> Digests
+    ensures digests { result ≡ spec.digests_for source.now wanted }
+    ensures valid { IsValidDigests result }
+{
+    let mut digests = Digests {
+        sha256: [0; 32],
+        sha384: [0; 48],
+        sha512: [0; 64],
+    };
+    if wanted.sha256 {
+        digests.sha256 = sha2::Sha256::digest(source);
     }
+    if wanted.sha384 {
+        digests.sha384 = sha2::Sha384::digest(source);
+    }
+    if wanted.sha512 {
+        digests.sha512 = sha2::Sha512::digest(source);
+    }
+    digests_are_bytes(&digests);
+    digests
 }
 
 /// The digest that a hash stands for: its value, with `-` read as `+` and `_` as `/`, is the digest's

@@ -4,12 +4,16 @@
 
 mod base64_value;
 mod digest;
+mod hash_sets;
+mod index;
 mod integrity;
 mod keyword;
+pub mod laws;
 mod matching;
 mod size;
 
-pub use digest::{digest_matches, digests, digests_match, hash_of};
+pub use digest::{Algorithms, digest_matches, digests, digests_for, digests_match, hash_of};
+pub use index::TokenIndex;
 pub use integrity::{integrity_text, read_integrity};
 pub use keyword::has_keyword;
 pub use matching::{integrity_matches, nonce_matches};
