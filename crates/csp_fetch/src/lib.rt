@@ -5,7 +5,9 @@
 
 mod destination;
 mod fetch;
+mod governed;
 pub mod laws;
 
 pub use destination::{Destination, effective};
 pub use fetch::{fetch_allows, fetch_allows_listed};
+pub use governed::decided_by_tokens;

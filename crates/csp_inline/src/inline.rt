@@ -94,13 +94,15 @@ fn hash_counts(kind: InlineKind, sources: &List<Source>) -> bool
     is_element_kind(kind) || has_keyword(sources, Keyword::UnsafeHashes)
 }
 
-fn is_element_kind(kind: InlineKind) -> bool
+// The text of a script or a style element.
+pub(crate) fn is_element_kind(kind: InlineKind) -> bool
     ensures { result ≡ is_element_kind kind }
 {
     matches!(kind, InlineKind::Script | InlineKind::Style)
 }
 
-fn is_script_kind(kind: InlineKind) -> bool
+// Code, and no style.
+pub(crate) fn is_script_kind(kind: InlineKind) -> bool
     ensures { result ≡ is_script_kind kind }
 {
     !matches!(kind, InlineKind::Style | InlineKind::StyleAttribute)

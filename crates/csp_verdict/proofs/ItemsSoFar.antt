@@ -1,6 +1,8 @@
 -- The items of a check, found from the first policy on: what is found of the policies from a place on, behind what is
 -- there already, is what is found of all.
-use Rattle.std.proofs.Common.{◌≡◌, ℕ, ◌+◌, ◌<◌, Bool, true, false, ◌||◌, List, [], ◌∷◌, ◌++◌, cond, drop, length, get_or, refl, sym, ap, ◌∙◌, append_assoc, add-one, drop-cons}
+use Rattle.std.proofs.Common.{◌≡◌, ℕ, ◌+◌, ◌<◌, Bool, true, false, ◌||◌, List, [], ◌∷◌, ◌++◌, cond, drop, length, map, Option, get_or, refl, sym, ap, ◌∙◌, append_assoc, add-one, drop-cons, arith}
+use Rattle.std.proofs.Math.ListN.{get_or-map}
+use Rattle.std.proofs.lemmas.List.{length-map}
 use Rattle.std.specs.List.{list_any, cons_option}
 use Rattle.csp_model.specs.Verdict.{item_of, items_from, is_enforced, through_enforced, shown_items}
 use Rattle.csp_verdict.specs.Stops.{stops}
@@ -41,6 +43,14 @@ next n ps p asked within is =
     ∙ ap (λ (q : Policy). q ∷ drop (n + 1) ps) (sym is) in
     ap (λ (qs : List Policy). items_from n qs asked) rest
 
+-- the same of what is seen as policies, where the item of the one at that place is known
+pub next_seen : {A : Type 0} (seen : A → Policy) (n : ℕ) (xs : List A) (x : A) (asked : Check) (o : Option Item)
+    → n < length xs → x ≡ get_or xs n x → item_of n (seen x) asked ≡ o
+    → items_at n (map seen xs) asked ≡ cons_option o (items_at (n + 1) (map seen xs) asked)
+next_seen seen n xs x asked o within is found =
+    next n (map seen xs) (seen x) asked (omega (arith, length-map xs seen)) (ap seen is ∙ sym (get_or-map seen xs n x))
+    ∙ ap (λ (i : Option Item). cons_option i (items_at (n + 1) (map seen xs) asked)) found
+
 -- one more item of the list, where the items don't end with it
 goes_on : (halts : Bool) (item : Item) (later : List Item) → (halts ≡ true → is_enforced item ≡ false)
     → shown halts (item ∷ later) ≡ item ∷ shown halts later
@@ -56,6 +66,12 @@ pub last_item : (items later all : List Item) (item : Item) → is_enforced item
     → items ++ shown true (item ∷ later) ≡ all → items ++ item ∷ [] ≡ all
 last_item items later all item enforced so_far =
     sym (ap (λ (b : Bool). items ++ cond b (item ∷ []) (item ∷ through_enforced later)) enforced) ∙ so_far
+
+-- an enforced item blocks
+pub blocks : (blocked : Bool) (item : Item) (later : List Item) (all : Bool) → is_enforced item ≡ true
+    → (blocked || list_any is_enforced (item ∷ later)) ≡ all → true ≡ all
+blocks blocked item later all enforced so_far =
+    sym (ap (λ (b : Bool). blocked || (b || list_any is_enforced later)) enforced ∙ or_true blocked) ∙ so_far
 
 pub more_blocked : (blocked now : Bool) (item : Item) (later : List Item) (all : Bool) → now ≡ (blocked || is_enforced item)
     → (blocked || list_any is_enforced (item ∷ later)) ≡ all → (now || list_any is_enforced later) ≡ all

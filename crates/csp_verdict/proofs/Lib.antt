@@ -1,1 +1,4 @@
+pub mod Entries
+pub mod ItemGoverned
 pub mod ItemsSoFar
+pub mod NamedDigests

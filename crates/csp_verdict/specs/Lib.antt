@@ -1,1 +1,6 @@
+pub mod Algorithms
+pub mod Entries
+pub mod Governed
+pub mod IsCompiled
+pub mod Listed
 pub mod Stops

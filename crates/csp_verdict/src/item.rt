@@ -1,26 +1,61 @@
 //! The items of a verdict: the policies that don't allow a check.
-ghost use Rattle.std.specs.Prelude.{◌≡◌, ◌≤◌, ◌++◌, not, IfOk, OnOk, length};
+ghost use Rattle.std.specs.Prelude.{◌≡◌, ◌≤◌, ◌++◌, not, IfOk, OnOk, length, map};
 ghost use Rattle.std.specs.List.{list_any};
 ghost use Rattle.csp_model.specs.Policies.{policy_limit};
 ghost use Rattle.csp_model.specs.Verdict as spec;
+ghost use Rattle.csp_model.specs.declared.policy.Policy.{Policy as PolicyValue};
+ghost use Rattle.csp_verdict.specs.Listed.{list_of};
 ghost use Rattle.csp_verdict.specs.Stops.{stops};
 
 use crate::allowed::allows;
 use csp_match::governor;
-use csp_model::{Check, Disposition, Item, List, Memory, Name, Policy, PolicyList};
+use csp_model::{Check, Disposition, Item, List, Memory, Name, Policy};
 
-/// Adds the items of a check: one for each policy that doesn't allow it, in order; for a base URL only those
-/// up to and with the first enforced one (section 6.3.1.1). Answers whether one is enforced, that is whether
-/// the list blocks the check.
-pub fn push_items(items: &mut List<Item>, list: &PolicyList, check: &Check) -> Result<bool, Memory>
-    requires { length list.now.policies ≤ policy_limit }
-    ensures items { OnOk result (items.new ≡ items.old ++ spec.items_of list.now check.now) }
-    ensures blocked { IfOk result (λ blocked. blocked ≡ not (spec.list_allows list.now check.now)) }
+// A policy, or what was made of one, that can be asked for the item of a check.
+pub(crate) trait Judge {
+    ghost seen: { Self → PolicyValue };
+
+    // The item of the policy of this number, where it doesn't allow the check.
+    fn item_of(&self, number: u32, check: &Check) -> Option<Item>
+        ensures { result ≡ spec.item_of number (seen self.now) check.now };
+}
+
+impl Judge for Policy {
+    ghost seen = { λ p. p };
+
+    fn item_of(&self, number: u32, check: &Check) -> Option<Item> {
+        let effective = effective_name(check);
+        let found = governor(self, effective)?;
+        if allows(self, check) {
+            return None;
+        }
+        Some(Item {
+            policy: number,
+            disposition: self.disposition,
+            effective,
+            governing: found.name,
+        })
+    }
+}
+
+// Adds the items of a check: one for each policy that doesn't allow it, in order; for a base URL only those
+// up to and with the first enforced one (section 6.3.1.1). Answers whether one is enforced, that is whether
+// the list blocks the check.
+pub(crate) fn push_items<P: Judge>(
+    items: &mut List<Item>,
+    policies: &[P],
+    check: &Check,
+) -> Result<bool, Memory>
+    requires { length policies.now ≤ policy_limit }
+    ensures items { OnOk result (items.new
+        ≡ items.old ++ spec.items_of (list_of (map P.seen policies.now)) check.now) }
+    ensures blocked { IfOk result (λ blocked. blocked
+        ≡ not (spec.list_allows (list_of (map P.seen policies.now)) check.now)) }
 {
     let stops = is_base(check);
     let mut blocked = false;
-    for (number, policy) in list.policies.as_slice().iter().enumerate() {
-        let Some(item) = item_of(number as u32, policy, check) else {
+    for (number, policy) in policies.iter().enumerate() {
+        let Some(item) = policy.item_of(number as u32, check) else {
             continue;
         };
         items.push(item)?;
@@ -41,25 +76,8 @@ fn is_base(check: &Check) -> bool
     matches!(check, Check::Base { .. })
 }
 
-// The item of a policy that doesn't allow the check.
-fn item_of(number: u32, policy: &Policy, check: &Check) -> Option<Item>
-    ensures { result ≡ spec.item_of number policy.now check.now }
-{
-    if allows(policy, check) {
-        return None;
-    }
-    let effective = effective_name(check);
-    let found = governor(policy, effective)?;
-    Some(Item {
-        policy: number,
-        disposition: policy.disposition,
-        effective,
-        governing: found.name,
-    })
-}
-
 // The directive that a check asks for.
-fn effective_name(check: &Check) -> Name
+pub(crate) fn effective_name(check: &Check) -> Name
     ensures { result ≡ spec.effective_name check.now }
 {
     match check {
@@ -73,8 +91,8 @@ fn effective_name(check: &Check) -> Name
     }
 }
 
-/// Whether some item is of an enforced policy.
-pub fn has_enforced(items: &[Item]) -> bool
+// Whether some item is of an enforced policy.
+pub(crate) fn has_enforced(items: &[Item]) -> bool
     ensures { result ≡ list_any spec.is_enforced items.now }
 {
     items.iter().any(is_enforced)

@@ -2,9 +2,15 @@
 //! sections 4.1.2, 4.2 and 6.3.1.1).
 #![tactic(auto)]
 
+mod algorithms;
 mod allowed;
+mod compiled_directive;
+mod compiled_list;
+mod compiled_policy;
 mod item;
+pub mod laws;
 mod verdict;
 
 pub use allowed::{allows, list_allows};
+pub use compiled_list::CompiledList;
 pub use verdict::judge;

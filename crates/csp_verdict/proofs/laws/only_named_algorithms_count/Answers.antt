@@ -1,0 +1,8 @@
+use Rattle.csp_verdict.proofs.NamedDigests.{agreeing_verdict, wanted_verdict}
+use Rattle.csp_verdict.proofs.laws.only_named_algorithms_count.Goals as goal
+
+pub returns-clause-agreeing : goal.returns-clause-agreeing
+returns-clause-agreeing c = agreeing_verdict
+
+pub returns-clause-wanted : goal.returns-clause-wanted
+returns-clause-wanted c = wanted_verdict

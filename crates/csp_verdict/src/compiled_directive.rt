@@ -1,0 +1,67 @@
+//! A directive that governs, made ready for many checks.
+ghost use Rattle.std.specs.Prelude.{◌≡◌, IfOk};
+ghost use Rattle.csp_match.specs.Shown.{shown};
+
+use csp_match::{Governor, Index};
+use csp_model::{Directive, Memory, Name};
+use csp_token::TokenIndex;
+use std::alloc::Global;
+use std::marker::Model;
+
+// A directive and the name under which it governs, seen as these two, with what finds its source expressions.
+#[derive(Drop)]
+pub(crate) struct CompiledDirective<'a> {
+    name: Name,
+    directive: &'a Directive,
+    index: Index<'a>,
+    tokens: TokenIndex<'a>,
+}
+
+impl<'a> Model for CompiledDirective<'a> {
+    ghost use Rattle.std.specs.Prelude.{◌≡◌};
+    ghost use Rattle.csp_model.specs.Governing.{Governor as Governing};
+
+    ghost Value = { Governing };
+
+    ghost view = { λ a. record { name = a.name; directive = a.directive.now } };
+
+    ghost invariant = { λ a. (a.index ≡ a.directive.now.sources) × (a.tokens ≡ a.directive.now.sources) };
+}
+
+impl<'a> CompiledDirective<'a> {
+    // Makes what governs ready.
+    pub(crate) fn new(alloc: Global, found: &Governor<'a>) -> Result<CompiledDirective<'a>, Memory>
+        ensures { IfOk result (λ made. made ≡ shown found.now) }
+    {
+        let directive = found.directive;
+        let index = Index::new(alloc, &directive.sources)?;
+        let tokens = TokenIndex::new(alloc, &directive.sources)?;
+        Ok(CompiledDirective {
+            name: found.name,
+            directive,
+            index,
+            tokens,
+        })
+    }
+
+    // The name under which it governs.
+    pub(crate) fn name(&self) -> Name
+        ensures { result ≡ self.now.name }
+    {
+        self.name
+    }
+
+    // What finds the source expressions that match a URL.
+    pub(crate) fn index(&self) -> &Index<'a>
+        ensures { result.now ≡ self.now.directive.sources }
+    {
+        &self.index
+    }
+
+    // What finds the keywords, nonces and hashes.
+    pub(crate) fn tokens(&self) -> &TokenIndex<'a>
+        ensures { result.now ≡ self.now.directive.sources }
+    {
+        &self.tokens
+    }
+}

@@ -1,0 +1,219 @@
+//! A policy made ready for many checks.
+ghost use Rattle.std.specs.Prelude.{◌≡◌, IfOk, map, take, option_copied, slice_get, Some};
+ghost use Rattle.csp_match.specs.Shown.{shown};
+ghost use Rattle.csp_model.specs.DecideNavigation.{capability_allows};
+ghost use Rattle.csp_model.specs.Governing as spec;
+ghost use Rattle.csp_model.specs.Names as names_spec;
+ghost use Rattle.csp_verdict.specs.Entries as entries;
+ghost use Rattle.csp_verdict.specs.Governed.{governed_allows};
+
+use crate::compiled_directive::CompiledDirective;
+use crate::item::{Judge, effective_name};
+use csp_fetch::decided_by_tokens;
+use csp_inline::{governed_eval_allows, governed_inline_allows, governed_wasm_allows};
+use csp_match::governor;
+use csp_model::{Capability, Check, Item, Memory, Name, Policy};
+use csp_nav::{capability_allows, worker_start_allows};
+use std::alloc::{AllocError, Global};
+use std::marker::Model;
+
+// What a policy has for the checks that ask for one directive, and for those that this directive governs.
+#[derive(Drop)]
+struct Entry<'a> {
+    // The name of what governs where a check asks for this directive.
+    governing: Option<Name>,
+    // The policy's first directive of this name, if it governs anything.
+    own: Option<CompiledDirective<'a>>,
+}
+
+// A policy, and beside it what it has for each name and what it leaves to a sandbox.
+#[derive(Drop)]
+pub(crate) struct CompiledPolicy<'a> {
+    policy: &'a Policy,
+    // One for each name, in the order of the names.
+    entries: Vec<Entry<'a>>,
+    // Whether it allows each capability, in the order of the capabilities.
+    capabilities: Vec<bool>,
+    worker_start: bool,
+}
+
+impl<'a> Model for CompiledPolicy<'a> {
+    ghost use Rattle.csp_model.specs.declared.policy.Policy.{Policy as PolicyValue};
+
+    ghost Value = { PolicyValue };
+
+    ghost view = { λ a. a.policy.now };
+
+    ghost use Rattle.csp_verdict.specs.IsCompiled.{IsCompiled};
+
+    ghost invariant = { IsCompiled };
+}
+
+impl<'a> CompiledPolicy<'a> {
+    // Makes a policy ready.
+    pub(crate) fn new(alloc: Global, policy: &'a Policy) -> Result<CompiledPolicy<'a>, Memory>
+        ensures { IfOk result (λ made. made ≡ policy.now) }
+    {
+        let entries = entries_of(alloc, policy)?;
+        let capabilities = allowed_capabilities(alloc, policy)?;
+        let worker_start = worker_start_allows(policy);
+        Ok(CompiledPolicy {
+            policy,
+            entries,
+            capabilities,
+            worker_start,
+        })
+    }
+
+    // What governs a check that asks for the directive `effective`.
+    pub(crate) fn governing(&self, effective: Name) -> Option<&CompiledDirective<'a>>
+        ensures { option_copied result ≡ spec.governor self.now effective }
+    {
+        let name = self.entries[effective as usize].governing?;
+        self.entries[name as usize].own.as_ref()
+    }
+
+    // Whether what governs a check allows it.
+    fn governed_allows(&self, found: &CompiledDirective<'_>, check: &Check) -> bool
+        ensures { result ≡ governed_allows self.now check.now found.now }
+    {
+        let origin = &self.policy.origin;
+        match check {
+            Check::Fetch {
+                group,
+                url,
+                redirects,
+                nonce,
+                integrity,
+                parser_inserted,
+            } => {
+                let rule = group.rule(found.name());
+                match decided_by_tokens(rule, found.tokens(), nonce, integrity, *parser_inserted) {
+                    Some(decided) => decided,
+                    None => found.index().matches(origin, url, *redirects != 0),
+                }
+            }
+            Check::Inline {
+                kind,
+                nonce,
+                digests,
+            } => governed_inline_allows(*kind, found.tokens(), nonce, digests),
+            Check::Eval => governed_eval_allows(found.tokens()),
+            Check::Wasm => governed_wasm_allows(found.tokens()),
+            Check::Base { url } | Check::Ancestor { url } => {
+                found.index().matches(origin, url, false)
+            }
+            Check::Form { url, redirects } => found.index().matches(origin, url, *redirects != 0),
+            Check::OpaqueAncestor => false,
+            Check::Capability { capability } => self.capabilities[*capability as usize],
+            Check::WorkerStart => self.worker_start,
+        }
+    }
+}
+
+impl<'a> Judge for CompiledPolicy<'a> {
+    ghost seen = { λ p. p };
+
+    fn item_of(&self, number: u32, check: &Check) -> Option<Item> {
+        let effective = effective_name(check);
+        let found = self.governing(effective)?;
+        if self.governed_allows(found, check) {
+            return None;
+        }
+        Some(Item {
+            policy: number,
+            disposition: self.policy.disposition,
+            effective,
+            governing: found.name(),
+        })
+    }
+}
+
+// What the policy has for each name.
+fn entries_of<'a>(alloc: Global, policy: &'a Policy) -> Result<Vec<Entry<'a>>, Memory>
+    ensures { IfOk result (λ made. made.items ≡ map (entries.entry_of policy.now) entries.names) }
+{
+    let mut made = Vec::new(alloc);
+    for name in names() {
+        made.push(entry_of(alloc, policy, *name)?)?;
+    }
+    Ok(made)
+}
+
+fn entry_of<'a>(alloc: Global, policy: &'a Policy, name: Name) -> Result<Entry<'a>, Memory>
+    ensures { IfOk result (λ made. made ≡ entries.entry_of policy.now name) }
+{
+    match governor(policy, name) {
+        None => Ok(Entry {
+            governing: None,
+            own: None,
+        }),
+        Some(found) if found.name == name => Ok(Entry {
+            governing: Some(name),
+            own: Some(CompiledDirective::new(alloc, &found)?),
+        }),
+        Some(found) => Ok(Entry {
+            governing: Some(found.name),
+            own: None,
+        }),
+    }
+}
+
+// Whether the policy allows each capability, in the order of the capabilities.
+fn allowed_capabilities(alloc: Global, policy: &Policy) -> Result<Vec<bool>, AllocError>
+    ensures { IfOk result (λ made. made.items
+        ≡ map (capability_allows policy.now) names_spec.capabilities) }
+{
+    capabilities()
+        .iter()
+        .map(|capability| capability_allows(policy, *capability))
+        .collect(alloc)
+}
+
+// The names, in the order in which they are declared.
+fn names() -> &'static [Name]
+    ensures { result.now ≡ entries.names }
+{
+    &[
+        Name::ConnectSrc,
+        Name::FontSrc,
+        Name::FrameSrc,
+        Name::ImgSrc,
+        Name::ManifestSrc,
+        Name::MediaSrc,
+        Name::ObjectSrc,
+        Name::StyleSrcElem,
+        Name::ScriptSrcElem,
+        Name::WorkerSrc,
+        Name::ScriptSrcAttr,
+        Name::StyleSrcAttr,
+        Name::ScriptSrc,
+        Name::StyleSrc,
+        Name::ChildSrc,
+        Name::DefaultSrc,
+        Name::BaseUri,
+        Name::FormAction,
+        Name::FrameAncestors,
+        Name::Sandbox,
+    ]
+}
+
+// The capabilities, in the order in which they are declared.
+fn capabilities() -> &'static [Capability]
+    ensures { result.now ≡ names_spec.capabilities }
+{
+    &[
+        Capability::Forms,
+        Capability::Scripts,
+        Capability::SameOrigin,
+        Capability::Popups,
+        Capability::PopupsToEscapeSandbox,
+        Capability::TopNavigation,
+        Capability::TopNavigationByUserActivation,
+        Capability::Modals,
+        Capability::PointerLock,
+        Capability::OrientationLock,
+        Capability::Presentation,
+        Capability::Downloads,
+    ]
+}
