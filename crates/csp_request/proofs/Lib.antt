@@ -1,0 +1,16 @@
+pub mod Hashed
+pub mod Items
+pub mod Json
+pub mod Each
+pub mod Named
+pub mod Turns
+pub mod OnlyCheck
+pub mod RequestTurns
+mod CheckBack
+mod DigestsBack
+mod FileBack
+mod NamesBack
+mod PrintedJson
+mod PrintedText
+mod TextBack
+mod UrlBack

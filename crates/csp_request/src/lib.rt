@@ -1,0 +1,24 @@
+//! Requests and checks described in JSON: reads request files, and writes and reads single checks.
+#![tactic(auto)]
+
+mod chain;
+mod check;
+mod description;
+mod element;
+mod error;
+mod fetch;
+mod field;
+mod inline;
+mod kind;
+mod located;
+mod member;
+mod print;
+mod requests;
+mod sample;
+
+pub use check::read_check;
+pub use description::{describe, describe_for};
+pub use error::{CheckError, DescriptionError, RequestError};
+pub use field::Field;
+pub use print::check_json;
+pub use requests::{Requests, read_requests};
