@@ -1,11 +1,10 @@
 -- What the files of a form hold fits the form.
 use Rattle.std.proofs.Common.{subst, ◌≡◌, ℕ, Bool, true, false, List, [], ◌∷◌, length, Option, Some, None}
-use Rattle.std.proofs.Common.{Result, Ok, Err, inl, inr, refl, ap, arith, cond}
+use Rattle.std.proofs.Common.{Ok, Err, inl, inr, refl, ap, arith, cond}
 use Rattle.std.specs.Prelude.{nat_lt, ◌==◌}
 use Rattle.std.proofs.lemmas.Bool.Decides.{nat_tests}
 use Rattle.csp_model.specs.declared.policy.Policy.{Policy}
 use Rattle.csp_model.specs.declared.url.Origin.{Origin}
-use Rattle.csp_model.specs.declared.url.Url.{Url}
 use Rattle.csp_policy.specs.declared.error.BlockError.{BlockError}
 use Rattle.csp_run.specs.declared.fault.Fault.TheVariants as fault
 use Rattle.csp_run.specs.declared.fault.Limit.TheVariants as limit
@@ -15,16 +14,15 @@ use Rattle.csp_run.specs.declared.files.Content.{Content}
 use Rattle.csp_run.specs.declared.files.Content.TheVariants as content
 use Rattle.csp_run.specs.declared.plan.Form.{Form}
 use Rattle.csp_run.specs.declared.plan.Form.TheVariants.{Judge}
-use Rattle.csp_run.specs.declared.request.RequestError.{RequestError}
 use Rattle.csp_run.specs.Files.{World, IsRead, AreRead, file_limit, read_as, read_within}
-use Rattle.csp_run.specs.Files.{policies_or_fault, image_or_fault}
+use Rattle.csp_run.specs.Files.{policies_or_fault}
 use Rattle.csp_run.specs.Shown.{fits}
 use Rattle.csp_run.specs.Words.{File, files_from, role_at, takes}
 
 -- the kind of content that a role has
 abbrev pub suits : Role → Content → Bool
 suits role.Policy (content.Policies list) = true
-suits role.Requests (content.Image there) = true
+suits role.Requests (content.Requests bytes) = true
 suits file other = false
 
 policies_suit : (refused : Option BlockError) (ps : List Policy) (c : Content)
@@ -33,15 +31,11 @@ policies_suit None ps c is =
     let same : c ≡ content.Policies (record { policies = ps }) = cc is in ap (suits role.Policy) same
 policies_suit (Some error) ps c is = absurd (cc is)
 
-image_suits : (found : Result Url RequestError) (c : Content) → Ok c ≡ image_or_fault found
-    → suits role.Requests c ≡ true
-image_suits (Ok there) c is = let same : c ≡ content.Image there = cc is in ap (suits role.Requests) same
-image_suits (Err error) c is = absurd (cc is)
-
 within_suit : (o : Origin) (file : Role) (bytes : List ℕ) (c : Content) → Ok c ≡ read_within o file bytes
     → suits file c ≡ true
 within_suit o role.Policy bytes c is = policies_suit _ _ c is
-within_suit o role.Requests bytes c is = image_suits _ c is
+within_suit o role.Requests bytes c is =
+    let same : c ≡ content.Requests bytes = cc is in ap (suits role.Requests) same
 
 bytes_suit : (o : Origin) (file : Role) (bytes : List ℕ) (c : Content) → Ok c ≡ read_as o file bytes
     → suits file c ≡ true
@@ -89,7 +83,7 @@ of_two w o form names cs good taken are =
     two_fit w o form two.0 two.1 cs good (subst P two.2 are)
 
 judge : TwoFit Judge
-judge (content.Policies x) (content.Image y) a b = refl
+judge (content.Policies x) (content.Requests y) a b = refl
 judge x y a b = absurd (cc)
 
 -- what was read of as many files as the form takes fits it

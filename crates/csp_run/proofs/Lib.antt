@@ -1,5 +1,6 @@
 pub mod Pieces
-pub mod Json
+pub mod Judging
+pub mod SameVerdicts
 pub mod Reading
 pub mod Fitting
 pub mod Quiet

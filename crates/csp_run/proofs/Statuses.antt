@@ -1,7 +1,10 @@
 -- An output has one of two statuses.
 use Rattle.std.proofs.Common.{◌≡◌, Bool, true, false, List, [], ◌∷◌, Result, Ok, Err, refl, ap, sym, ◌∙◌}
-use Rattle.std.proofs.Common.{cond}
+use Rattle.std.proofs.Common.{cond, map}
 use Rattle.std.proofs.lemmas.Bool.{false≢true}
+use Rattle.csp_model.specs.declared.policy.PolicyList.{PolicyList}
+use Rattle.csp_model.specs.declared.verdict.Described.{Described}
+use Rattle.csp_request.specs.declared.error.RequestError.{RequestError}
 use Rattle.csp_run.specs.declared.fault.Fault.{Fault}
 use Rattle.csp_run.specs.declared.files.Content.{Content}
 use Rattle.csp_run.specs.declared.files.Content.TheVariants as content
@@ -12,7 +15,8 @@ use Rattle.csp_run.specs.declared.status.Status.{Status}
 use Rattle.csp_run.specs.declared.status.Status.TheVariants.{Clean, Found}
 use Rattle.csp_run.specs.Due.{IsEndOf}
 use Rattle.csp_run.specs.Files.{World}
-use Rattle.csp_run.specs.Outputs.{IsOutput}
+use Rattle.csp_run.specs.Lines.{judgment}
+use Rattle.csp_run.specs.Outputs.{IsOutput, judged}
 use Rattle.csp_run.specs.Words.{Plan}
 
 -- the statuses of outputs
@@ -25,12 +29,19 @@ clean_or_found : (b : Bool) → is_done (cond b Found Clean) ≡ true
 clean_or_found true = refl
 clean_or_found false = refl
 
+judged_done : (list : PolicyList) (described : Result (List Described) RequestError) (built : Built)
+    → Ok built ≡ judged list described → is_done built.status ≡ true
+judged_done list (Ok requests) built is =
+    let same : built ≡ judgment list (map (λ (d : Described). d.checks) requests) = cc is in
+    ap (λ (b : Built). is_done b.status) same ∙ clean_or_found _
+judged_done list (Err refused) built is = absurd (cc is)
+
 printed_done : (form : Form) (found : Result (List Content) Fault) (built : Built)
     → IsOutput form found (Ok built)
     → is_done built.status ≡ true
 printed_done form (Err f) built is = absurd (cc is)
-printed_done Judge (Ok (content.Policies list ∷ content.Image there ∷ [])) built is =
-    ap (λ (b : Built). is_done b.status) is ∙ clean_or_found _
+printed_done Judge (Ok (content.Policies list ∷ content.Requests bytes ∷ [])) built is =
+    judged_done list _ built is
 printed_done form (Ok contents) built is = absurd is
 
 ended_done : (w : World) (asked : Result Plan Fault) (built : Built) → IsEndOf w asked (Ok built)

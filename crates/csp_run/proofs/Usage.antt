@@ -4,7 +4,8 @@ use Rattle.std.proofs.Common.{Result, Ok, Err, inl, inr, ap, refl, sym, ◌∙�
 use Rattle.std.specs.Prelude.{nat_lt}
 use Rattle.csp_model.specs.declared.policy.Policy.{Policy}
 use Rattle.csp_model.specs.declared.url.Origin.{Origin}
-use Rattle.csp_model.specs.declared.url.Url.{Url}
+use Rattle.csp_model.specs.declared.policy.PolicyList.{PolicyList}
+use Rattle.csp_model.specs.declared.verdict.Described.{Described}
 use Rattle.csp_policy.specs.declared.error.BlockError.{BlockError}
 use Rattle.csp_policy.specs.declared.error.BlockError.TheVariants as refusal
 use Rattle.csp_run.specs.declared.fault.Fault.{Fault}
@@ -16,13 +17,14 @@ use Rattle.csp_run.specs.declared.files.Content.{Content}
 use Rattle.csp_run.specs.declared.files.Content.TheVariants as content
 use Rattle.csp_run.specs.declared.plan.Form.{Form}
 use Rattle.csp_run.specs.declared.plan.Form.TheVariants.{Judge}
-use Rattle.csp_run.specs.declared.request.RequestError.{RequestError}
-use Rattle.csp_run.specs.declared.request.RequestError.TheVariants as request
+use Rattle.csp_request.specs.declared.error.RequestError.{RequestError}
+use Rattle.csp_request.specs.declared.error.RequestError.TheVariants as request
 use Rattle.csp_run.specs.declared.status.Status.TheVariants as status
 use Rattle.csp_run.specs.Due.{End, IsDue, IsEndOf, end_status}
 use Rattle.csp_run.specs.Files.{World, AreRead, file_limit, read_as, read_within}
-use Rattle.csp_run.specs.Files.{policies_or_fault, image_or_fault}
-use Rattle.csp_run.specs.Outputs.{IsOutput}
+use Rattle.csp_run.specs.Files.{policies_or_fault}
+use Rattle.csp_run.specs.declared.output.Built.{Built}
+use Rattle.csp_run.specs.Outputs.{IsOutput, judged, request_fault}
 use Rattle.csp_run.specs.Texts.{status_of}
 use Rattle.csp_run.specs.Words.{File, Plan, plan_of}
 use Rattle.csp_run.proofs.Statuses.{no_output}
@@ -38,17 +40,17 @@ policies_never (Some refusal.TooManySources) ps is = absurd (cc is)
 policies_never (Some refusal.LongToken) ps is = absurd (cc is)
 policies_never (Some refusal.Memory) ps is = absurd (cc is)
 
-image_never : (found : Result Url RequestError)
-    → ◌≢◌ {A = Result Content Fault} (Err fault.Usage) (image_or_fault found)
-image_never (Ok there) is = absurd (cc is)
-image_never (Err request.NotBuilt) is = absurd (cc is)
-image_never (Err request.BadUrl) is = absurd (cc is)
-image_never (Err request.Memory) is = absurd (cc is)
+refusal_never : (refused : RequestError) → fault.Usage ≢ request_fault refused
+refusal_never request.NotJson is = absurd (cc is)
+refusal_never request.TooManyRequests is = absurd (cc is)
+refusal_never (request.BadRequest index field) is = absurd (cc is)
+refusal_never (request.TooManyHops index) is = absurd (cc is)
+refusal_never request.Memory is = absurd (cc is)
 
 within_never : (o : Origin) (file : Role) (bytes : List ℕ)
     → ◌≢◌ {A = Result Content Fault} (Err fault.Usage) (read_within o file bytes)
 within_never o role.Policy bytes is = policies_never _ _ is
-within_never o role.Requests bytes is = image_never _ is
+within_never o role.Requests bytes is = absurd (cc is)
 
 bytes_never : (o : Origin) (file : Role) (bytes : List ℕ)
     → ◌≢◌ {A = Result Content Fault} (Err fault.Usage) (read_as o file bytes)
@@ -78,15 +80,20 @@ usage_fault : (f : Fault) → status_of f ≡ status.Usage → f ≡ fault.Usage
 usage_fault fault.Usage is = refl
 usage_fault f is = absurd (cc is)
 
--- no command gives a fault after its files are read
-no_fault : (form : Form) (contents : List Content) (f : Fault) → IsOutput form (Ok contents) (Err f) → ⊥
-no_fault Judge (content.Policies list ∷ content.Image there ∷ []) f is = is
-no_fault form contents f is = is
+judged_never : (list : PolicyList) (described : Result (List Described) RequestError)
+    → ◌≢◌ {A = Result Built Fault} (Err fault.Usage) (judged list described)
+judged_never list (Ok requests) is = absurd (cc is)
+judged_never list (Err refused) is = refusal_never refused (cc is)
+
+-- no command gives usage after its files are read
+no_usage : (form : Form) (contents : List Content) → IsOutput form (Ok contents) (Err fault.Usage) → ⊥
+no_usage Judge (content.Policies list ∷ content.Requests bytes ∷ []) is = judged_never list _ is
+no_usage form contents is = is
 
 after_files : (w : World) (plan : Plan) (found : Result (List Content) Fault)
     → AreRead w plan.origin 0 plan.files found
     → IsOutput plan.form found (Err fault.Usage) → ⊥
-after_files w plan (Ok contents) are is = no_fault plan.form contents fault.Usage is
+after_files w plan (Ok contents) are is = no_usage plan.form contents is
 after_files w plan (Err g) are is =
     let P : Fault → Type 0 = λ h. AreRead w plan.origin 0 plan.files (Err h) in
     let same : g ≡ fault.Usage = cc is in

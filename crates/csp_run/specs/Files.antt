@@ -7,7 +7,6 @@ use Rattle.csp_io.specs.declared.inputs.Inputs.{Ghosts}
 use Rattle.csp_model.specs.Policies.{policies}
 use Rattle.csp_model.specs.declared.policy.Policy.{Policy}
 use Rattle.csp_model.specs.declared.url.Origin.{Origin}
-use Rattle.csp_model.specs.declared.url.Url.{Url}
 use Rattle.csp_policy.specs.Refusal.{refusal_of}
 use Rattle.csp_policy.specs.declared.error.BlockError.{BlockError}
 use Rattle.csp_policy.specs.declared.error.BlockError.TheVariants as refusal
@@ -16,12 +15,8 @@ use Rattle.csp_run.specs.declared.fault.Fault.TheVariants as fault
 use Rattle.csp_run.specs.declared.fault.Limit.TheVariants as limit
 use Rattle.csp_run.specs.declared.fault.Role.{Role}
 use Rattle.csp_run.specs.declared.fault.Role.TheVariants as role
-use Rattle.csp_run.specs.declared.fault.Unbuilt.TheVariants as unbuilt
 use Rattle.csp_run.specs.declared.files.Content.{Content}
 use Rattle.csp_run.specs.declared.files.Content.TheVariants as content
-use Rattle.csp_run.specs.declared.request.RequestError.{RequestError}
-use Rattle.csp_run.specs.declared.request.RequestError.TheVariants as request
-use Rattle.csp_run.specs.Requests.{requested_url}
 use Rattle.csp_run.specs.Words.{File}
 
 -- the bytes that a file may have
@@ -40,21 +35,11 @@ abbrev pub policies_or_fault : Role → Option BlockError → List Policy → Re
 policies_or_fault file None policies = Ok (content.Policies (record { policies = policies }))
 policies_or_fault file (Some refused) policies = Err (refusal_fault file refused)
 
--- the fault of what reading a request file refuses
-abbrev pub request_fault : RequestError → Fault
-request_fault request.NotBuilt = fault.NotBuilt unbuilt.Requests
-request_fault request.BadUrl = fault.BadUrl 1
-request_fault request.Memory = fault.Memory
-
-abbrev pub image_or_fault : Result Url RequestError → Result Content Fault
-image_or_fault (Ok there) = Ok (content.Image there)
-image_or_fault (Err refused) = Err (request_fault refused)
-
--- what bytes within the limit hold
+-- what bytes within the limit hold; descriptions are read while they are judged
 abbrev pub read_within : Origin → Role → List ℕ → Result Content Fault
 read_within origin role.Policy bytes =
     policies_or_fault role.Policy (refusal_of bytes origin) (policies bytes origin)
-read_within origin role.Requests bytes = image_or_fault (requested_url bytes)
+read_within origin role.Requests bytes = Ok (content.Requests bytes)
 
 -- what the bytes of a file hold, or their first fault
 abbrev pub read_as : Origin → Role → List ℕ → Result Content Fault

@@ -3,7 +3,6 @@ pub mod Files
 pub mod Laws
 pub mod Lines
 pub mod Outputs
-pub mod Requests
 pub mod Shown
 pub mod Texts
 pub mod Words

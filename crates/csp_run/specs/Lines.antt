@@ -1,7 +1,7 @@
 -- What `judge` prints: a line for each request.
 use Rattle.std.specs.Prelude.{ℕ, ◌+◌, Bool, if◌then◌else◌, List, [], ◌∷◌, ◌++◌, map, codes, decimal}
 use Rattle.std.specs.List.{flat_map, list_any}
-use Rattle.csp_model.specs.Bytes.{line_feed}
+use Rattle.csp_model.specs.Ascii.{code}
 use Rattle.csp_model.specs.Names.{name_text, disposition_text}
 use Rattle.csp_model.specs.Verdict.{verdict_of}
 use Rattle.csp_model.specs.declared.check.Check.{Check}
@@ -27,7 +27,7 @@ outcome_text blocked = if blocked then codes " blocked" else codes " allowed"
 -- the line of the request of this number: "1 blocked", the items, and a line feed
 abbrev pub verdict_line : ℕ → Verdict → List ℕ
 verdict_line request verdict =
-    decimal request ++ (outcome_text verdict.blocked ++ (flat_map item_text verdict.items ++ line_feed ∷ []))
+    decimal request ++ (outcome_text verdict.blocked ++ (flat_map item_text verdict.items ++ code "\n" ∷ []))
 
 abbrev pub lines_from : ℕ → List Verdict → List ℕ
 lines_from request [] = []

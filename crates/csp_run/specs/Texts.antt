@@ -1,8 +1,7 @@
 -- The texts of faults, and the exit codes.
 use Rattle.std.specs.Prelude.{ℕ, List, [], ◌∷◌, codes, decimal}
 use Rattle.std.specs.List.{flat_map}
-use Rattle.csp_run.specs.declared.fault.Unbuilt.{Unbuilt}
-use Rattle.csp_run.specs.declared.fault.Unbuilt.TheVariants as unbuilt
+use Rattle.csp_request.specs.Members.{field_text}
 use Rattle.csp_run.specs.declared.fault.Role.{Role}
 use Rattle.csp_run.specs.declared.fault.Role.TheVariants as role
 use Rattle.csp_run.specs.declared.fault.Limit.{Limit}
@@ -11,10 +10,6 @@ use Rattle.csp_run.specs.declared.fault.Fault.{Fault}
 use Rattle.csp_run.specs.declared.fault.Fault.TheVariants as fault
 use Rattle.csp_run.specs.declared.status.Status.{Status}
 use Rattle.csp_run.specs.declared.status.Status.TheVariants as status
-
-unfoldable pub unbuilt_text : Unbuilt → List ℕ
-unbuilt_text unbuilt.Command = codes "command"
-unbuilt_text unbuilt.Requests = codes "requests"
 
 unfoldable pub role_text : Role → List ℕ
 role_text role.Policy = codes "policy"
@@ -25,6 +20,8 @@ limit_text limit.Bytes = codes "bytes"
 limit_text limit.Policies = codes "policies"
 limit_text limit.Sources = codes "sources"
 limit_text limit.Token = codes "token"
+limit_text limit.Requests = codes "requests"
+limit_text limit.Hops = codes "hops"
 
 -- the pieces of the line that is written for a fault
 unfoldable pub fault_pieces : Fault → List (List ℕ)
@@ -33,13 +30,14 @@ fault_pieces fault.Usage =
     ∷ codes " | compare ORIGIN FIRST SECOND" ∷ codes " | check ORIGIN FIRST SECOND PROOF"
     ∷ codes " | drill N\n" ∷ []
 fault_pieces fault.BadOrigin = codes "bad origin" ∷ [] ∷ [] ∷ [] ∷ codes "\n" ∷ []
-fault_pieces (fault.NotBuilt what) = codes "not built: " ∷ unbuilt_text what ∷ [] ∷ [] ∷ codes "\n" ∷ []
+fault_pieces fault.NotBuilt = codes "not built: command" ∷ [] ∷ [] ∷ [] ∷ codes "\n" ∷ []
 fault_pieces (fault.BadPolicy file line) =
     codes "bad policy: " ∷ role_text file ∷ codes " line " ∷ decimal line ∷ codes "\n" ∷ []
 fault_pieces (fault.TooLarge file limit) =
     codes "too large: " ∷ role_text file ∷ codes " " ∷ limit_text limit ∷ codes "\n" ∷ []
-fault_pieces (fault.BadUrl request) =
-    codes "bad requests: request " ∷ decimal request ∷ codes " " ∷ codes "url" ∷ codes "\n" ∷ []
+fault_pieces fault.NotJson = codes "bad requests: not a JSON array" ∷ [] ∷ [] ∷ [] ∷ codes "\n" ∷ []
+fault_pieces (fault.BadRequest request field) =
+    codes "bad requests: request " ∷ decimal request ∷ codes " " ∷ field_text field ∷ codes "\n" ∷ []
 fault_pieces (fault.Read file) = codes "read fault: " ∷ role_text file ∷ [] ∷ [] ∷ codes "\n" ∷ []
 fault_pieces fault.Memory = codes "no memory" ∷ [] ∷ [] ∷ [] ∷ codes "\n" ∷ []
 
@@ -50,10 +48,11 @@ fault_text f = flat_map (λ piece. piece) (fault_pieces f)
 abbrev pub status_of : Fault → Status
 status_of fault.Usage = status.Usage
 status_of fault.BadOrigin = status.BadOrigin
-status_of (fault.NotBuilt what) = status.NotBuilt
+status_of fault.NotBuilt = status.NotBuilt
 status_of (fault.BadPolicy file line) = status.BadPolicy
 status_of (fault.TooLarge file limit) = status.TooLarge
-status_of (fault.BadUrl request) = status.BadRequests
+status_of fault.NotJson = status.BadRequests
+status_of (fault.BadRequest request field) = status.BadRequests
 status_of (fault.Read file) = status.ReadFault
 status_of fault.Memory = status.NoMemory
 

@@ -2,7 +2,7 @@
 use Rattle.std.specs.Prelude.{ℕ, Bool, false, ◌+◌, ◌==◌, ◌&&◌, ◌||◌, not, nat_le, nat_lt, if◌then◌else◌}
 use Rattle.std.specs.Prelude.{List, [], ◌∷◌, length, slice_index, Option, Some, None, Result, Ok, Err, codes}
 use Rattle.std.specs.Str.{bytes_eq}
-use Rattle.csp_model.specs.Bytes.{digit_zero}
+use Rattle.csp_model.specs.Ascii.{code}
 use Rattle.csp_model.specs.Grammar.{are_digits, decimal_value}
 use Rattle.csp_model.specs.declared.url.Origin.{Origin}
 use Rattle.csp_url.specs.Origins.{origin_of}
@@ -10,14 +10,13 @@ use Rattle.csp_run.specs.declared.fault.Fault.{Fault}
 use Rattle.csp_run.specs.declared.fault.Fault.TheVariants.{Usage, BadOrigin, NotBuilt}
 use Rattle.csp_run.specs.declared.fault.Role.{Role}
 use Rattle.csp_run.specs.declared.fault.Role.TheVariants as role
-use Rattle.csp_run.specs.declared.fault.Unbuilt.TheVariants as unbuilt
 use Rattle.csp_run.specs.declared.plan.Form.{Form}
 use Rattle.csp_run.specs.declared.plan.Form.TheVariants.{Judge}
 
 -- how many pairs of sources a drill has: a decimal number from 1 to 200, without leading zeros
 unfoldable pub is_drill_number : List ℕ → Bool
 is_drill_number word =
-    are_digits word && nat_lt (length word) 4 && not (slice_index word 0 == digit_zero)
+    are_digits word && nat_lt (length word) 4 && not (slice_index word 0 == code "0")
     && nat_le (decimal_value word) 200
 
 -- words of a form that isn't built yet
@@ -74,7 +73,7 @@ verb_plan words = Err Usage
 
 -- what these words ask for, or why it is nothing
 abbrev pub plan_of : List (List ℕ) → Result Plan Fault
-plan_of words = if is_unbuilt words then Err (NotBuilt unbuilt.Command) else verb_plan words
+plan_of words = if is_unbuilt words then Err NotBuilt else verb_plan words
 
 -- the files that it reads
 abbrev pub files_asked : Result Plan Fault → List File

@@ -11,8 +11,12 @@ use csp_io::Inputs;
 use csp_model::{List, Text};
 use std::alloc::Global;
 
-/// The whole output, or why there is none.
-pub fn answer<I: Inputs>(alloc: Global, words: &List<Text>, inputs: &mut I) -> Result<Built, Fault>
+// The whole output, or why there is none.
+pub(crate) fn answer<I: Inputs>(
+    alloc: Global,
+    words: &List<Text>,
+    inputs: &mut I,
+) -> Result<Built, Fault>
     ensures due { IsDue (world I.Inputs inputs.old inputs.new) words.now result }
     ensures contents { (n : Items ℕ) → I.contents inputs.new n ≡ I.contents inputs.old n }
     ensures later { (n : Items ℕ) → I.faults inputs.old n ≤ I.faults inputs.new n }

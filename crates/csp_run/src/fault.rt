@@ -3,15 +3,8 @@ ghost use Rattle.std.specs.Prelude.{◌≡◌};
 ghost use Rattle.csp_run.specs.Texts as texts;
 
 use crate::status::Status;
-
-/// What isn't built yet.
-#[derive(Clone, Copy, Debug, PartialEq, Eq)]
-pub enum Unbuilt {
-    /// The command that the words name.
-    Command,
-    /// The requests of a request file.
-    Requests,
-}
+use csp_model::Memory;
+use csp_request::Field;
 
 /// What a file is to a command.
 #[derive(Clone, Copy, Debug, PartialEq, Eq)]
@@ -33,6 +26,10 @@ pub enum Limit {
     Sources,
     /// The bytes of a directive's name or a value token: 4,096.
     Token,
+    /// The requests of a file: 10,000.
+    Requests,
+    /// The URLs of a redirect chain: 21.
+    Hops,
 }
 
 /// Why a run has no output.
@@ -42,14 +39,16 @@ pub enum Fault {
     Usage,
     /// The word for the origin is none.
     BadOrigin,
-    /// The words or a file ask for what isn't built yet.
-    NotBuilt { what: Unbuilt },
+    /// The words ask for a command that isn't built yet.
+    NotBuilt,
     /// The line of this number, counted from 1, is the first bad one of a policy file.
     BadPolicy { file: Role, line: u32 },
     /// A count of a file passes its limit.
     TooLarge { file: Role, limit: Limit },
-    /// The URL of the request of this number, counted from 1, is none.
-    BadUrl { request: u32 },
+    /// A request file isn't a JSON array.
+    NotJson,
+    /// A member of the description of this number, counted from 1, is missing or misused.
+    BadRequest { request: u32, field: Field },
     /// A file couldn't be read.
     Read { file: Role },
     /// There was no memory.
@@ -63,11 +62,21 @@ pub fn status_of(fault: Fault) -> Status
     match fault {
         Fault::Usage => Status::Usage,
         Fault::BadOrigin => Status::BadOrigin,
-        Fault::NotBuilt { .. } => Status::NotBuilt,
+        Fault::NotBuilt => Status::NotBuilt,
         Fault::BadPolicy { .. } => Status::BadPolicy,
         Fault::TooLarge { .. } => Status::TooLarge,
-        Fault::BadUrl { .. } => Status::BadRequests,
+        Fault::NotJson | Fault::BadRequest { .. } => Status::BadRequests,
         Fault::Read { .. } => Status::ReadFault,
         Fault::Memory => Status::NoMemory,
+    }
+}
+
+impl From<Memory> for Fault {
+    ghost use Rattle.csp_run.specs.declared.fault.Fault.{Fault};
+
+    ghost from_gives = { λ _ made. made ≡ Fault.Memory };
+
+    fn from(_: Memory) -> Fault {
+        Fault::Memory
     }
 }

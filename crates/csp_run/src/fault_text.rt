@@ -2,21 +2,13 @@
 ghost use Rattle.std.specs.Prelude.{◌≡◌, ◌≤◌, OnOk, OnErr, map};
 ghost use Rattle.std.specs.List.{flat_map};
 ghost use Rattle.csp_io.specs.Told.{Rose, GrewBy, GrewByPrefix};
+ghost use Rattle.csp_request.specs.Members as members;
 ghost use Rattle.csp_run.specs.Texts as texts;
 
-use crate::fault::{Fault, Limit, Role, Unbuilt};
+use crate::fault::{Fault, Limit, Role};
 use csp_io::{Failed, Sink, write_all};
+use csp_request::Field;
 use itoa::Buffer;
-
-#[tactic(auto, unfolding(crate::specs::Texts::unbuilt_text))]
-fn unbuilt_text<'a>(what: Unbuilt) -> &'a str
-    ensures { result.now ≡ texts.unbuilt_text what }
-{
-    match what {
-        Unbuilt::Command => "command",
-        Unbuilt::Requests => "requests",
-    }
-}
 
 #[tactic(auto, unfolding(crate::specs::Texts::role_text))]
 fn role_text<'a>(role: Role) -> &'a str
@@ -37,7 +29,15 @@ fn limit_text<'a>(limit: Limit) -> &'a str
         Limit::Policies => "policies",
         Limit::Sources => "sources",
         Limit::Token => "token",
+        Limit::Requests => "requests",
+        Limit::Hops => "hops",
     }
+}
+
+fn field_text<'a>(field: Field) -> &'a str
+    ensures { result.now ≡ members.field_text field }
+{
+    field.as_str()
 }
 
 // Writes the pieces one after the other.
@@ -72,7 +72,7 @@ fn pieces<'a>(fault: Fault, digits: &'a mut Buffer) -> [&'a str; 5]
             " | drill N\n",
         ],
         Fault::BadOrigin => ["bad origin", "", "", "", "\n"],
-        Fault::NotBuilt { what } => ["not built: ", unbuilt_text(what), "", "", "\n"],
+        Fault::NotBuilt => ["not built: command", "", "", "", "\n"],
         Fault::BadPolicy { file, line } => {
             [
                 "bad policy: ",
@@ -85,11 +85,12 @@ fn pieces<'a>(fault: Fault, digits: &'a mut Buffer) -> [&'a str; 5]
         Fault::TooLarge { file, limit } => {
             ["too large: ", role_text(file), " ", limit_text(limit), "\n"]
         }
-        Fault::BadUrl { request } => [
+        Fault::NotJson => ["bad requests: not a JSON array", "", "", "", "\n"],
+        Fault::BadRequest { request, field } => [
             "bad requests: request ",
             digits.format(request),
             " ",
-            "url",
+            field_text(field),
             "\n",
         ],
         Fault::Read { file } => ["read fault: ", role_text(file), "", "", "\n"],

@@ -6,11 +6,10 @@ ghost use Rattle.csp_run.specs.Files as spec;
 ghost use Rattle.csp_run.specs.Files.{world};
 ghost use Rattle.csp_run.specs.Shown.{IsSound, files_of};
 
-use crate::fault::{Fault, Limit, Role, Unbuilt};
+use crate::fault::{Fault, Limit, Role};
 use crate::plan::{Plan, role_at};
-use crate::request::{RequestError, requested_url};
 use csp_io::{Inputs, ReadError, read_all};
-use csp_model::{List, Origin, PolicyList, Url};
+use csp_model::{Bytes, List, Origin, PolicyList};
 use csp_policy::{BlockError, read_block};
 use std::alloc::Global;
 
@@ -19,15 +18,15 @@ use std::alloc::Global;
 pub enum Content {
     /// The policies of a policy file.
     Policies(PolicyList),
-    /// The URL of the one image that a request file asks for.
-    Image(Url),
+    /// The bytes of a request file, whose descriptions are read while they are judged.
+    Requests(Bytes),
 }
 
 // The bytes that a file may have.
 const FILE_LIMIT: usize = 8_388_608;
 
-/// What the files of a plan hold, each read before the next is touched, or the first fault.
-pub fn read_files<I: Inputs>(
+// What the files of a plan hold, each read before the next is touched, or the first fault.
+pub(crate) fn read_files<I: Inputs>(
     alloc: Global,
     inputs: &mut I,
     plan: &Plan<'_>,
@@ -70,7 +69,7 @@ fn read_file<I: Inputs>(
     ensures later { (n : Items ℕ) → I.faults inputs.old n ≤ I.faults inputs.new n }
 {
     match read_all(alloc, inputs, name, FILE_LIMIT) {
-        Ok(bytes) => content_of(alloc, origin, role, bytes.as_slice()),
+        Ok(bytes) => content_of(alloc, origin, role, bytes),
         Err(ReadError::TooLong) => Err(Fault::TooLarge {
             file: role,
             limit: Limit::Bytes,
@@ -81,21 +80,18 @@ fn read_file<I: Inputs>(
 }
 
 // What the bytes of a file within the limit hold.
-fn content_of(alloc: Global, origin: &Origin, role: Role, bytes: &[u8]) -> Result<Content, Fault>
+fn content_of(alloc: Global, origin: &Origin, role: Role, bytes: Bytes) -> Result<Content, Fault>
     requires valid { IsValidOrigin origin.now }
-    requires short { length bytes.now ≤ FILE_LIMIT }
-    ensures read { result ≢ Err Fault.Memory → result ≡ spec.read_as origin.now role bytes.now }
+    requires short { length bytes ≤ FILE_LIMIT }
+    ensures read { result ≢ Err Fault.Memory → result ≡ spec.read_as origin.now role bytes }
     ensures sound { IfOk result IsSound }
 {
     match role {
-        Role::Policy => match read_block(alloc, bytes, origin) {
+        Role::Policy => match read_block(alloc, bytes.as_slice(), origin) {
             Ok(list) => Ok(Content::Policies(list)),
             Err(error) => Err(refusal_fault(role, error)),
         },
-        Role::Requests => match requested_url(alloc, bytes) {
-            Ok(url) => Ok(Content::Image(url)),
-            Err(error) => Err(request_fault(error)),
-        },
+        Role::Requests => Ok(Content::Requests(bytes)),
     }
 }
 
@@ -118,18 +114,5 @@ fn refusal_fault(file: Role, error: BlockError) -> Fault
             limit: Limit::Token,
         },
         BlockError::Memory => Fault::Memory,
-    }
-}
-
-// The fault of what reading a request file refuses.
-fn request_fault(error: RequestError) -> Fault
-    ensures { result ≡ spec.request_fault error }
-{
-    match error {
-        RequestError::NotBuilt => Fault::NotBuilt {
-            what: Unbuilt::Requests,
-        },
-        RequestError::BadUrl => Fault::BadUrl { request: 1 },
-        RequestError::Memory => Fault::Memory,
     }
 }

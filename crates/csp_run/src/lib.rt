@@ -9,7 +9,6 @@ pub mod laws;
 mod lines;
 mod output;
 mod plan;
-mod request;
 mod status;
 mod top;
 

@@ -1,11 +1,10 @@
 //! The lines that `judge` prints.
-ghost use Rattle.std.specs.Prelude.{◌≡◌, ◌++◌, ◌∷◌, [], IfOk, OnOk, string_bytes};
+ghost use Rattle.std.specs.Prelude.{◌≡◌, ◌++◌, OnOk};
 ghost use Rattle.std.specs.List.{flat_map};
 ghost use Rattle.csp_run.specs.Lines as lines;
 
-use csp_model::{Bytes, Item, Memory, Verdict, name_text};
+use csp_model::{Item, Memory, Verdict, name_text};
 use itoa::Buffer;
-use std::alloc::Global;
 
 fn push_all(text: &mut Vec<u8>, pieces: &[&str]) -> Result<(), Memory>
     ensures { OnOk result (text.new.items ≡ text.old.items ++ flat_map (λ piece. piece.now) pieces.now) }
@@ -55,17 +54,20 @@ fn outcome_text(blocked: bool) -> &'static str
     if blocked { " blocked" } else { " allowed" }
 }
 
-/// The line of the request of this number.
-pub fn verdict_line(alloc: Global, request: u32, verdict: &Verdict) -> Result<Bytes, Memory>
-    ensures { IfOk result (λ line. line ≡ lines.verdict_line request verdict.now) }
+// Writes the line of the request of this number behind a text.
+pub(crate) fn push_verdict(
+    text: &mut Vec<u8>,
+    request: u32,
+    verdict: &Verdict,
+) -> Result<(), Memory>
+    ensures { OnOk result (text.new.items ≡ text.old.items ++ lines.verdict_line request verdict.now) }
 {
     let mut digits = Buffer::new();
-    let mut text = Vec::new(alloc);
     push_all(
-        &mut text,
+        text,
         &[digits.format(request), outcome_text(verdict.blocked)],
     )?;
-    push_items(&mut text, verdict.items.as_slice())?;
+    push_items(text, verdict.items.as_slice())?;
     text.extend_from_slice(b"\n")?;
-    Ok(Bytes::from_vec(text))
+    Ok(())
 }

@@ -1,17 +1,22 @@
 //! What each command prints of what its files hold.
-ghost use Rattle.std.specs.Prelude.{◌≡◌, ◌≢◌, ◌∷◌, [], IfOk, IsTrue, All, if◌then◌else◌};
+ghost use Rattle.std.specs.Prelude.{◌≡◌, ◌≢◌, ◌≤◌, IsTrue, All, length, map, if◌then◌else◌};
+ghost use Rattle.serde_json.specs.View.{view};
 ghost use Rattle.csp_model.specs.Policies.{IsReadable};
-ghost use Rattle.csp_run.specs.Lines.{judgment};
-ghost use Rattle.csp_run.specs.Outputs.{IsOutput};
-ghost use Rattle.csp_run.specs.Requests.{image_check};
-ghost use Rattle.csp_run.specs.Shown.{fits, IsSound};
+ghost use Rattle.csp_request.specs.Described.{described};
+ghost use Rattle.csp_request.specs.Requests.{described_from, request_limit, requests_of};
+ghost use Rattle.csp_token.specs.Digests.{digests_of};
+ghost use Rattle.csp_run.specs.Outputs.{IsOutput, judged, request_fault};
+ghost use Rattle.csp_run.specs.Shown.{fits, IsSound, verdict_on};
 
-use crate::fault::Fault;
+use crate::fault::{Fault, Limit, Role};
 use crate::files::Content;
-use crate::lines::verdict_line;
+use crate::lines::push_verdict;
 use crate::plan::Form;
 use crate::status::Status;
-use csp_model::{Bytes, Check, Described, Duplicate, Group, List, Memory, PolicyList, Text, Url};
+use csp_model::{Bytes, PolicyList, Verdict};
+use csp_request::{RequestError, Requests, describe_for};
+use csp_verdict::CompiledList;
+use serde_json::Value;
 use std::alloc::Global;
 
 /// A whole output.
@@ -21,53 +26,66 @@ pub struct Built {
     pub text: Bytes,
 }
 
-/// The output of a command on what its files hold.
-pub fn output(alloc: Global, form: Form, contents: &[Content]) -> Result<Built, Fault>
+// The output of a command on what its files hold.
+pub(crate) fn output(alloc: Global, form: Form, contents: &[Content]) -> Result<Built, Fault>
     requires fits { IsTrue (fits form contents.now) }
     requires sound { All IsSound contents.now }
     ensures { result ≢ Err Fault.Memory → IsOutput form (Ok contents.now) result }
 {
-    let built = match (form, contents) {
-        (Form::Judge, [Content::Policies(list), Content::Image(url)]) => judge(alloc, list, url),
+    match (form, contents) {
+        (Form::Judge, [Content::Policies(list), Content::Requests(bytes)]) => {
+            judge(alloc, list, bytes.as_slice())
+        }
         _ => unreachable!(),
-    };
-    match built {
-        Ok(built) => Ok(built),
-        Err(_) => Err(Fault::Memory),
     }
 }
 
-// The lines of the verdict on an image.
-fn judge(alloc: Global, list: &PolicyList, url: &Url) -> Result<Built, Memory>
+// The lines of the verdicts on the requests of a request file.
+fn judge(alloc: Global, list: &PolicyList, bytes: &[u8]) -> Result<Built, Fault>
     requires { IsReadable list.now }
-    ensures { IfOk result (λ built. built ≡ judgment list.now ((image_check url.now ∷ []) ∷ [])) }
+    ensures { result ≢ Err Fault.Memory → result ≡ judged list.now (requests_of bytes.now) }
 {
-    let verdict = csp_verdict::judge(alloc, list, &image(alloc, url)?)?;
-    let text = verdict_line(alloc, 1, &verdict)?;
+    match Requests::read(alloc, bytes) {
+        Ok(requests) => judge_each(alloc, list, requests.as_slice()),
+        Err(error) => Err(request_fault(error)),
+    }
+}
+
+// The lines of the verdicts on descriptions, each of which is described, judged and dropped in its turn.
+fn judge_each(alloc: Global, list: &PolicyList, requests: &[Value]) -> Result<Built, Fault>
+    requires readable { IsReadable list.now }
+    requires few { length requests.now ≤ request_limit }
+    ensures { result ≢ Err Fault.Memory
+        → result ≡ judged list.now (described_from digests_of 1 (map view requests.now)) }
+{
+    let list = CompiledList::new(alloc, list)?;
+    let mut text = Vec::new(alloc);
+    let mut blocked = false;
+    for (place, request) in requests.iter().enumerate() {
+        let number = place as u32 + 1;
+        let verdict = judge_one(alloc, &list, number, request)?;
+        push_verdict(&mut text, number, &verdict)?;
+        blocked |= verdict.blocked;
+    }
     Ok(Built {
-        status: judged_status(verdict.blocked),
-        text,
+        status: judged_status(blocked),
+        text: Bytes::from_vec(text),
     })
 }
 
-// The fetch of an image, as a description.
-fn image(alloc: Global, url: &Url) -> Result<Described, Memory>
-    ensures { IfOk result (λ made. made.checks ≡ image_check url.now ∷ []) }
+// The verdict on the description of this number. Only digests that some policy names are computed.
+fn judge_one(
+    alloc: Global,
+    list: &CompiledList<'_>,
+    number: u32,
+    request: &Value,
+) -> Result<Verdict, Fault>
+    ensures { result ≢ Err Fault.Memory → result ≡ verdict_on list.now number (described (view request.now)) }
 {
-    let mut checks = List::new(alloc);
-    checks.push(Check::Fetch {
-        group: Group::Img,
-        url: url.copy(alloc)?,
-        redirects: 0,
-        nonce: Text::new(alloc, "")?,
-        integrity: List::new(alloc),
-        parser_inserted: false,
-    })?;
-    Ok(Described {
-        checks,
-        blocked_uri: Text::new(alloc, "")?,
-        sample: Text::new(alloc, "")?,
-    })
+    match describe_for(alloc, request, list.algorithms()) {
+        Ok(described) => Ok(list.judge(alloc, &described)?),
+        Err(error) => Err(request_fault(error.at(number))),
+    }
 }
 
 fn judged_status(blocked: bool) -> Status
@@ -77,5 +95,28 @@ fn judged_status(blocked: bool) -> Status
         Status::Found
     } else {
         Status::Clean
+    }
+}
+
+// The fault of what a request file is refused for.
+fn request_fault(error: RequestError) -> Fault
+    ensures { result ≡ request_fault error }
+{
+    let file = Role::Requests;
+    match error {
+        RequestError::NotJson => Fault::NotJson,
+        RequestError::TooManyRequests => Fault::TooLarge {
+            file,
+            limit: Limit::Requests,
+        },
+        RequestError::BadRequest { index, field } => Fault::BadRequest {
+            request: index,
+            field,
+        },
+        RequestError::TooManyHops { .. } => Fault::TooLarge {
+            file,
+            limit: Limit::Hops,
+        },
+        RequestError::Memory => Fault::Memory,
     }
 }

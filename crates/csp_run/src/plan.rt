@@ -4,7 +4,7 @@ ghost use Rattle.csp_model.specs.Validity.{IsValidOrigin};
 ghost use Rattle.csp_run.specs.Shown.{shown};
 ghost use Rattle.csp_run.specs.Words as spec;
 
-use crate::fault::{Fault, Role, Unbuilt};
+use crate::fault::{Fault, Role};
 use csp_model::{Origin, Text, are_digits, decimal_value};
 use csp_url::{OriginError, read_origin};
 use std::alloc::Global;
@@ -24,8 +24,8 @@ pub struct Plan<'a> {
     pub names: &'a [Text],
 }
 
-/// What a file at a place, counted from 0, is to a command.
-pub fn role_at(form: Form, place: usize) -> Role
+// What a file at a place, counted from 0, is to a command.
+pub(crate) fn role_at(form: Form, place: usize) -> Role
     ensures { result ≡ spec.role_at form place }
 {
     match form {
@@ -34,17 +34,15 @@ pub fn role_at(form: Form, place: usize) -> Role
     }
 }
 
-/// What these words ask for, or why it is nothing: `Usage`, `NotBuilt` or `BadOrigin`, tested in this order,
-/// or `Memory`.
-pub fn plan_of(alloc: Global, words: &[Text]) -> Result<Plan<'_>, Fault>
+// What these words ask for, or why it is nothing: `Usage`, `NotBuilt` or `BadOrigin`, tested in this order,
+// or `Memory`.
+pub(crate) fn plan_of(alloc: Global, words: &[Text]) -> Result<Plan<'_>, Fault>
     ensures plan { result ≢ Err Fault.Memory → shown result ≡ spec.plan_of words.now }
     ensures takes { IfOk result (λ plan. IsTrue (spec.takes plan.form (length plan.names.now))) }
     ensures valid { IfOk result (λ plan. IsValidOrigin plan.origin) }
 {
     if is_unbuilt(words) {
-        return Err(Fault::NotBuilt {
-            what: Unbuilt::Command,
-        });
+        return Err(Fault::NotBuilt);
     }
     match words {
         [verb, origin, names @ ..] => match form_of(verb.as_str()) {

@@ -8,7 +8,9 @@ use csp_run::{Status, exit_code, run};
 use std::alloc::Global;
 
 // The examples: each has a policy file NAME.txt and a request file NAME.json.
-const EXAMPLES: [(&str, &str, &str); 2] = [
+const EXAMPLES: [(&str, &str, &str); 4] = [
+    ("first", "first.txt", "first.json"),
+    ("kinds", "kinds.txt", "kinds.json"),
     ("blocked", "blocked.txt", "blocked.json"),
     ("report-only", "report-only.txt", "report-only.json"),
 ];

@@ -122,12 +122,22 @@ const OF_THE_REST: [Row; 20] = [
     (false, "outside", "has abc", None),
 ];
 
+// What a literal says of an atom.
+fn said(alloc: Global, known: &Literal, asked: &str) -> Result<Option<bool>, Memory> {
+    let asked = atom(alloc, asked)?;
+    let answer = follows(known, &asked);
+    drop(asked);
+    Ok(answer)
+}
+
 // The first row that is answered otherwise.
 fn first_wrong(alloc: Global, rows: &[Row]) -> Result<Option<Row>, Memory> {
     for row in rows {
-        let (positive, known, asked, answer) = *row;
+        let &(positive, known, asked, wanted) = row;
         let literal = literal(alloc, positive, known)?;
-        if follows(&literal, &atom(alloc, asked)?) != answer {
+        let answer = said(alloc, &literal, asked);
+        drop(literal);
+        if answer? != wanted {
             return Ok(Some(*row));
         }
     }
@@ -142,68 +152,76 @@ fn what_literals_say(rt: HostRuntime) -> Result<(), Fail> {
     Ok(())
 }
 
-// Whether an atom holds of a check, with the vocabulary of the hash `abc`.
-fn does_hold(alloc: Global, spelling: &str, check: &Check) -> Result<bool, Memory> {
+// The first atom that the check answers otherwise, with the vocabulary of the hash `abc`.
+fn first_otherwise(
+    alloc: Global,
+    check: &Check,
+    rows: &[(&'static str, bool)],
+) -> Result<Option<&'static str>, Memory> {
     let mut hashes = List::new(alloc);
     hashes.push(hash(alloc, Algorithm::Sha256, "abc")?)?;
-    Ok(holds(&atom(alloc, spelling)?, check, &Vocabulary { hashes }))
+    let vocabulary = Vocabulary { hashes };
+    for &(spelling, wanted) in rows {
+        let atom = atom(alloc, spelling)?;
+        let answer = holds(&atom, check, &vocabulary);
+        drop(atom);
+        if answer != wanted {
+            return Ok(Some(spelling));
+        }
+    }
+    Ok(None)
 }
+
+const OF_A_SCRIPT: [(&str, bool); 16] = [
+    ("host x.a.example", true),
+    ("address x.a.example", false),
+    ("under a.example", true),
+    ("under x.a.example", false),
+    ("domain", true),
+    ("https", true),
+    ("http", false),
+    ("path p/q", true),
+    ("below p", true),
+    ("below p/q", false),
+    ("scheme https", false),
+    ("nonce abc", true),
+    ("has d", true),
+    ("has e", false),
+    ("outside", true),
+    ("ones", false),
+];
 
 #[test]
 fn what_holds_for_a_script(rt: HostRuntime) -> Result<(), Fail> {
-    let script = fetch(
-        rt.alloc(),
-        Group::ScriptElem,
-        "https://x.a.example/p/q",
-        0,
-        false,
-    )?;
-    for (spelling, answer) in [
-        ("host x.a.example", true),
-        ("address x.a.example", false),
-        ("under a.example", true),
-        ("under x.a.example", false),
-        ("domain", true),
-        ("https", true),
-        ("http", false),
-        ("path p/q", true),
-        ("below p", true),
-        ("below p/q", false),
-        ("scheme https", false),
-        ("nonce abc", true),
-        ("has d", true),
-        ("has e", false),
-        ("outside", true),
-        ("ones", false),
-    ] {
-        assert_eq!(rt;
-            does_hold(rt.alloc(), spelling, &script)?,
-            answer,
-            "{spelling}"
-        );
-    }
+    let url = "https://x.a.example/p/q";
+    let script = fetch(rt.alloc(), Group::ScriptElem, url, 0, false)?;
+    let wrong = first_otherwise(rt.alloc(), &script, &OF_A_SCRIPT);
+    drop(script);
+    assert_eq!(rt; wrong?, None);
     Ok(())
 }
 
+const OF_A_STYLE: [(&str, bool); 3] = [("longer", true), ("twos", false), ("outside", false)];
+
 #[test]
-fn what_holds_for_a_style_and_a_plain_url(rt: HostRuntime) -> Result<(), Fail> {
+fn what_holds_for_a_style(rt: HostRuntime) -> Result<(), Fail> {
     let style = inline_style(rt.alloc())?;
+    let wrong = first_otherwise(rt.alloc(), &style, &OF_A_STYLE);
+    drop(style);
+    assert_eq!(rt; wrong?, None);
+    Ok(())
+}
+
+const OF_A_PLAIN_URL: [(&str, bool); 2] = [("scheme data", true), ("domain", false)];
+
+#[test]
+fn what_holds_for_a_plain_url(rt: HostRuntime) -> Result<(), Fail> {
     let base = Check::Base {
         url: read_url(rt.alloc(), "data:,")?,
     };
-    for (check, spelling, answer) in [
-        (&style, "longer", true),
-        (&style, "twos", false),
-        (&style, "outside", false),
-        (&base, "scheme data", true),
-        (&base, "domain", false),
-    ] {
-        assert_eq!(rt;
-            does_hold(rt.alloc(), spelling, check)?,
-            answer,
-            "{spelling}"
-        );
-    }
+    let wrong = first_otherwise(rt.alloc(), &base, &OF_A_PLAIN_URL);
+    drop(base);
+    assert_eq!(rt; wrong?, None);
     Ok(())
 }
 
@@ -216,17 +234,20 @@ fn vocabulary_of_two_lists(rt: HostRuntime) -> Result<(), Fail> {
     )?;
     let second = policies(&rt, "Content-Security-Policy: x 'sha256-c' 'sha256-a'")?;
     let made = vocabulary_of(rt.alloc(), &first, &second)?;
-    let wanted = ["b", "a", "c"].map(|value| (Algorithm::Sha256, value));
+    let wanted = [
+        (Algorithm::Sha256, "b"),
+        (Algorithm::Sha256, "a"),
+        (Algorithm::Sha256, "c"),
+    ];
     assert!(rt; are_hashes(&made.hashes, &wanted));
     Ok(())
 }
 
 #[test]
 fn copies(rt: HostRuntime) -> Result<(), Fail> {
-    for spelling in ["under a.example", "host b.example", "path x/y", "has abc"] {
-        let literal = literal(rt.alloc(), false, spelling)?;
-        assert!(rt; is_copied(rt.alloc(), &literal)?);
-        assert!(rt; is_copied(rt.alloc(), &literal.atom)?);
+    for &spelling in &["under a.example", "host b.example", "path x/y", "has abc"] {
+        assert!(rt; is_copied(rt.alloc(), literal(rt.alloc(), false, spelling)?)?);
+        assert!(rt; is_copied(rt.alloc(), atom(rt.alloc(), spelling)?)?);
     }
     Ok(())
 }

@@ -31,10 +31,9 @@ fn read_hello(
 {
     let held = files(alloc, &[("a", "other"), ("b", "hello"), ("b", "second")])?;
     let mut inputs = MemoryInputs::new(held, piece, numbers(alloc, failing)?);
-    match read_all(alloc, &mut inputs, "b", usize::from(limit)) {
-        Ok(bytes) => Ok(Ok(bytes.as_slice() == b"hello".as_slice())),
-        Err(error) => Ok(Err(error)),
-    }
+    let read = read_all(alloc, &mut inputs, "b", usize::from(limit));
+    drop(inputs);
+    Ok(read.map(|bytes| bytes.as_slice() == b"hello".as_slice()))
 }
 
 // The bytes a read gives, the limit, the calls that fail, and what comes of the file.
@@ -62,7 +61,7 @@ const HELLO: [(usize, u8, &[u64], Result<bool, ReadError>); 16] = [
 
 #[test]
 fn whole_files_at_and_past_the_limit(rt: HostRuntime) -> Result<(), Fail> {
-    for (piece, limit, failing, wanted) in HELLO {
+    for &(piece, limit, failing, wanted) in &HELLO {
         assert!(rt; 0 < piece);
         let found = read_hello(rt.alloc(), piece, limit, failing)?;
         assert_eq!(rt;
@@ -79,18 +78,21 @@ fn files_in_memory(rt: HostRuntime) -> Result<(), Fail> {
     let alloc = rt.alloc();
     let held = files(alloc, &[("a", "hello"), ("a", "second")])?;
     let mut inputs = MemoryInputs::new(held, 3, numbers(alloc, &[3])?);
-    let mut into = *b"....";
     assert_eq!(rt; inputs.start("b"), Err(StartError::Failed));
     assert_eq!(rt; inputs.start("a"), Ok(()));
+    let mut into = *b"....";
     assert_eq!(rt; inputs.read(&mut into), Ok(3));
     assert_eq!(rt; into, *b"hel.");
     assert_eq!(rt; inputs.read(&mut into), Err(Failed));
+    drop(inputs);
     Ok(())
 }
 
 fn read_file(rt: &impl Files, alloc: Global, name: &str, limit: u8) -> Result<Bytes, ReadError> {
     let mut inputs = FileInputs::new(rt, alloc);
-    read_all(alloc, &mut inputs, name, usize::from(limit))
+    let read = read_all(alloc, &mut inputs, name, usize::from(limit));
+    drop(inputs);
+    read
 }
 
 #[test]
@@ -99,12 +101,13 @@ fn files_of_the_system(rt: HostRuntime) -> Result<(), Fail> {
     let name = "csp_tests.tmp";
     fs::write(&rt, name, "hello")?;
     let whole = read_file(&rt, alloc, name, 5);
-    let short = read_file(&rt, alloc, name, 4);
+    let is_whole = whole.is_ok_and(|bytes| bytes.as_slice() == b"hello".as_slice());
+    let short = read_file(&rt, alloc, name, 4).err();
     fs::remove_file(&rt, name)?;
-    let gone = read_file(&rt, alloc, name, 5);
-    assert_eq!(rt; whole?.as_slice(), b"hello".as_slice());
-    assert_eq!(rt; short.err(), Some(ReadError::TooLong));
-    assert_eq!(rt; gone.err(), Some(ReadError::Fault));
+    let gone = read_file(&rt, alloc, name, 5).err();
+    assert!(rt; is_whole);
+    assert_eq!(rt; short, Some(ReadError::TooLong));
+    assert_eq!(rt; gone, Some(ReadError::Fault));
     Ok(())
 }
 
@@ -114,6 +117,7 @@ fn a_folder_opens_and_does_not_read(rt: HostRuntime) {
     let mut into = [0; 4];
     assert_eq!(rt; inputs.start("."), Ok(()));
     assert_eq!(rt; inputs.read(&mut into), Err(Failed));
+    drop(inputs);
     let whole = read_file(&rt, rt.alloc(), ".", 5);
     assert_eq!(rt; whole.err(), Some(ReadError::Fault));
 }

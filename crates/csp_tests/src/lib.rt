@@ -1,7 +1,8 @@
-//! Tests of the public calls of all crates: worked examples and the vectors of the standards as tables, each
-//! call once with memory enough, and a read, a write and an allocation that fail.
+//! Tests of the public calls below `csp_run`: worked examples and the vectors of the standards as tables,
+//! each call once with memory enough, and a read and a write that fail.
 //!
 //! Nothing stands on this crate. What a proved clause says of every input is not tested again.
+//! A value of many cases is let go by `drop`, since its end is dear to prove where it stands.
 #![tactic(auto)]
 
 #[cfg(test)]
@@ -14,8 +15,6 @@ mod matching;
 mod model;
 #[cfg(test)]
 mod policies;
-#[cfg(test)]
-mod runs;
 #[cfg(test)]
 mod shapes;
 #[cfg(test)]

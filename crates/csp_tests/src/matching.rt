@@ -1,25 +1,52 @@
 //! Tests of csp_match.
 use crate::values::{policy, source, sources};
 use csp_match::{governing, governor, list_matches, source_matches};
-use csp_model::Name;
-use csp_url::{read_origin, read_url};
+use csp_model::{List, Name, Origin, Policy, Source};
+use csp_url::{UrlError, read_origin, read_url};
+use std::alloc::Global;
 use std::process::Abort;
 use std::test::Fail;
 
-// Whether a token matches a URL in a policy of an origin, where a redirect led to it and where none did.
+// Whether a source matches a URL in a policy of an origin, where a redirect led to it and where none did.
+fn source_and_url(
+    alloc: Global,
+    source: &Source,
+    origin: &Origin,
+    url: &str,
+) -> Result<(bool, bool), UrlError> {
+    let url = read_url(alloc, url)?;
+    let found = (
+        source_matches(source, origin, &url, true),
+        source_matches(source, origin, &url, false),
+    );
+    drop(url);
+    Ok(found)
+}
+
+// The same of the source of a token.
+fn token_and_url(
+    rt: &(impl Abort + AllocGlobal),
+    token: &str,
+    origin: &Origin,
+    url: &str,
+) -> Result<(bool, bool), Fail> {
+    let source = source(rt, token)?;
+    let found = source_and_url(rt.alloc(), &source, origin, url);
+    drop(source);
+    Ok(found?)
+}
+
+// The same of the text of an origin.
 fn matches(
     rt: &(impl Abort + AllocGlobal),
     origin: &str,
     token: &str,
     url: &str,
 ) -> Result<(bool, bool), Fail> {
-    let source = source(rt, token)?;
     let origin = read_origin(rt.alloc(), origin)?;
-    let url = read_url(rt.alloc(), url)?;
-    Ok((
-        source_matches(&source, &origin, &url, true),
-        source_matches(&source, &origin, &url, false),
-    ))
+    let found = token_and_url(rt, token, &origin, url);
+    drop(origin);
+    found
 }
 
 // A token, a URL, and whether they match in a policy of `https://a.example`.
@@ -51,7 +78,7 @@ const OWN: [(&str, &str, bool); 23] = [
 
 #[test]
 fn tokens(rt: HostRuntime) -> Result<(), Fail> {
-    for (token, url, wanted) in OWN {
+    for &(token, url, wanted) in &OWN {
         let found = matches(&rt, "https://a.example", token, url)?;
         assert_eq!(rt; found, (wanted, wanted), "{token} {url}");
     }
@@ -77,7 +104,7 @@ const OPAQUE: [(&str, &str, bool); 13] = [
 
 #[test]
 fn tokens_in_a_policy_of_an_opaque_origin(rt: HostRuntime) -> Result<(), Fail> {
-    for (token, url, wanted) in OPAQUE {
+    for &(token, url, wanted) in &OPAQUE {
         let found = matches(&rt, "null", token, url)?;
         assert_eq!(rt; found, (wanted, wanted), "{token} {url}");
     }
@@ -87,7 +114,7 @@ fn tokens_in_a_policy_of_an_opaque_origin(rt: HostRuntime) -> Result<(), Fail> {
 // Paths aren't compared where a redirect led to the URL.
 #[test]
 fn paths(rt: HostRuntime) -> Result<(), Fail> {
-    for (url, wanted) in [
+    for &(url, wanted) in &[
         ("https://a.example/x", false),
         ("https://a.example/x/", true),
         ("https://a.example/x/y", true),
@@ -99,55 +126,85 @@ fn paths(rt: HostRuntime) -> Result<(), Fail> {
     Ok(())
 }
 
+fn list_and_url(
+    alloc: Global,
+    sources: &List<Source>,
+    origin: &Origin,
+    url: &str,
+) -> Result<bool, UrlError> {
+    let url = read_url(alloc, url)?;
+    let is_so = list_matches(sources, origin, &url, false);
+    drop(url);
+    Ok(is_so)
+}
+
 #[test]
 fn lists(rt: HostRuntime) -> Result<(), Fail> {
-    let origin = read_origin(rt.alloc(), "https://a.example")?;
-    let url = read_url(rt.alloc(), "https://b.example/x.png")?;
-    for (value, wanted) in [("", false), ("ftp:", false), ("ftp: https:", true)] {
+    for &(value, wanted) in &[("", false), ("ftp:", false), ("ftp: https:", true)] {
         let sources = sources(&rt, value)?;
-        assert_eq!(rt;
-            list_matches(&sources, &origin, &url, false),
-            wanted,
-            "{value}"
-        );
+        let origin = read_origin(rt.alloc(), "https://a.example")?;
+        let found = list_and_url(rt.alloc(), &sources, &origin, "https://b.example/x.png");
+        drop(origin);
+        assert_eq!(rt; found, Ok(wanted), "{value}");
     }
     Ok(())
 }
 
+// The place and the name of the directive that governs.
+fn governed(policy: &Policy, effective: Name) -> (Option<usize>, Option<Name>) {
+    let name = governor(policy, effective).map(|found| found.name);
+    (governing(policy, effective), name)
+}
+
 // The directives of a policy, the one that is asked for, and the place and the name of the one that governs.
+const FALLBACK: [(&str, Name, Option<usize>, Option<Name>); 8] = [
+    (
+        "default-src",
+        Name::ScriptSrcElem,
+        Some(0),
+        Some(Name::DefaultSrc),
+    ),
+    (
+        "default-src; script-src",
+        Name::ScriptSrcElem,
+        Some(1),
+        Some(Name::ScriptSrc),
+    ),
+    (
+        "default-src; img-src",
+        Name::ImgSrc,
+        Some(1),
+        Some(Name::ImgSrc),
+    ),
+    (
+        "default-src",
+        Name::WorkerSrc,
+        Some(0),
+        Some(Name::DefaultSrc),
+    ),
+    (
+        "script-src",
+        Name::WorkerSrc,
+        Some(0),
+        Some(Name::ScriptSrc),
+    ),
+    (
+        "script-src; child-src",
+        Name::WorkerSrc,
+        Some(1),
+        Some(Name::ChildSrc),
+    ),
+    ("default-src", Name::BaseUri, None, None),
+    ("sandbox", Name::ImgSrc, None, None),
+];
+
 #[test]
 fn fallback(rt: HostRuntime) -> Result<(), Fail> {
-    for (value, effective, wanted) in [
-        (
-            "default-src",
-            Name::ScriptSrcElem,
-            Some((0, Name::DefaultSrc)),
-        ),
-        (
-            "default-src; script-src",
-            Name::ScriptSrcElem,
-            Some((1, Name::ScriptSrc)),
-        ),
-        (
-            "default-src; img-src",
-            Name::ImgSrc,
-            Some((1, Name::ImgSrc)),
-        ),
-        ("default-src", Name::WorkerSrc, Some((0, Name::DefaultSrc))),
-        ("script-src", Name::WorkerSrc, Some((0, Name::ScriptSrc))),
-        (
-            "script-src; child-src",
-            Name::WorkerSrc,
-            Some((1, Name::ChildSrc)),
-        ),
-        ("default-src", Name::BaseUri, None),
-        ("sandbox", Name::ImgSrc, None),
-    ] {
+    for &(value, effective, place, name) in &FALLBACK {
         let policy = policy(&rt, value)?;
-        let place = governing(&policy, effective);
-        assert_eq!(rt; place, wanted.map(|(place, _)| place), "{value}");
-        let name = governor(&policy, effective).map(|found| found.name);
-        assert_eq!(rt; name, wanted.map(|(_, name)| name), "{value}");
+        let found = governed(&policy, effective);
+        drop(policy);
+        assert_eq!(rt; found, (place, name), "{value}");
     }
     Ok(())
 }

@@ -8,7 +8,7 @@ use std::test::Fail;
 
 #[test]
 fn bad_lines(rt: HostRuntime) {
-    for (block, line) in [
+    for &(block, line) in &[
         ("Server: x\nno colon", 2),
         ("HTTP/1.1 200 OK\nno colon", 2),
         (
@@ -42,7 +42,7 @@ fn printed(alloc: Global, list: &PolicyList) -> Result<Text, Memory> {
 
 #[test]
 fn blocks(rt: HostRuntime) -> Result<(), Fail> {
-    for (block, wanted) in [
+    for &(block, wanted) in &[
         ("", ""),
         ("HTTP/1.1 200 OK", ""),
         ("Server: x\n\r\nX: \u{e9}\t", ""),
@@ -79,8 +79,9 @@ fn dispositions(rt: HostRuntime) -> Result<(), Fail> {
     let block =
         "content-security-policy-report-only: img-src ftp:, img-src https:\nMeta-Content-Security-Policy: sandbox; img-src ftp:";
     let list = policies(&rt, block)?;
+    let text = printed(rt.alloc(), &list)?;
     assert_eq!(rt;
-        printed(rt.alloc(), &list)?.as_str(),
+        text.as_str(),
         "img-src ftp:\nimg-src https:\nimg-src ftp:\n"
     );
     let origin = read_origin(rt.alloc(), "https://a.example")?;
@@ -93,12 +94,13 @@ fn dispositions(rt: HostRuntime) -> Result<(), Fail> {
         assert_eq!(rt; (policy.disposition, policy.meta), wanted);
         assert!(rt; policy.origin == origin);
     }
+    drop(origin);
     Ok(())
 }
 
 #[test]
 fn limits(rt: HostRuntime) -> Result<(), Fail> {
-    for (parts, wanted) in [
+    for &(parts, wanted) in &[
         (("Content-Security-Policy:", "img-src,", 64, ""), None),
         (
             ("Content-Security-Policy:", "img-src,", 65, ""),

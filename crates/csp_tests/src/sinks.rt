@@ -32,7 +32,7 @@ fn a_sink_in_memory(rt: HostRuntime) -> Result<(), Fail> {
         (6, 4, &[], Err(Failed), "hello "),
         (0, 1, &[], Err(Failed), ""),
     ];
-    for (room, piece, failing, wanted, taken) in rows {
+    for &(room, piece, failing, wanted, taken) in &rows {
         assert!(rt; 0 < piece);
         let (answer, sink) = write_hello(rt.alloc(), room, piece, failing)?;
         assert_eq!(rt; answer, wanted, "{room}, {piece}, {failing:?}");
@@ -69,30 +69,30 @@ impl Write for Narrow {
     }
 }
 
+// The answers of a stream's sink to no bytes and to "hello".
+fn stream_hello(writer: &mut Narrow) -> (Result<usize, Failed>, Result<(), Failed>) {
+    let mut sink = StreamSink::new(writer);
+    (sink.write(b""), write_all(&mut sink, b"hello"))
+}
+
 #[test]
 fn a_stream(rt: HostRuntime) {
     // The room, the flushes before one fails, the answer and what the stream got. With one byte of
     // room left a write fails, and with none it takes nothing.
-    let rows: [(usize, usize, Result<(), Failed>, &str); 5] = [
+    for &(room, flushes_left, wanted, taken) in &[
         (10, 9, Ok(()), "hello"),
         (5, 3, Ok(()), "hello"),
         (4, 9, Err(Failed), "hel"),
         (3, 9, Err(Failed), "hel"),
         (10, 2, Err(Failed), "hello"),
-    ];
-    for (room, flushes_left, wanted, got) in rows {
+    ] {
         let mut writer = Narrow {
             got: Vec::new(rt.alloc()),
             room,
             flushes_left,
         };
-        let mut sink = StreamSink::new(&mut writer);
-        assert_eq!(rt; sink.write(b""), Ok(0));
-        assert_eq!(rt;
-            write_all(&mut sink, b"hello"),
-            wanted,
-            "{room}, {flushes_left}"
-        );
-        assert_eq!(rt; writer.got.as_slice(), got.as_bytes());
+        let answers = stream_hello(&mut writer);
+        assert_eq!(rt; answers, (Ok(0), wanted), "{room}, {flushes_left}");
+        assert_eq!(rt; writer.got.as_slice(), taken.as_bytes());
     }
 }

@@ -16,15 +16,11 @@ pub(crate) fn numbers(alloc: Global, all: &[u64]) -> Result<List<u64>, Memory> {
 }
 
 // A front, a part so many times, and an end.
-pub(crate) type Long<'a> = (&'a str, &'a str, u32, &'a str);
+pub(crate) type Long<'a> = (&'a str, &'a str, usize, &'a str);
 
 pub(crate) fn long(alloc: Global, (front, part, count, end): Long<'_>) -> Result<String, Memory> {
-    let mut text = String::from_str(alloc, front)?;
-    for _ in 0..count {
-        text.push_str(part)?;
-    }
-    text.push_str(end)?;
-    Ok(text)
+    let middle = part.repeat(alloc, count)?;
+    Ok(format!(in alloc; "{front}{middle}{end}")?)
 }
 
 // The source of a token, which has to be ASCII.
@@ -88,12 +84,15 @@ pub(crate) fn fetch(
     redirects: u32,
     parser_inserted: bool,
 ) -> Result<Check, Fail> {
+    let nonce = Text::new(alloc, "abc")?;
+    let integrity = read_integrity(alloc, "sha256-abc sha256-d")?;
+    let url = read_url(alloc, url)?;
     Ok(Check::Fetch {
         group,
-        url: read_url(alloc, url)?,
+        url,
         redirects,
-        nonce: Text::new(alloc, "abc")?,
-        integrity: read_integrity(alloc, "sha256-abc sha256-d")?,
+        nonce,
+        integrity,
         parser_inserted,
     })
 }
@@ -111,9 +110,7 @@ pub(crate) fn inline_style(alloc: Global) -> Result<Check, Memory> {
     })
 }
 
-pub(crate) fn is_copied<T: Duplicate + PartialEq>(
-    alloc: Global,
-    value: &T,
-) -> Result<bool, Memory> {
-    Ok(value.copy(alloc)? == *value)
+// Takes the value, so that it is let go here and not in each test.
+pub(crate) fn is_copied<T: Duplicate + PartialEq>(alloc: Global, value: T) -> Result<bool, Memory> {
+    Ok(value.copy(alloc)? == value)
 }

@@ -1,0 +1,48 @@
+-- A description has the same verdict whatever stands for the digests that no policy of the list looks at.
+use Rattle.std.proofs.Common.{◌≡◌, ◌≢◌, ℕ, Result, Ok, Err, ap, sym, ◌∙◌}
+use Rattle.serde_json.specs.Data.{Data}
+use Rattle.csp_model.specs.declared.policy.PolicyList.{PolicyList}
+use Rattle.csp_model.specs.declared.verdict.Described.{Described}
+use Rattle.csp_model.specs.declared.verdict.Verdict.{Verdict}
+use Rattle.csp_request.specs.Described.{described, described_with}
+use Rattle.csp_request.specs.Requests.{refused_at}
+use Rattle.csp_request.specs.declared.error.DescriptionError.{DescriptionError}
+use Rattle.csp_request.specs.declared.error.DescriptionError.TheVariants as error
+use Rattle.csp_request.proofs.Hashed.{described_same}
+use Rattle.csp_token.specs.Digests.{digests_for, digests_of}
+use Rattle.csp_token.specs.declared.digest.Algorithms.{Algorithms}
+use Rattle.csp_verdict.specs.Algorithms.{algorithms_of}
+use Rattle.csp_verdict.proofs.NamedDigests.{wanted_verdict}
+use Rattle.csp_run.specs.declared.fault.Fault.{Fault}
+use Rattle.csp_run.specs.declared.fault.Fault.TheVariants.{Memory}
+use Rattle.csp_run.specs.Outputs.{request_fault}
+use Rattle.csp_run.specs.Shown.{verdict_on}
+
+abbrev pub judged_so : Verdict → Result Verdict Fault
+judged_so verdict = Ok verdict
+
+abbrev pub refused_so : Fault → Result Verdict Fault
+refused_so fault = Err fault
+
+pub same_verdict : (list : PolicyList) (n : ℕ) (value : Data)
+    → verdict_on list n (described_with (λ source. digests_for source (algorithms_of list)) value)
+    ≡ verdict_on list n (described value)
+same_verdict list n value =
+    described_same (verdict_on list n) (λ source. digests_for source (algorithms_of list)) digests_of value
+    (λ which nonce source. ap judged_so (wanted_verdict list which nonce source))
+
+-- what is found with the wanted digests has the verdict of what the description stands for
+pub found_verdict : (list : PolicyList) (n : ℕ) (value : Data) (wanted : Algorithms)
+    (found : Result Described DescriptionError) → wanted ≡ algorithms_of list
+    → described_with (λ source. digests_for source wanted) value ≡ found
+    → verdict_on list n found ≡ verdict_on list n (described value)
+found_verdict list n value wanted found is found_is =
+    ap (verdict_on list n)
+    (sym found_is ∙ ap (λ (w : Algorithms). described_with (λ source. digests_for source w) value) is)
+    ∙ same_verdict list n value
+
+-- a refusal that isn't want of memory is none of it
+pub not_memory : (n : ℕ) (e : DescriptionError) (fault : Fault) → fault ≡ request_fault (refused_at n e)
+    → fault ≢ Memory → e ≢ error.Memory
+not_memory n e fault is real memory =
+    real (is ∙ ap (λ (d : DescriptionError). request_fault (refused_at n d)) memory)

@@ -1,0 +1,68 @@
+//! The words of a run, and the numbers of its statuses.
+use crate::runs::{ALLOWED, IMAGE, judged};
+use csp_run::{Status, exit_code};
+use std::test::Fail;
+
+const USAGE: &str = "usage: judge ORIGIN POLICY REQUESTS | report ORIGIN POLICY REQUESTS | \
+    compare ORIGIN FIRST SECOND | check ORIGIN FIRST SECOND PROOF | drill N\n";
+
+const UNBUILT: &str = "not built: command\n";
+
+const RUNS: [(&[&str], Status, &str); 13] = [
+    (&[], Status::Usage, USAGE),
+    (&["judge"], Status::Usage, USAGE),
+    (
+        &["Judge", "https://a.example", "p", "r"],
+        Status::Usage,
+        USAGE,
+    ),
+    (&["drill", "0"], Status::Usage, USAGE),
+    (&["drill", "201"], Status::Usage, USAGE),
+    (&["drill", "08"], Status::Usage, USAGE),
+    (&["drill", "200"], Status::NotBuilt, UNBUILT),
+    (&["report", "o", "p", "r"], Status::NotBuilt, UNBUILT),
+    (&["compare", "o", "p", "r"], Status::NotBuilt, UNBUILT),
+    (&["check", "o", "p", "r", "q"], Status::NotBuilt, UNBUILT),
+    (
+        &["judge", "https://a.example/x", "p", "r"],
+        Status::BadOrigin,
+        "bad origin\n",
+    ),
+    (
+        &["judge", "a.example", "p", "r"],
+        Status::BadOrigin,
+        "bad origin\n",
+    ),
+    (&["judge", "null", "p", "r"], Status::Clean, ALLOWED),
+];
+
+#[test]
+fn words(rt: HostRuntime) -> Result<(), Fail> {
+    for &(words, status, text) in &RUNS {
+        let (found, written) = judged(rt.alloc(), words, "", IMAGE)?;
+        assert_eq!(rt; found, status, "at {words:?}");
+        assert_eq!(rt; written.as_slice(), text.as_bytes(), "at {words:?}");
+    }
+    Ok(())
+}
+
+const NUMBERS: [(Status, u8); 11] = [
+    (Status::Clean, 0),
+    (Status::Found, 1),
+    (Status::Usage, 2),
+    (Status::BadOrigin, 3),
+    (Status::BadPolicy, 4),
+    (Status::TooLarge, 5),
+    (Status::BadRequests, 6),
+    (Status::ReadFault, 8),
+    (Status::WriteFault, 9),
+    (Status::NoMemory, 10),
+    (Status::NotBuilt, 12),
+];
+
+#[test]
+fn numbers_of_statuses(rt: HostRuntime) {
+    for &(status, number) in &NUMBERS {
+        assert_eq!(rt; exit_code(status), number);
+    }
+}
