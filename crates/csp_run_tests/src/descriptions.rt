@@ -139,7 +139,7 @@ fn a_bad_description_names_its_member(rt: HostRuntime) -> Result<(), Fail> {
 fn a_null_member_is_absent(rt: HostRuntime) -> Result<(), Fail> {
     for description in [
         r#"{"kind":"fetch","destination":"image","url":"https://b.example","urls":null,"nonce":null}"#,
-        r#"{"kind":"fetch","destination":"image","url":{"scheme":"data","host":null,"port":null,"path":null}}"#,
+        r#"{"kind":"base","url":{"scheme":"data","host":null,"port":null,"path":null}}"#,
         r#"{"kind":"inline","type":"script","source":"","digests":null,"element":null,"nonce":"x"}"#,
         r#"{"kind":"eval","source":null}"#,
         r#"{"kind":"ancestors","ancestors":[],"page":null}"#,

@@ -1,6 +1,6 @@
 //! Tests of `csp_run::run` as tables: what it answers and writes over files and a sink in memory, and a read,
 //! a write and an allocation that fail. Beside them stand those of the calls that it is made of: of checks
-//! that are read, printed and judged.
+//! that are read, printed and judged, and of inputs and sinks.
 //!
 //! Nothing stands on this crate. What a proved clause says of every input is not tested again.
 #![tactic(auto)]
@@ -12,11 +12,15 @@ mod descriptions;
 #[cfg(test)]
 mod faults;
 #[cfg(test)]
+mod inputs;
+#[cfg(test)]
 mod kinds;
 #[cfg(test)]
 mod policies;
 #[cfg(test)]
 mod runs;
+#[cfg(test)]
+mod sinks;
 #[cfg(test)]
 mod urls;
 #[cfg(test)]

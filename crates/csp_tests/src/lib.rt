@@ -1,5 +1,5 @@
-//! Tests of the public calls below `csp_run`: worked examples and the vectors of the standards as tables,
-//! each call once with memory enough, and a read and a write that fail.
+//! Tests of the public calls below `csp_verdict`: worked examples and the vectors of the standards as tables,
+//! each call once with memory enough.
 //!
 //! Nothing stands on this crate. What a proved clause says of every input is not tested again.
 //! A value of many cases is let go by `drop`, since its end is dear to prove where it stands.
@@ -8,8 +8,6 @@
 #[cfg(test)]
 mod atoms;
 #[cfg(test)]
-mod inputs;
-#[cfg(test)]
 mod matching;
 #[cfg(test)]
 mod model;
@@ -17,8 +15,6 @@ mod model;
 mod policies;
 #[cfg(test)]
 mod shapes;
-#[cfg(test)]
-mod sinks;
 #[cfg(test)]
 mod sources;
 #[cfg(test)]

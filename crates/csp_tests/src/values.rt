@@ -11,10 +11,6 @@ use std::alloc::Global;
 use std::process::Abort;
 use std::test::Fail;
 
-pub(crate) fn numbers(alloc: Global, all: &[u64]) -> Result<List<u64>, Memory> {
-    Ok(List::from_vec(Vec::from_slice(alloc, all)?))
-}
-
 // A front, a part so many times, and an end.
 pub(crate) type Long<'a> = (&'a str, &'a str, usize, &'a str);
 

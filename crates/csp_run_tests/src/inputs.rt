@@ -1,7 +1,7 @@
 //! Tests of the inputs of csp_io, and of a read of each kind that fails.
 ghost use Rattle.std.specs.Prelude.{◌<◌};
 
-use crate::values::numbers;
+use crate::runs::numbers;
 use csp_io::{Failed, FileInputs, Inputs, MemoryInputs, ReadError, StartError, read_all};
 use csp_model::{Bytes, List, Memory, Text};
 use std::alloc::Global;

@@ -1,7 +1,7 @@
 //! Tests of the sinks of csp_io, and of a write of each kind that fails.
 ghost use Rattle.std.specs.Prelude.{◌<◌};
 
-use crate::values::numbers;
+use crate::runs::numbers;
 use csp_io::{Failed, MemorySink, Sink, StreamSink, write_all};
 use csp_model::Memory;
 use std::alloc::Global;
