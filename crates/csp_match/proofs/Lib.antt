@@ -1,5 +1,6 @@
 pub mod AnyLaws
 pub mod BuildLaws
+pub mod CandidateLaws
 pub mod HostLaws
 pub mod KeyLaws
 pub mod RunOfKey

@@ -1,3 +1,4 @@
+pub mod Candidates
 pub mod Entries
 pub mod HostIndex
 pub mod Index

@@ -41,7 +41,7 @@ pub fn governing(policy: &Policy, effective: Name) -> Option<usize>
 }
 
 // The names that may govern, the first one that the policy has before the others (section 6.8.3).
-fn fallbacks(effective: Name) -> &'static [Name]
+pub(crate) fn fallbacks(effective: Name) -> &'static [Name]
     ensures { result.now ≡ spec.fallbacks effective }
 {
     match effective {
@@ -95,7 +95,7 @@ fn place_of_name(directives: &[Directive], name: Name) -> Option<usize>
         .position(|directive| is_named(name, directive))
 }
 
-fn is_named(name: Name, directive: &Directive) -> bool
+pub(crate) fn is_named(name: Name, directive: &Directive) -> bool
     ensures { result ≡ spec.is_named name directive.now }
 {
     directive.name.as_str() == name_text(name)

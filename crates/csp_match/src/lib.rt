@@ -1,10 +1,11 @@
 //! Whether a source expression matches a URL, and which directive governs a check (Content Security
 //! Policy Level 3, sections 6.7.2, 6.8.3 and 6.8.4).
 //!
-//! No call but `Index::new` takes memory.
+//! No call but `Candidates::new` and `Index::new` takes memory.
 #![tactic(auto)]
 
 mod asked;
+mod candidates;
 mod fallback;
 mod governs;
 mod host;
@@ -21,6 +22,7 @@ mod scheme;
 mod self_source;
 mod source;
 
+pub use candidates::{Candidates, names};
 pub use fallback::{governing, governor};
 pub use governs::Governor;
 pub use index::Index;

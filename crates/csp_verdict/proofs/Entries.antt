@@ -11,7 +11,8 @@ use Rattle.csp_model.specs.declared.name.Name.TheVariants.{ConnectSrc, FontSrc, 
 use Rattle.csp_model.specs.contracts.name.Name.{the_type}
 use Rattle.csp_model.specs.declared.policy.Directive.{Directive}
 use Rattle.csp_model.specs.declared.policy.Policy.{Policy}
-use Rattle.csp_verdict.specs.Entries.{names, entry_of}
+use Rattle.csp_match.specs.Candidates.{names}
+use Rattle.csp_verdict.specs.Entries.{entry_of}
 use Rattle.csp_verdict.specs.declared.compiled_policy.Entry.{Entry}
 
 named : (name : Name) (o : Option Directive) (g : Governor)

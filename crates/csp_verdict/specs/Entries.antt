@@ -1,17 +1,9 @@
 -- Words of private contracts: what a compiled policy keeps for each name.
-use Rattle.std.specs.Prelude.{List, [], ◌∷◌}
 use Rattle.std.specs.Option.{option_map}
 use Rattle.csp_model.specs.Governing.{Governor, governor, governor_named}
 use Rattle.csp_model.specs.declared.name.Name.{Name}
-use Rattle.csp_model.specs.declared.name.Name.TheVariants.{ConnectSrc, FontSrc, FrameSrc, ImgSrc, ManifestSrc, MediaSrc, ObjectSrc, StyleSrcElem, ScriptSrcElem, WorkerSrc, ScriptSrcAttr, StyleSrcAttr, ScriptSrc, StyleSrc, ChildSrc, DefaultSrc, BaseUri, FormAction, FrameAncestors, Sandbox}
 use Rattle.csp_model.specs.declared.policy.Policy.{Policy}
 use Rattle.csp_verdict.specs.declared.compiled_policy.Entry.{Entry}
-
--- the names, in the order in which they are declared
-abbrev pub names : List Name
-names = ConnectSrc ∷ FontSrc ∷ FrameSrc ∷ ImgSrc ∷ ManifestSrc ∷ MediaSrc ∷ ObjectSrc ∷ StyleSrcElem
-    ∷ ScriptSrcElem ∷ WorkerSrc ∷ ScriptSrcAttr ∷ StyleSrcAttr ∷ ScriptSrc ∷ StyleSrc ∷ ChildSrc ∷ DefaultSrc
-    ∷ BaseUri ∷ FormAction ∷ FrameAncestors ∷ Sandbox ∷ []
 
 -- what governs where a check asks for the name, by its own name, and the directive of the name
 abbrev pub entry_of : Policy → Name → Entry

@@ -2,7 +2,8 @@
 use Rattle.std.specs.Prelude.{◌≡◌, map}
 use Rattle.csp_model.specs.DecideNavigation.{capability_allows, worker_start_allows}
 use Rattle.csp_model.specs.Names.{capabilities}
-use Rattle.csp_verdict.specs.Entries.{names, entry_of}
+use Rattle.csp_match.specs.Candidates.{names}
+use Rattle.csp_verdict.specs.Entries.{entry_of}
 use Rattle.csp_verdict.specs.declared.compiled_policy.CompiledPolicy.TheInside.{Inside}
 
 pub record IsCompiled (a : Inside) : Type 0 where

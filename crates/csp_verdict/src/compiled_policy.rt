@@ -1,5 +1,6 @@
 //! A policy made ready for many checks.
 ghost use Rattle.std.specs.Prelude.{◌≡◌, IfOk, map, take, option_copied, slice_get, Some};
+ghost use Rattle.csp_match.specs.Candidates.{names};
 ghost use Rattle.csp_match.specs.Shown.{shown};
 ghost use Rattle.csp_model.specs.DecideNavigation.{capability_allows};
 ghost use Rattle.csp_model.specs.Governing as spec;
@@ -11,7 +12,7 @@ use crate::compiled_directive::CompiledDirective;
 use crate::item::{Judge, effective_name};
 use csp_fetch::decided_by_tokens;
 use csp_inline::{governed_eval_allows, governed_inline_allows, governed_wasm_allows};
-use csp_match::governor;
+use csp_match::{Candidates, names};
 use csp_model::{Capability, Check, Item, Memory, Name, Policy};
 use csp_nav::{capability_allows, worker_start_allows};
 use std::alloc::{AllocError, Global};
@@ -131,19 +132,20 @@ impl<'a> Judge for CompiledPolicy<'a> {
 
 // What the policy has for each name.
 fn entries_of<'a>(alloc: Global, policy: &'a Policy) -> Result<Vec<Entry<'a>>, Memory>
-    ensures { IfOk result (λ made. made.items ≡ map (entries.entry_of policy.now) entries.names) }
+    ensures { IfOk result (λ made. made.items ≡ map (entries.entry_of policy.now) names) }
 {
+    let candidates = Candidates::new(alloc, policy)?;
     let mut made = Vec::new(alloc);
     for name in names() {
-        made.push(entry_of(alloc, policy, *name)?)?;
+        made.push(entry_of(alloc, &candidates, *name)?)?;
     }
     Ok(made)
 }
 
-fn entry_of<'a>(alloc: Global, policy: &'a Policy, name: Name) -> Result<Entry<'a>, Memory>
-    ensures { IfOk result (λ made. made ≡ entries.entry_of policy.now name) }
+fn entry_of<'a>(alloc: Global, candidates: &Candidates<'a>, name: Name) -> Result<Entry<'a>, Memory>
+    ensures { IfOk result (λ made. made ≡ entries.entry_of candidates.now name) }
 {
-    match governor(policy, name) {
+    match candidates.governor(name) {
         None => Ok(Entry {
             governing: None,
             own: None,
@@ -168,34 +170,6 @@ fn allowed_capabilities(alloc: Global, policy: &Policy) -> Result<Vec<bool>, All
         .iter()
         .map(|capability| capability_allows(policy, *capability))
         .collect(alloc)
-}
-
-// The names, in the order in which they are declared.
-fn names() -> &'static [Name]
-    ensures { result.now ≡ entries.names }
-{
-    &[
-        Name::ConnectSrc,
-        Name::FontSrc,
-        Name::FrameSrc,
-        Name::ImgSrc,
-        Name::ManifestSrc,
-        Name::MediaSrc,
-        Name::ObjectSrc,
-        Name::StyleSrcElem,
-        Name::ScriptSrcElem,
-        Name::WorkerSrc,
-        Name::ScriptSrcAttr,
-        Name::StyleSrcAttr,
-        Name::ScriptSrc,
-        Name::StyleSrc,
-        Name::ChildSrc,
-        Name::DefaultSrc,
-        Name::BaseUri,
-        Name::FormAction,
-        Name::FrameAncestors,
-        Name::Sandbox,
-    ]
 }
 
 // The capabilities, in the order in which they are declared.
