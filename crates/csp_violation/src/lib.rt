@@ -1,0 +1,7 @@
+//! Reports of violations, as JSON (Content Security Policy Level 3, section 5.3).
+#![tactic(auto)]
+
+pub mod laws;
+mod report;
+
+pub use report::{append_report, report_json};
