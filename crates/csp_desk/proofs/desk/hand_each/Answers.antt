@@ -1,0 +1,48 @@
+-- A reporter took its turn, or it stopped there.
+use Rattle.std.proofs.Common.{◌<◌, length, arith, ap, ◌∙◌, Err}
+use Rattle.std.proofs.lemmas.List.{length-map}
+use Rattle.csp_desk.proofs.Turns.{same-turn, NoneFell-turn, took-turn, stopped-turn, Rose-turn, StopsAt-refused}
+use Rattle.csp_desk.proofs.desk.hand_each.Goals as goal
+
+pub returns-in-Err-Refused-clause-same_kinds : goal.returns-in-Err-Refused-clause-same_kinds
+returns-in-Err-Refused-clause-same_kinds g c =
+    same-turn _ _ _ _ _ _ c.loop-place.invariant.same_kinds c.accept_by.ensures.same_kind
+
+pub returns-in-Err-Refused-clause-later : goal.returns-in-Err-Refused-clause-later
+returns-in-Err-Refused-clause-later g c =
+    let within : c.loop-place.place < length c.loop-place.desk = omega (arith, c.loop-place-test.true, c.loop-place.auto.desk) in
+    NoneFell-turn _ _ _ _ _ _ c.loop-place.invariant.later within c.accept_by.ensures.later
+
+pub returns-in-Err-Refused-clause-stopped : goal.returns-in-Err-Refused-clause-stopped
+returns-in-Err-Refused-clause-stopped g c =
+    let within : c.loop-place.place < length c.loop-place.desk = omega (arith, c.loop-place-test.true, c.loop-place.auto.desk) in
+    StopsAt-refused _ 0 c.loop-place.place _ _ _ _ (omega arith) (rw (length-map c.args.desk.now _) c.loop-place-test.true)
+    (stopped-turn _ _ _ _ _ _ _ c.loop-place.invariant.took c.in-Err-Refused.ensures.refused)
+    (Rose-turn _ _ _ _ _ _ c.loop-place.invariant.later within (c.accept_by.ensures.cause (c.in-Err-Refused.is ∙ ap Err c.in-Err-Refused.field-0-is)))
+
+pub returns-in-Err-Memory-clause-same_kinds : goal.returns-in-Err-Memory-clause-same_kinds
+returns-in-Err-Memory-clause-same_kinds g c =
+    same-turn _ _ _ _ _ _ c.loop-place.invariant.same_kinds c.accept_by.ensures.same_kind
+
+pub returns-in-Err-Memory-clause-later : goal.returns-in-Err-Memory-clause-later
+returns-in-Err-Memory-clause-later g c =
+    let within : c.loop-place.place < length c.loop-place.desk = omega (arith, c.loop-place-test.true, c.loop-place.auto.desk) in
+    NoneFell-turn _ _ _ _ _ _ c.loop-place.invariant.later within c.accept_by.ensures.later
+
+pub returns-in-Err-Memory-clause-stopped : goal.returns-in-Err-Memory-clause-stopped
+returns-in-Err-Memory-clause-stopped g c = (
+  0,
+  c.loop-place.place,
+  omega arith,
+  rw (length-map c.args.desk.now _) c.loop-place-test.true,
+  stopped-turn _ _ _ _ _ _ _ c.loop-place.invariant.took c.in-Err-Memory.ensures.refused,
+)
+
+pub loop-place-preserved : goal.loop-place-preserved
+loop-place-preserved g c =
+    let within : c.loop-place.place < length c.loop-place.desk = omega (arith, c.loop-place-test.true, c.loop-place.auto.desk) in
+    record {
+      same_kinds = same-turn _ _ _ _ _ _ c.loop-place.invariant.same_kinds c.accept_by.ensures.same_kind;
+      later = NoneFell-turn _ _ _ _ _ _ c.loop-place.invariant.later within c.accept_by.ensures.later;
+      took = took-turn _ _ _ _ _ _ _ c.loop-place.invariant.took within c.loop-place.auto.desk c.in-Ok.ensures.took;
+    }

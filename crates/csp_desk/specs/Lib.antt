@@ -1,0 +1,5 @@
+pub mod FailingLines
+pub mod Growth
+pub mod NameOrder
+pub mod Recent
+pub mod Texts

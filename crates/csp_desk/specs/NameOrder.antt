@@ -1,0 +1,28 @@
+-- The names of directives in byte order, as a tally prints them.
+use Rattle.std.specs.Prelude.{ℕ, List, [], ◌∷◌, Bool, true, ◌&&◌}
+use Rattle.std.specs.List.{position_or_len}
+use Rattle.std.specs.Str.{bytes_eq}
+use Rattle.std.specs.Cmp.Lexicographic.{slice_cmp}
+use Rattle.std.specs.Ordering.{is_lt, nat_cmp}
+use Rattle.csp_model.specs.Names.{name_text}
+use Rattle.csp_model.specs.declared.name.Name.{Name}
+use Rattle.csp_model.specs.declared.name.Name.TheVariants.{ConnectSrc, FontSrc, FrameSrc, ImgSrc, ManifestSrc, MediaSrc, ObjectSrc, StyleSrcElem, ScriptSrcElem, WorkerSrc, ScriptSrcAttr, StyleSrcAttr, ScriptSrc, StyleSrc, ChildSrc, DefaultSrc, BaseUri, FormAction, FrameAncestors, Sandbox}
+
+abbrev pub names_in_order : List Name
+names_in_order =
+    BaseUri ∷ ChildSrc ∷ ConnectSrc ∷ DefaultSrc ∷ FontSrc ∷ FormAction ∷ FrameAncestors ∷ FrameSrc ∷ ImgSrc
+    ∷ ManifestSrc ∷ MediaSrc ∷ ObjectSrc ∷ Sandbox ∷ ScriptSrc ∷ ScriptSrcAttr ∷ ScriptSrcElem ∷ StyleSrc
+    ∷ StyleSrcAttr ∷ StyleSrcElem ∷ WorkerSrc ∷ []
+
+abbrev pub same_name : Name → Name → Bool
+same_name name other = bytes_eq (name_text name) (name_text other)
+
+-- the place of a name among them
+abbrev pub place_of : Name → ℕ
+place_of name = position_or_len (same_name name) names_in_order
+
+-- each text stands before the next one in byte order
+abbrev pub rises : List (List ℕ) → Bool
+rises [] = true
+rises (text ∷ []) = true
+rises (text ∷ (next ∷ rest)) = is_lt (slice_cmp nat_cmp text next) && rises (next ∷ rest)

@@ -1,0 +1,20 @@
+//! Reporters that a caller hands in, and the handing out of violations to them.
+#![tactic(auto)]
+
+mod counts;
+mod desk;
+mod failing_lines;
+pub mod laws;
+mod lines;
+mod recent;
+mod reporter;
+mod tally;
+mod texts;
+
+pub use desk::{DeskError, hand_out, texts_of};
+pub use failing_lines::FailingLines;
+pub use lines::Lines;
+pub use recent::Recent;
+pub use reporter::{AcceptError, Kind, Reporter};
+pub use tally::Tally;
+pub use texts::text_of;
