@@ -69,7 +69,7 @@ part_way-start first second lists = rw (take-append_seam first second) refl
 
 -- Parts and stops
 
-GrewInPart-append : {V : Type 0} → (first second : List V) (before now : List (List V))
+pub GrewInPart-append : {V : Type 0} → (first second : List V) (before now : List (List V))
     → GrewInPart second (all_grown first before) now → GrewInPart (first ++ second) before now
 GrewInPart-append first second before now (turn, place, within, left) = (
   length first + turn,
@@ -112,7 +112,7 @@ GrewInPart-StopsAt (Refused reporter) items before now faults_before faults_now 
 GrewInPart-StopsAt Memory items before now faults_before faults_now (turn, place, below, within, left) =
     (turn, place, omega arith, left)
 
-StopsAt-append : {V : Type 0} → (e : DeskError) (first second : List V) (before now : List (List V))
+pub StopsAt-append : {V : Type 0} → (e : DeskError) (first second : List V) (before now : List (List V))
     (faults_before faults_between faults_now : List ℕ) → NoneFell faults_before faults_between
     → StopsAt e second (all_grown first before) now faults_between faults_now
     → StopsAt e (first ++ second) before now faults_before faults_now
