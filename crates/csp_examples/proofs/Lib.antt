@@ -12,6 +12,7 @@ mod OnLiterals
 mod Policies
 mod Readable
 mod Realistic
+mod Reports
 mod Requests
 mod Validity
 mod Values

@@ -18,7 +18,7 @@ described asked blocked_uri sample =
     record { checks = asked ∷ []; blocked_uri = blocked_uri; sample = sample }
 
 -- a violation of script-src-elem in an enforced policy
-abbrev violation : List ℕ → List ℕ → List ℕ → Violation
+abbrev pub violation : List ℕ → List ℕ → List ℕ → Violation
 violation blocked_uri sample policy = record {
   disposition = Enforce;
   effective = ScriptSrcElem;

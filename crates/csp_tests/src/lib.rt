@@ -8,6 +8,8 @@
 #[cfg(test)]
 mod atoms;
 #[cfg(test)]
+mod desks;
+#[cfg(test)]
 mod matching;
 #[cfg(test)]
 mod model;
