@@ -8,6 +8,7 @@ use Rattle.csp_model.specs.Schemes.{scheme_text}
 use Rattle.csp_model.specs.declared.url.Url.{Url}
 use Rattle.csp_model.specs.declared.url.Url.TheVariants as url
 use Rattle.csp_url.specs.Reading.{found_path, parts_of, url_from}
+use Rattle.csp_url.specs.declared.strip.ShownUrl.{ShownUrl}
 
 abbrev pub port_text : Option ℕ → List ℕ
 port_text None = []
@@ -35,6 +36,18 @@ stripped_from parts = option_map (λ _. shown_text parts) (url_from parts)
 -- what a report shows of the URL that a text is, where it is one
 abbrev pub stripped_of : List ℕ → Option (List ℕ)
 stripped_of text = option_and_then stripped_from (parts_of text)
+
+-- a URL, and what a report shows of it
+abbrev pub shown_url : List ℕ → Url → ShownUrl
+shown_url shown there = record { url = there; shown = shown }
+
+-- the URL of the parts that parsing found, and what a report shows of it
+abbrev pub shown_url_from : Parts → Option ShownUrl
+shown_url_from parts = option_map (shown_url (shown_text parts)) (url_from parts)
+
+-- the URL that a text is, and what a report shows of it
+abbrev pub shown_url_of : List ℕ → Option ShownUrl
+shown_url_of text = option_and_then shown_url_from (parts_of text)
 
 -- the text of a path reads as its pieces
 abbrev pub ReadsBack : Url → Type 0

@@ -18,5 +18,5 @@ pub use error::{OriginError, Part, PartsError, UrlError};
 pub use origin::read_origin;
 pub use parts::url_from_parts;
 pub use read::read_url;
-pub use strip::strip_url;
+pub use strip::{ShownUrl, read_shown_url, strip_url};
 pub use text::url_text;

@@ -1,13 +1,22 @@
 //! What a report shows of a URL.
-ghost use Rattle.std.specs.Prelude.{◌≡◌, IfOk, ok_or};
+ghost use Rattle.std.specs.Prelude.{◌≡◌, IfOk, Some, ok_or};
 ghost use Rattle.csp_model.specs.Answers.{Gives};
+ghost use Rattle.csp_model.specs.Validity.{IsValidUrl};
+ghost use Rattle.csp_url.specs.Reading.{url_of};
 ghost use Rattle.csp_url.specs.Texts as spec;
 
 use crate::error::UrlError;
 use crate::read::{parsed, url_from};
-use csp_model::{Memory, Text};
+use csp_model::{Memory, Text, Url};
 use std::alloc::Global;
 use url::Position;
+
+/// A URL, and what a report shows of it.
+#[derive(Drop)]
+pub struct ShownUrl {
+    pub url: Url,
+    pub shown: Text,
+}
 
 // What a URL prints without user name, password and fragment.
 fn bare_text(alloc: Global, parsed: &url::Url) -> Result<Text, Memory>
@@ -63,4 +72,38 @@ pub fn strip_url(alloc: Global, text: &str) -> Result<Text, UrlError>
     ensures { Gives UrlError.Memory result (ok_or (spec.stripped_of text.now) UrlError.NotAUrl) }
 {
     stripped_of(alloc, text)?.ok_or(UrlError::NotAUrl)
+}
+
+// The URL of the parts that parsing found, and what a report shows of it.
+fn shown_url_from(alloc: Global, parsed: &url::Url) -> Result<Option<ShownUrl>, Memory>
+    ensures { IfOk result (λ found. found ≡ spec.shown_url_from parsed.now) }
+{
+    match url_from(alloc, parsed)? {
+        None => Ok(None),
+        Some(url) => Ok(Some(ShownUrl {
+            url,
+            shown: shown_text(alloc, parsed)?,
+        })),
+    }
+}
+
+// The URL that a text is, and what a report shows of it.
+fn shown_url_of(alloc: Global, text: &str) -> Result<Option<ShownUrl>, Memory>
+    ensures { IfOk result (λ found. found ≡ spec.shown_url_of text.now) }
+{
+    match parsed(alloc, text)? {
+        None => Ok(None),
+        Some(parsed) => shown_url_from(alloc, &parsed),
+    }
+}
+
+/// The URL that a text is, as `read_url` says, and what a report shows of it, as `strip_url` says, for which
+/// the text is parsed only once.
+pub fn read_shown_url(alloc: Global, text: &str) -> Result<ShownUrl, UrlError>
+    ensures url { Gives UrlError.Memory result (ok_or (spec.shown_url_of text.now) UrlError.NotAUrl) }
+    ensures valid { IfOk result (λ found. IsValidUrl found.url) }
+    ensures read { IfOk result (λ found. url_of text.now ≡ Some found.url) }
+    ensures stripped { IfOk result (λ found. spec.stripped_of text.now ≡ Some found.shown) }
+{
+    shown_url_of(alloc, text)?.ok_or(UrlError::NotAUrl)
 }
