@@ -18,7 +18,7 @@ use Rattle.csp_request.specs.declared.field.Field.{Field}
 use Rattle.csp_request.specs.declared.field.Field.TheVariants as field
 use Rattle.csp_request.proofs.DigestsBack.{digests_back}
 use Rattle.csp_request.proofs.NamesBack.{capability_back, inline_back, destination_back, group_back}
-use Rattle.csp_request.proofs.UrlBack.{url_back, url_present}
+use Rattle.csp_request.proofs.UrlBack.{url_back, located_back, url_present}
 
 count_back : (redirects : ℕ) → redirects < 2 ^ 32
     → whole_number (2 ^ 32 - 1) (number (unsigned redirects)) ≡ Some redirects
@@ -48,7 +48,7 @@ check_back (check.Fetch group there redirects nonce integrity parser_inserted) v
       destination_back group,
       group_back group,
       url_present there,
-      url_back field.Url there valid.0,
+      located_back field.Url there valid.0,
       count_back redirects valid.1,
       reads_back integrity valid.3,
     ) refl
@@ -58,7 +58,7 @@ check_back check.Eval valid = rw chars-nil refl
 check_back check.Wasm valid = refl
 check_back (check.Base there) valid = rw (url_present there, url_back field.Url there valid) refl
 check_back (check.Form there redirects) valid =
-    rw (url_present there, url_back field.Url there valid.0, count_back redirects valid.1) refl
+    rw (url_present there, located_back field.Url there valid.0, count_back redirects valid.1) refl
 check_back (check.Ancestor there) valid = rw (ancestor_back field.Ancestors there valid.0 valid.1) refl
 check_back check.OpaqueAncestor valid = refl
 check_back (check.Capability which) valid = rw (capability_back which) refl

@@ -3,13 +3,13 @@ use Rattle.std.proofs.Common.{◌≡◌, ℕ, ◌+◌, ◌<◌, List, [], ◌∷
 use Rattle.std.proofs.lemmas.List.Elements.{All-append, All-cons, All-nil}
 use Rattle.serde_json.specs.View.{view}
 use Rattle.serde_json.specs.declared.value.Value.{Value}
+use Rattle.csp_model.specs.declared.url.Url.{Url}
 use Rattle.csp_request.specs.Hops.{before_hops}
 use Rattle.csp_request.specs.Members.{◌>>=◌, Form, each, found_map}
 use Rattle.csp_request.specs.Urls.{hop}
 use Rattle.csp_request.specs.declared.chain.Hop.{Hop}
 use Rattle.csp_request.specs.declared.error.DescriptionError.{DescriptionError}
 use Rattle.csp_request.specs.declared.field.Field.{Field}
-use Rattle.csp_request.specs.declared.located.Located.{Located}
 
 pub each_drop : {T : Type 0} (form : Form T) (field : Field) (items : List Value) (i : ℕ) (value : Value) (found : T)
     → i < length items → value ≡ get_or items i value → form field (view value) ≡ Ok found
@@ -18,10 +18,10 @@ pub each_drop : {T : Type 0} (form : Form T) (field : Field) (items : List Value
 each_drop form field items i value found below at gives =
     rw (add-one, drop-cons items i value, ← at, gives) refl
 
-pub before_more : (hops : List Hop) (redirects : ℕ) (there : Located) (rest : Result (List Located) DescriptionError)
+pub before_more : (hops : List Hop) (redirects : ℕ) (there : Url) (rest : Result (List Url) DescriptionError)
     → before_hops hops redirects (rest >>= λ more. Ok (there ∷ more))
-    ≡ before_hops (hops ++ hop there.url redirects ∷ []) (redirects + 1) rest
-before_more hops redirects there (Ok more) = ap Ok (sym (append_assoc hops (hop there.url redirects ∷ []) _))
+    ≡ before_hops (hops ++ hop there redirects ∷ []) (redirects + 1) rest
+before_more hops redirects there (Ok more) = ap Ok (sym (append_assoc hops (hop there redirects ∷ []) _))
 before_more hops redirects there (Err e) = refl
 
 -- what holds of some items and of one more

@@ -15,13 +15,14 @@ use Rattle.csp_request.specs.declared.field.Field.TheVariants as field
 use Rattle.csp_request.specs.declared.inline.InlineSource.{InlineSource}
 use Rattle.csp_request.specs.declared.kind.Kind.{Kind}
 use Rattle.csp_request.specs.declared.kind.Kind.TheVariants as kind
+use Rattle.csp_request.specs.declared.texts.ReportTexts.TheVariants.{Made}
 
 abbrev pub Outcome : Type 0
 Outcome = Result Described DescriptionError
 
 -- the same step, with what follows it the same
-then_same : {A X : Type 0} (f : Outcome → X) (step : Result A DescriptionError) (one other : A → Outcome)
-    → ((x : A) → f (one x) ≡ f (other x)) → f (step >>= one) ≡ f (step >>= other)
+pub then_same : {A B X : Type 0} (f : Result B DescriptionError → X) (step : Result A DescriptionError)
+    (one other : A → Result B DescriptionError) → ((x : A) → f (one x) ≡ f (other x)) → f (step >>= one) ≡ f (step >>= other)
 then_same f (Ok x) one other same = same x
 then_same f (Err e) one other same = refl
 
@@ -36,8 +37,8 @@ beside_same : {X : Type 0} (f : Outcome → X) (one other : List ℕ → Digests
     (source : Result (Option (List ℕ)) DescriptionError) (next : InlineSource → Outcome)
     → ((s : List ℕ) → f (next (inline_source (one s) (sample_of s)))
     ≡ f (next (inline_source (other s) (sample_of s))))
-    → f ((source >>= λ s. source_beside one s value) >>= next)
-    ≡ f ((source >>= λ s. source_beside other s value) >>= next)
+    → f ((source >>= λ s. source_beside Made one s value) >>= next)
+    ≡ f ((source >>= λ s. source_beside Made other s value) >>= next)
 beside_same f one other value (Ok None) next same = refl
 beside_same f one other value (Ok (Some s)) next same =
     alone_same f (demand field.Digests (is_absent field.Digests value)) (inline_source (one s) (sample_of s))
@@ -55,16 +56,16 @@ AreAlike f one other = (which : InlineKind) (nonce source : List ℕ)
     ≡ f (Ok (described_as (check.Inline which nonce (other source) ∷ []) (codes "inline") (sample_of source)))
 
 inline_same : {X : Type 0} (f : Outcome → X) (one other : List ℕ → Digests) (value : Data)
-    → AreAlike f one other → f (inline one value) ≡ f (inline other value)
+    → AreAlike f one other → f (inline Made one value) ≡ f (inline Made other value)
 inline_same f one other value alike =
     then_same f (required (named inline_named) field.InlineType value)
-    (λ which. source_of one value >>= with_nonce which value)
-    (λ which. source_of other value >>= with_nonce which value)
+    (λ which. source_of Made one value >>= with_nonce which value)
+    (λ which. source_of Made other value >>= with_nonce which value)
     (λ which. beside_same f one other value (optional text field.Source value) (with_nonce which value)
     (λ s. then_same f (nonce_of value) _ _ (λ nonce. alike which nonce s)))
 
 by_kind : {X : Type 0} (f : Outcome → X) (one other : List ℕ → Digests) (value : Data)
-    → AreAlike f one other → (which : Kind) → f (described_by one which value) ≡ f (described_by other which value)
+    → AreAlike f one other → (which : Kind) → f (described_by Made one which value) ≡ f (described_by Made other which value)
 by_kind f one other value alike kind.Fetch = refl
 by_kind f one other value alike kind.Inline = inline_same f one other value alike
 by_kind f one other value alike kind.Eval = refl

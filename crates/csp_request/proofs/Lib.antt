@@ -4,6 +4,7 @@ pub mod Json
 pub mod Each
 pub mod Named
 pub mod Turns
+pub mod Untold
 pub mod OnlyCheck
 pub mod RequestTurns
 mod CheckBack
@@ -12,5 +13,6 @@ mod FileBack
 mod NamesBack
 mod PrintedJson
 mod PrintedText
+mod ReadOnce
 mod TextBack
 mod UrlBack

@@ -20,9 +20,11 @@ use Rattle.csp_url.specs.Parts.{given_port, url_of_parts}
 use Rattle.csp_url.proofs.PathText.{path_back}
 use Rattle.csp_request.specs.Json.{unless_null}
 use Rattle.csp_request.specs.Members.{by_form, number}
-use Rattle.csp_request.specs.Urls.{located, shown_parts, web_url}
+use Rattle.csp_url.specs.Texts.{shown_url}
+use Rattle.csp_request.specs.Urls.{shown_parts, web_url, located_url}
 use Rattle.csp_request.specs.Printed.{port_data, url_data}
 use Rattle.csp_request.specs.declared.field.Field.{Field}
+use Rattle.csp_request.specs.declared.texts.ReportTexts.TheVariants.{Made}
 
 -- Schemes, hosts and ports
 
@@ -83,10 +85,16 @@ plain_back : (scheme : List ℕ) → IsValidUrl (url.Plain scheme)
 plain_back scheme valid = rw (valid.0, none_named (scheme_named scheme) valid.1) refl
 
 pub url_back : (field : Field) (there : Url) → IsValidUrl there
-    → web_url field (url_data there) ≡ Ok (located there (shown_parts there))
+    → web_url field (url_data there) ≡ Ok there
 url_back field (url.Plain scheme) valid = rw (plain_back scheme valid) refl
 url_back field (url.Hosted scheme host port path) valid =
     rw (port_back field scheme port valid.1, parts_back scheme host port path valid) refl
+
+pub located_back : (field : Field) (there : Url) → IsValidUrl there
+    → located_url Made field (url_data there) ≡ Ok (shown_url (shown_parts there) there)
+located_back field (url.Plain scheme) valid = rw (url_back field (url.Plain scheme) valid) refl
+located_back field (url.Hosted scheme host port path) valid =
+    rw (url_back field (url.Hosted scheme host port path) valid) refl
 
 pub url_present : (there : Url) → is_some (as_null (url_data there)) ≡ false
 url_present (url.Plain scheme) = refl

@@ -22,7 +22,8 @@ use Rattle.csp_token.specs.Digests.{digests_of}
 use Rattle.csp_token.specs.Integrity.{integrity_of}
 use Rattle.csp_request.specs.Kinds.{kind_named, inline_named}
 use Rattle.csp_request.specs.Members.{◌>>=◌, Form, misused, needed, demand, text, named, flag, array, each, needed_part, part_or_else, optional, required, or_else, is_absent}
-use Rattle.csp_request.specs.Urls.{web_url, chain_of, response_hops}
+use Rattle.csp_url.specs.declared.strip.ShownUrl.{ShownUrl}
+use Rattle.csp_request.specs.Urls.{told, web_url, located_url, chain_of, response_hops}
 use Rattle.csp_request.specs.declared.chain.Hop.{Hop}
 use Rattle.csp_request.specs.declared.error.DescriptionError.{DescriptionError}
 use Rattle.csp_request.specs.declared.field.Field.{Field}
@@ -31,7 +32,8 @@ use Rattle.csp_request.specs.declared.fetch.FetchOptions.{FetchOptions}
 use Rattle.csp_request.specs.declared.inline.InlineSource.{InlineSource}
 use Rattle.csp_request.specs.declared.kind.Kind.{Kind}
 use Rattle.csp_request.specs.declared.kind.Kind.TheVariants as kind
-use Rattle.csp_request.specs.declared.located.Located.{Located}
+use Rattle.csp_request.specs.declared.texts.ReportTexts.{ReportTexts}
+use Rattle.csp_request.specs.declared.texts.ReportTexts.TheVariants as texts
 
 abbrev pub described_as : List Check → List ℕ → List ℕ → Described
 described_as checks blocked_uri sample =
@@ -59,10 +61,10 @@ fetch_options value = do
   parser_inserted ← or_else false flag field.ParserInserted value
   Ok (record { nonce = nonce; integrity = integrity_of integrity; parser_inserted = parser_inserted })
 
-abbrev pub fetch : Data → Result Described DescriptionError
-fetch value = do
+abbrev pub fetch : ReportTexts → Data → Result Described DescriptionError
+fetch texts value = do
   destination ← required (named destination_named) field.Destination value
-  chain ← chain_of value
+  chain ← chain_of texts value
   response ← optional web_url field.Response value
   options ← fetch_options value
   Ok (described_as
@@ -87,17 +89,19 @@ abbrev pub inline_source : Digests → List ℕ → InlineSource
 inline_source digests sample = record { digests = digests; sample = sample }
 
 -- a source text, or else its digests
-abbrev pub source_beside : (List ℕ → Digests) → Option (List ℕ) → Data → Result InlineSource DescriptionError
-source_beside hashed (Some source) value = do
+abbrev pub source_beside : ReportTexts → (List ℕ → Digests) → Option (List ℕ) → Data
+    → Result InlineSource DescriptionError
+source_beside texts hashed (Some source) value = do
   alone ← demand field.Digests (is_absent field.Digests value)
-  Ok (inline_source (hashed source) (sample_of source))
-source_beside hashed None value = do
+  Ok (inline_source (hashed source) (told texts (sample_of source)))
+source_beside texts hashed None value = do
   given ← optional digests field.Digests value
   known ← needed field.Source given
   Ok (inline_source known [])
 
-abbrev pub source_of : (List ℕ → Digests) → Data → Result InlineSource DescriptionError
-source_of hashed value = optional text field.Source value >>= λ source. source_beside hashed source value
+abbrev pub source_of : ReportTexts → (List ℕ → Digests) → Data → Result InlineSource DescriptionError
+source_of texts hashed value =
+    optional text field.Source value >>= λ source. source_beside texts hashed source value
 
 -- an attribute: an array of its name and its value
 abbrev pub attribute_of : Field → List Data → Result (List ℕ × List ℕ) DescriptionError
@@ -128,34 +132,34 @@ nonce_beside None value = or_else [] text field.Nonce value
 abbrev pub nonce_of : Data → Result (List ℕ) DescriptionError
 nonce_of value = optional element field.Element value >>= λ found. nonce_beside found value
 
-abbrev pub inline : (List ℕ → Digests) → Data → Result Described DescriptionError
-inline hashed value = do
+abbrev pub inline : ReportTexts → (List ℕ → Digests) → Data → Result Described DescriptionError
+inline texts hashed value = do
   which ← required (named inline_named) field.InlineType value
-  source ← source_of hashed value
+  source ← source_of texts hashed value
   nonce ← nonce_of value
-  Ok (described_as (check.Inline which nonce source.digests ∷ []) (codes "inline") source.sample)
+  Ok (described_as (check.Inline which nonce source.digests ∷ []) (told texts (codes "inline")) source.sample)
 
 -- The other kinds
 
-abbrev pub eval : Data → Result Described DescriptionError
-eval value = do
+abbrev pub eval : ReportTexts → Data → Result Described DescriptionError
+eval texts value = do
   source ← or_else [] text field.Source value
-  Ok (described_as (check.Eval ∷ []) (codes "eval") (sample_of source))
+  Ok (described_as (check.Eval ∷ []) (told texts (codes "eval")) (told texts (sample_of source)))
 
-abbrev pub wasm : Result Described DescriptionError
-wasm = Ok (described_as (check.Wasm ∷ []) (codes "wasm-eval") [])
+abbrev pub wasm : ReportTexts → Result Described DescriptionError
+wasm texts = Ok (described_as (check.Wasm ∷ []) (told texts (codes "wasm-eval")) [])
 
-abbrev pub base : Data → Result Described DescriptionError
-base value = do
+abbrev pub base : ReportTexts → Data → Result Described DescriptionError
+base texts value = do
   there ← required web_url field.Url value
-  Ok (described_as (check.Base there.url ∷ []) (codes "inline") [])
+  Ok (described_as (check.Base there ∷ []) (told texts (codes "inline")) [])
 
 abbrev pub form_check : Hop → Check
 form_check hop = check.Form hop.url hop.redirects
 
-abbrev pub form : Data → Result Described DescriptionError
-form value = do
-  chain ← chain_of value
+abbrev pub form : ReportTexts → Data → Result Described DescriptionError
+form texts value = do
+  chain ← chain_of texts value
   Ok (described_as (map form_check chain.hops) chain.shown [])
 
 -- the URL of an origin: its path is one empty piece
@@ -171,17 +175,17 @@ is_opaque (Some word) = bytes_eq word (codes "null")
 abbrev pub ancestor : Form Check
 ancestor field value =
     if is_opaque (as_str value) then Ok check.OpaqueAncestor
-    else (web_url field value >>= λ there. Ok (check.Ancestor (origin_url there.url)))
+    else (web_url field value >>= λ there. Ok (check.Ancestor (origin_url there)))
 
-abbrev pub shown_page : Option Located → List ℕ
+abbrev pub shown_page : Option ShownUrl → List ℕ
 shown_page None = []
 shown_page (Some there) = there.shown
 
-abbrev pub ancestors : Data → Result Described DescriptionError
-ancestors value = do
+abbrev pub ancestors : ReportTexts → Data → Result Described DescriptionError
+ancestors texts value = do
   items ← required array field.Ancestors value
   checks ← each ancestor field.Ancestors items
-  page ← optional web_url field.Page value
+  page ← optional (located_url texts) field.Page value
   Ok (described_as checks (shown_page page) [])
 
 abbrev pub capability : Data → Result Described DescriptionError
@@ -192,23 +196,27 @@ capability value = do
 abbrev pub worker_start : Result Described DescriptionError
 worker_start = Ok (described_as (check.WorkerStart ∷ []) [] [])
 
--- a description of a kind, where `hashed` gives the digests of a source
-abbrev pub described_by : (List ℕ → Digests) → Kind → Data → Result Described DescriptionError
-described_by hashed kind.Fetch value = fetch value
-described_by hashed kind.Inline value = inline hashed value
-described_by hashed kind.Eval value = eval value
-described_by hashed kind.Wasm value = wasm
-described_by hashed kind.Base value = base value
-described_by hashed kind.Form value = form value
-described_by hashed kind.Ancestors value = ancestors value
-described_by hashed kind.Capability value = capability value
-described_by hashed kind.WorkerStart value = worker_start
+-- a description of a kind, with the texts that a report shows or without, where `hashed` gives the digests of
+-- a source
+abbrev pub described_by : ReportTexts → (List ℕ → Digests) → Kind → Data → Result Described DescriptionError
+described_by texts hashed kind.Fetch value = fetch texts value
+described_by texts hashed kind.Inline value = inline texts hashed value
+described_by texts hashed kind.Eval value = eval texts value
+described_by texts hashed kind.Wasm value = wasm texts
+described_by texts hashed kind.Base value = base texts value
+described_by texts hashed kind.Form value = form texts value
+described_by texts hashed kind.Ancestors value = ancestors texts value
+described_by texts hashed kind.Capability value = capability value
+described_by texts hashed kind.WorkerStart value = worker_start
 
-abbrev pub described_with : (List ℕ → Digests) → Data → Result Described DescriptionError
-described_with hashed value = do
+abbrev pub described_for : ReportTexts → (List ℕ → Digests) → Data → Result Described DescriptionError
+described_for texts hashed value = do
   object ← demand field.Object (is_some (as_object value))
   which ← required (named kind_named) field.Kind value
-  described_by hashed which value
+  described_by texts hashed which value
+
+abbrev pub described_with : (List ℕ → Digests) → Data → Result Described DescriptionError
+described_with hashed value = described_for texts.Made hashed value
 
 -- what a description stands for, or the first member that is missing or misused
 abbrev pub described : Data → Result Described DescriptionError

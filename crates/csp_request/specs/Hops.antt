@@ -8,11 +8,10 @@ use Rattle.csp_request.specs.Members.{◌>>=◌, each}
 use Rattle.csp_request.specs.Urls.{hop, hops_from, web_url}
 use Rattle.csp_request.specs.declared.error.DescriptionError.{DescriptionError}
 use Rattle.csp_request.specs.declared.field.Field.TheVariants as field
-use Rattle.csp_request.specs.declared.located.Located.{Located}
 use Rattle.csp_request.specs.declared.chain.Hop.{Hop}
 
 -- these hops, and those of URLs that follow
-abbrev pub before_hops : List Hop → ℕ → Result (List Located) DescriptionError
+abbrev pub before_hops : List Hop → ℕ → Result (List Url) DescriptionError
     → Result (List Hop) DescriptionError
 before_hops hops redirects found = found >>= λ urls. Ok (hops ++ hops_from redirects urls)
 

@@ -9,8 +9,9 @@ ghost use Rattle.csp_request.specs.Urls as spec;
 
 use crate::error::DescriptionError;
 use crate::field::Field;
-use crate::located::{required_url, web_url};
+use crate::located::{located_url, only_url, web_url};
 use crate::member::{demand, is_absent, needed_array, number_part};
+use crate::texts::ReportTexts;
 use csp_model::{List, Text, Url};
 use serde_json::Value;
 use std::alloc::Global;
@@ -18,14 +19,14 @@ use std::alloc::Global;
 // The URLs that `urls` may have.
 const HOP_LIMIT: usize = 21;
 
-/// A URL of a chain, with the number of redirects before it.
+// A URL of a chain, with the number of redirects before it.
 #[derive(Drop)]
 pub(crate) struct Hop {
     pub(crate) url: Url,
     pub(crate) redirects: u32,
 }
 
-/// The hops of a request, and what a report shows of the first.
+// The hops of a request, and what a report shows of the first.
 #[derive(Drop)]
 pub(crate) struct Chain {
     pub(crate) hops: List<Hop>,
@@ -45,40 +46,43 @@ fn hops_of(alloc: Global, first: Url, others: &[Value]) -> Result<List<Hop>, Des
         redirects: 0,
     })?;
     for (place, item) in others.iter().enumerate() {
-        let there = web_url(alloc, Field::Urls, item)?;
+        let url = web_url(alloc, Field::Urls, item)?;
         hops.push(Hop {
-            url: there.url,
+            url,
             redirects: place as u32 + 1,
         })?;
     }
     Ok(hops)
 }
 
-// The items of `urls`: neither none nor more than the limit, and not beside `url`.
+// The items of `urls`: no more than the limit, and not beside `url`.
 fn url_items(value: &Value) -> Result<&[Value], DescriptionError>
     ensures items { found_map (λ items. map view items.now) result ≡ spec.url_items (view value.now) }
-    ensures some { IfOk result (λ items. 0 < length items.now) }
     ensures few { IfOk result (λ items. length items.now ≤ HOP_LIMIT) }
 {
     let items = needed_array("urls", Field::Urls, value)?;
     demand(Field::Urls, is_absent(value, Field::Url))?;
-    demand(Field::Urls, !items.is_empty())?;
     if items.len() > HOP_LIMIT {
         return Err(DescriptionError::TooManyHops);
     }
     Ok(items)
 }
 
-fn chain_of_items(alloc: Global, items: &[Value]) -> Result<Chain, DescriptionError>
-    requires some { 0 < length items.now }
-    requires few { length items.now ≤ HOP_LIMIT }
-    ensures chain { Gives DescriptionError.Memory result (spec.chain_of_items (map view items.now)) }
+// The chain of some items.
+fn chain_of_items(
+    alloc: Global,
+    texts: ReportTexts,
+    items: &[Value],
+) -> Result<Chain, DescriptionError>
+    requires { length items.now ≤ HOP_LIMIT }
+    ensures chain { Gives DescriptionError.Memory result
+        (spec.chain_of_items texts (map view items.now)) }
     ensures valid { IfOk result (λ chain. All IsValidHop chain.hops) }
 {
     match items.split_first() {
-        None => unreachable!(),
+        None => Err(DescriptionError::Misused { field: Field::Urls }),
         Some((first, others)) => {
-            let first = web_url(alloc, Field::Urls, first)?;
+            let first = located_url(alloc, texts, Field::Urls, first)?;
             let hops = hops_of(alloc, first.url, others)?;
             Ok(Chain {
                 hops,
@@ -89,22 +93,26 @@ fn chain_of_items(alloc: Global, items: &[Value]) -> Result<Chain, DescriptionEr
 }
 
 // The chain of `urls`, which isn't beside `redirects`.
-fn chain_of_urls(alloc: Global, value: &Value) -> Result<Chain, DescriptionError>
-    ensures chain { Gives DescriptionError.Memory result (spec.chain_of_urls (view value.now)) }
+fn chain_of_urls(
+    alloc: Global,
+    texts: ReportTexts,
+    value: &Value,
+) -> Result<Chain, DescriptionError>
+    ensures chain { Gives DescriptionError.Memory result (spec.chain_of_urls texts (view value.now)) }
     ensures valid { IfOk result (λ chain. All IsValidHop chain.hops) }
 {
     let items = url_items(value)?;
-    let chain = chain_of_items(alloc, items)?;
+    let chain = chain_of_items(alloc, texts, items)?;
     demand(Field::Redirects, is_absent(value, Field::Redirects))?;
     Ok(chain)
 }
 
 // The chain of `url` and `redirects`.
-fn chain_of_url(alloc: Global, value: &Value) -> Result<Chain, DescriptionError>
-    ensures chain { Gives DescriptionError.Memory result (spec.chain_of_url (view value.now)) }
+fn chain_of_url(alloc: Global, texts: ReportTexts, value: &Value) -> Result<Chain, DescriptionError>
+    ensures chain { Gives DescriptionError.Memory result (spec.chain_of_url texts (view value.now)) }
     ensures valid { IfOk result (λ chain. All IsValidHop chain.hops) }
 {
-    let there = required_url(alloc, Field::Url, value)?;
+    let there = only_url(alloc, texts, value)?;
     let redirects = number_part("redirects", u32::MAX, Field::Redirects, value)?.unwrap_or(0);
     let mut hops = List::new(alloc);
     hops.push(Hop {
@@ -118,13 +126,17 @@ fn chain_of_url(alloc: Global, value: &Value) -> Result<Chain, DescriptionError>
 }
 
 // The URLs of a fetch or of a form submission, with the count of redirects before each.
-pub(crate) fn chain_of(alloc: Global, value: &Value) -> Result<Chain, DescriptionError>
-    ensures chain { Gives DescriptionError.Memory result (spec.chain_of (view value.now)) }
+pub(crate) fn chain_of(
+    alloc: Global,
+    texts: ReportTexts,
+    value: &Value,
+) -> Result<Chain, DescriptionError>
+    ensures chain { Gives DescriptionError.Memory result (spec.chain_of texts (view value.now)) }
     ensures valid { IfOk result (λ chain. All IsValidHop chain.hops) }
 {
     if is_absent(value, Field::Urls) {
-        chain_of_url(alloc, value)
+        chain_of_url(alloc, texts, value)
     } else {
-        chain_of_urls(alloc, value)
+        chain_of_urls(alloc, texts, value)
     }
 }

@@ -9,6 +9,7 @@ ghost use Rattle.csp_request.specs.Kinds.{kind_named, inline_named as kind_of_in
 ghost use Rattle.csp_token.specs.Digests.{digests_for};
 ghost use Rattle.csp_request.specs.Members.{named, required, each};
 ghost use Rattle.csp_request.specs.Described as spec;
+ghost use Rattle.csp_request.specs.Urls.{told};
 
 use crate::chain::{Chain, Hop, chain_of};
 use crate::element::nonce_of;
@@ -17,11 +18,13 @@ use crate::fetch::fetch;
 use crate::field::Field;
 use crate::inline::source_of;
 use crate::kind::{Kind, inline_named};
-use crate::located::{Located, optional_url, required_url, web_url};
+use crate::located::{page, required_url, web_url};
 use crate::member::{demand, needed, needed_array, required_text, text_or_empty};
-use crate::sample::{no_text, sample_of, text_is_utf8};
+use crate::sample::{sample_of, text_is_utf8};
+use crate::texts::{ReportTexts, no_text, told as told_text};
 use csp_model::{Bytes, Capability, Check, Described, InlineKind, List, Memory, Text, Url};
 use csp_token::Algorithms;
+use csp_url::ShownUrl;
 use serde_json::Value;
 use std::alloc::{AllocError, Global};
 
@@ -45,49 +48,58 @@ fn capability_of(value: &Value) -> Result<Capability, DescriptionError>
 fn of_one_check(
     alloc: Global,
     check: Check,
+    texts: ReportTexts,
     blocked_uri: &str,
     sample: Text,
 ) -> Result<Described, Memory>
     requires { IsValidCheck check }
     ensures described { IfOk result
-        (λ made. made ≡ spec.described_as (check ∷ []) blocked_uri.now sample) }
+        (λ made. made ≡ spec.described_as (check ∷ []) (told texts blocked_uri.now) sample) }
     ensures valid { IfOk result (λ made. All IsValidCheck made.checks) }
 {
     let mut checks = List::new(alloc);
     checks.push(check)?;
     Ok(Described {
         checks,
-        blocked_uri: Text::new(alloc, blocked_uri)?,
+        blocked_uri: told_text(alloc, texts, blocked_uri)?,
         sample,
     })
 }
 
+// A request of one check of which a report shows nothing.
+fn without_texts(alloc: Global, check: Check) -> Result<Described, Memory>
+    requires { IsValidCheck check }
+    ensures described { IfOk result (λ made. made ≡ spec.described_as (check ∷ []) [] []) }
+    ensures valid { IfOk result (λ made. All IsValidCheck made.checks) }
+{
+    of_one_check(alloc, check, ReportTexts::Empty, "", no_text(alloc))
+}
+
 // The compilation of a string as script.
-fn eval(alloc: Global, value: &Value) -> Result<Described, DescriptionError>
-    ensures described { Gives DescriptionError.Memory result (spec.eval (view value.now)) }
+fn eval(alloc: Global, texts: ReportTexts, value: &Value) -> Result<Described, DescriptionError>
+    ensures described { Gives DescriptionError.Memory result (spec.eval texts (view value.now)) }
     ensures valid { IfOk result (λ made. All IsValidCheck made.checks) }
 {
     let source = text_or_empty(Field::Source, value)?;
-    let sample = sample_of(alloc, source)?;
-    Ok(of_one_check(alloc, Check::Eval, "eval", sample)?)
+    let sample = sample_of(alloc, texts, source)?;
+    Ok(of_one_check(alloc, Check::Eval, texts, "eval", sample)?)
 }
 
 // The compilation of WebAssembly.
-fn wasm(alloc: Global) -> Result<Described, DescriptionError>
-    ensures described { Gives DescriptionError.Memory result spec.wasm }
+fn wasm(alloc: Global, texts: ReportTexts) -> Result<Described, DescriptionError>
+    ensures described { Gives DescriptionError.Memory result (spec.wasm texts) }
     ensures valid { IfOk result (λ made. All IsValidCheck made.checks) }
 {
-    Ok(of_one_check(alloc, Check::Wasm, "wasm-eval", no_text(alloc))?)
+    Ok(of_one_check(alloc, Check::Wasm, texts, "wasm-eval", no_text(alloc))?)
 }
 
 // A base URL.
-fn base(alloc: Global, value: &Value) -> Result<Described, DescriptionError>
-    ensures described { Gives DescriptionError.Memory result (spec.base (view value.now)) }
+fn base(alloc: Global, texts: ReportTexts, value: &Value) -> Result<Described, DescriptionError>
+    ensures described { Gives DescriptionError.Memory result (spec.base texts (view value.now)) }
     ensures valid { IfOk result (λ made. All IsValidCheck made.checks) }
 {
-    let there = required_url(alloc, Field::Url, value)?;
-    let check = Check::Base { url: there.url };
-    Ok(of_one_check(alloc, check, "inline", no_text(alloc))?)
+    let url = required_url(alloc, Field::Url, value)?;
+    Ok(of_one_check(alloc, Check::Base { url }, texts, "inline", no_text(alloc))?)
 }
 
 fn form_checks(alloc: Global, hops: List<Hop>) -> Result<List<Check>, AllocError>
@@ -103,11 +115,11 @@ fn form_checks(alloc: Global, hops: List<Hop>) -> Result<List<Check>, AllocError
 }
 
 // A form submission.
-fn form(alloc: Global, value: &Value) -> Result<Described, DescriptionError>
-    ensures described { Gives DescriptionError.Memory result (spec.form (view value.now)) }
+fn form(alloc: Global, texts: ReportTexts, value: &Value) -> Result<Described, DescriptionError>
+    ensures described { Gives DescriptionError.Memory result (spec.form texts (view value.now)) }
     ensures valid { IfOk result (λ made. All IsValidCheck made.checks) }
 {
-    let Chain { hops, shown } = chain_of(alloc, value)?;
+    let Chain { hops, shown } = chain_of(alloc, texts, value)?;
     let Ok(checks) = form_checks(alloc, hops) else {
         return Err(DescriptionError::Memory);
     };
@@ -154,7 +166,7 @@ fn ancestor(alloc: Global, field: Field, value: &Value) -> Result<Check, Descrip
         Some("null") => Ok(Check::OpaqueAncestor),
         _ => {
             let there = web_url(alloc, field, value)?;
-            let url = origin_url(alloc, there.url)?;
+            let url = origin_url(alloc, there)?;
             Ok(Check::Ancestor { url })
         }
     }
@@ -176,7 +188,7 @@ fn ancestor_checks(
     Ok(checks)
 }
 
-fn shown_page(alloc: Global, page: Option<Located>) -> Text
+fn shown_page(alloc: Global, page: Option<ShownUrl>) -> Text
     ensures { result ≡ spec.shown_page page }
 {
     match page {
@@ -186,13 +198,17 @@ fn shown_page(alloc: Global, page: Option<Located>) -> Text
 }
 
 // The ancestors of a page.
-fn ancestors(alloc: Global, value: &Value) -> Result<Described, DescriptionError>
-    ensures described { Gives DescriptionError.Memory result (spec.ancestors (view value.now)) }
+fn ancestors(
+    alloc: Global,
+    texts: ReportTexts,
+    value: &Value,
+) -> Result<Described, DescriptionError>
+    ensures described { Gives DescriptionError.Memory result (spec.ancestors texts (view value.now)) }
     ensures valid { IfOk result (λ made. All IsValidCheck made.checks) }
 {
     let items = needed_array("ancestors", Field::Ancestors, value)?;
     let checks = ancestor_checks(alloc, Field::Ancestors, items)?;
-    let page = optional_url(alloc, Field::Page, value)?;
+    let page = page(alloc, texts, value)?;
     Ok(Described {
         checks,
         blocked_uri: shown_page(alloc, page),
@@ -206,7 +222,8 @@ fn capability(alloc: Global, value: &Value) -> Result<Described, DescriptionErro
     ensures valid { IfOk result (λ made. All IsValidCheck made.checks) }
 {
     let capability = capability_of(value)?;
-    Ok(of_one_check(alloc, Check::Capability { capability }, "", no_text(alloc))?)
+    let check = Check::Capability { capability };
+    Ok(without_texts(alloc, check)?)
 }
 
 // The start of a worker.
@@ -214,7 +231,7 @@ fn worker_start(alloc: Global) -> Result<Described, DescriptionError>
     ensures described { Gives DescriptionError.Memory result spec.worker_start }
     ensures valid { IfOk result (λ made. All IsValidCheck made.checks) }
 {
-    Ok(of_one_check(alloc, Check::WorkerStart, "", no_text(alloc))?)
+    Ok(without_texts(alloc, Check::WorkerStart)?)
 }
 
 // What inline code or style it is.
@@ -226,13 +243,18 @@ fn inline_kind_of(value: &Value) -> Result<InlineKind, DescriptionError>
 }
 
 // Inline code or style.
-fn inline(alloc: Global, value: &Value, wanted: Algorithms) -> Result<Described, DescriptionError>
+fn inline(
+    alloc: Global,
+    texts: ReportTexts,
+    value: &Value,
+    wanted: Algorithms,
+) -> Result<Described, DescriptionError>
     ensures described { Gives DescriptionError.Memory result
-        (spec.inline (λ source. digests_for source wanted) (view value.now)) }
+        (spec.inline texts (λ source. digests_for source wanted) (view value.now)) }
     ensures valid { IfOk result (λ made. All IsValidCheck made.checks) }
 {
     let kind = inline_kind_of(value)?;
-    let source = source_of(alloc, value, wanted)?;
+    let source = source_of(alloc, texts, value, wanted)?;
     let nonce = nonce_of(alloc, value)?;
     text_is_utf8(&nonce);
     let check = Check::Inline {
@@ -240,47 +262,50 @@ fn inline(alloc: Global, value: &Value, wanted: Algorithms) -> Result<Described,
         nonce,
         digests: source.digests,
     };
-    Ok(of_one_check(alloc, check, "inline", source.sample)?)
+    Ok(of_one_check(alloc, check, texts, "inline", source.sample)?)
 }
 
 // What a description of a kind stands for.
 fn described_by(
     alloc: Global,
+    texts: ReportTexts,
     kind: Kind,
     value: &Value,
     wanted: Algorithms,
 ) -> Result<Described, DescriptionError>
     ensures described { Gives DescriptionError.Memory result
-        (spec.described_by (λ source. digests_for source wanted) kind (view value.now)) }
+        (spec.described_by texts (λ source. digests_for source wanted) kind (view value.now)) }
     ensures valid { IfOk result (λ made. All IsValidCheck made.checks) }
 {
     match kind {
-        Kind::Fetch => fetch(alloc, value),
-        Kind::Inline => inline(alloc, value, wanted),
-        Kind::Eval => eval(alloc, value),
-        Kind::Wasm => wasm(alloc),
-        Kind::Base => base(alloc, value),
-        Kind::Form => form(alloc, value),
-        Kind::Ancestors => ancestors(alloc, value),
+        Kind::Fetch => fetch(alloc, texts, value),
+        Kind::Inline => inline(alloc, texts, value, wanted),
+        Kind::Eval => eval(alloc, texts, value),
+        Kind::Wasm => wasm(alloc, texts),
+        Kind::Base => base(alloc, texts, value),
+        Kind::Form => form(alloc, texts, value),
+        Kind::Ancestors => ancestors(alloc, texts, value),
         Kind::Capability => capability(alloc, value),
         Kind::WorkerStart => worker_start(alloc),
     }
 }
 
-/// The request that a description stands for, as `describe` says, but that of an inline source only the
-/// digests of the wanted algorithms are computed. In place of each other digest are bytes that are all 0.
+/// The request that a description stands for, as `describe` says, but with no more than is wanted of it. Of an
+/// inline source only the digests of the wanted algorithms are computed; in place of each other digest are
+/// bytes that are all 0. The texts that only a report shows are made or stay empty.
 pub fn describe_for(
     alloc: Global,
     value: &Value,
     wanted: Algorithms,
+    texts: ReportTexts,
 ) -> Result<Described, DescriptionError>
     ensures described { Gives DescriptionError.Memory result
-        (spec.described_with (λ source. digests_for source wanted) (view value.now)) }
+        (spec.described_for texts (λ source. digests_for source wanted) (view value.now)) }
     ensures valid { IfOk result (λ made. All IsValidCheck made.checks) }
 {
     demand(Field::Object, value.is_object())?;
     let kind = kind_of(value)?;
-    described_by(alloc, kind, value, wanted)
+    described_by(alloc, texts, kind, value, wanted)
 }
 
 /// The request that a description stands for, by the members of its kind. `Misused` names the first member,
@@ -295,5 +320,5 @@ pub fn describe(alloc: Global, value: &Value) -> Result<Described, DescriptionEr
         sha384: true,
         sha512: true,
     };
-    describe_for(alloc, value, all)
+    describe_for(alloc, value, all, ReportTexts::Made)
 }

@@ -12,11 +12,12 @@ ghost use Rattle.csp_request.specs.Described as spec;
 use crate::chain::{Chain, Hop, chain_of};
 use crate::error::DescriptionError;
 use crate::field::Field;
-use crate::located::{Located, optional_url};
+use crate::located::optional_url;
 use crate::member::{flag_part, needed, required_text, text_or_empty};
-use crate::sample::{no_text, text_is_utf8};
+use crate::sample::text_is_utf8;
+use crate::texts::{ReportTexts, no_text};
 use csp_fetch::{Destination, effective};
-use csp_model::{Check, Described, Duplicate, Group, Hash, List, Memory, Text};
+use csp_model::{Check, Described, Duplicate, Group, Hash, List, Memory, Text, Url};
 use csp_token::read_integrity;
 use serde_json::Value;
 use std::alloc::Global;
@@ -48,18 +49,15 @@ fn last_redirects(hops: &List<Hop>) -> u32
 }
 
 // The hops of a chain, and that of a response: its URL, with the count of the last hop.
-fn with_response(mut hops: List<Hop>, response: Option<Located>) -> Result<List<Hop>, Memory>
+fn with_response(mut hops: List<Hop>, response: Option<Url>) -> Result<List<Hop>, Memory>
     requires hops { All IsValidHop hops }
-    requires response { IfSome response (λ there. IsValidUrl there.url) }
+    requires response { IfSome response IsValidUrl }
     ensures hops { IfOk result (λ made. made ≡ hops ++ response_hops hops response) }
     ensures valid { IfOk result (All IsValidHop) }
 {
-    if let Some(there) = response {
+    if let Some(url) = response {
         let redirects = last_redirects(&hops);
-        hops.push(Hop {
-            url: there.url,
-            redirects,
-        })?;
+        hops.push(Hop { url, redirects })?;
     }
     Ok(hops)
 }
@@ -122,13 +120,17 @@ fn fetch_options(alloc: Global, value: &Value) -> Result<FetchOptions, Descripti
     })
 }
 
-/// A fetch, with a check for each hop.
-pub(crate) fn fetch(alloc: Global, value: &Value) -> Result<Described, DescriptionError>
-    ensures described { Gives DescriptionError.Memory result (spec.fetch (view value.now)) }
+// A fetch, with a check for each hop.
+pub(crate) fn fetch(
+    alloc: Global,
+    texts: ReportTexts,
+    value: &Value,
+) -> Result<Described, DescriptionError>
+    ensures described { Gives DescriptionError.Memory result (spec.fetch texts (view value.now)) }
     ensures valid { IfOk result (λ made. All IsValidCheck made.checks) }
 {
     let destination = destination_of(value)?;
-    let Chain { hops, shown } = chain_of(alloc, value)?;
+    let Chain { hops, shown } = chain_of(alloc, texts, value)?;
     let response = optional_url(alloc, Field::Response, value)?;
     let options = fetch_options(alloc, value)?;
     let hops = with_response(hops, response)?;

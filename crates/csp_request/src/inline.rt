@@ -12,14 +12,15 @@ ghost use Rattle.csp_request.specs.Described as spec;
 use crate::error::DescriptionError;
 use crate::field::Field;
 use crate::member::{demand, is_absent, needed, needed_text, present, text_part};
-use crate::sample::{no_text, sample_of};
+use crate::sample::sample_of;
+use crate::texts::{ReportTexts, no_text};
 use csp_model::{Digests, Text};
 use csp_token::{Algorithms, digests_for};
 use hex::FromHex;
 use serde_json::Value;
 use std::alloc::Global;
 
-/// What a description says of an inline source.
+// What a description says of an inline source.
 #[derive(Drop)]
 pub(crate) struct InlineSource {
     pub(crate) digests: Digests,
@@ -92,11 +93,12 @@ fn optional_digests(value: &Value) -> Result<Option<Digests>, DescriptionError>
 // A source text, of which the digests that are wanted are computed, or else its digests.
 pub(crate) fn source_of(
     alloc: Global,
+    texts: ReportTexts,
     value: &Value,
     wanted: Algorithms,
 ) -> Result<InlineSource, DescriptionError>
     ensures source { Gives DescriptionError.Memory result
-        (spec.source_of (λ source. wanted_digests source wanted) (view value.now)) }
+        (spec.source_of texts (λ source. wanted_digests source wanted) (view value.now)) }
     ensures valid { IfOk result (λ found. IsValidDigests found.digests) }
 {
     match text_part("source", Field::Source, value)? {
@@ -104,7 +106,7 @@ pub(crate) fn source_of(
             demand(Field::Digests, is_absent(value, Field::Digests))?;
             Ok(InlineSource {
                 digests: digests_for(source.as_bytes(), wanted),
-                sample: sample_of(alloc, source)?,
+                sample: sample_of(alloc, texts, source)?,
             })
         }
         None => Ok(InlineSource {

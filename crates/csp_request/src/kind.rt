@@ -5,7 +5,7 @@ ghost use Rattle.csp_request.specs.Kinds as spec;
 use csp_fetch::Destination;
 use csp_model::{Group, InlineKind};
 
-/// What a description asks for.
+// What a description asks for.
 #[derive(Clone, Copy, Debug, PartialEq, Eq)]
 pub(crate) enum Kind {
     Fetch,

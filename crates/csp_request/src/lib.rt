@@ -15,6 +15,7 @@ mod member;
 mod print;
 mod requests;
 mod sample;
+mod texts;
 
 pub use check::read_check;
 pub use description::{describe, describe_for};
@@ -22,3 +23,4 @@ pub use error::{CheckError, DescriptionError, RequestError};
 pub use field::Field;
 pub use print::check_json;
 pub use requests::{Requests, read_requests};
+pub use texts::ReportTexts;

@@ -6,24 +6,18 @@ ghost use Rattle.csp_model.specs.Answers.{Gives};
 ghost use Rattle.csp_model.specs.Validity.{IsValidUrl};
 ghost use Rattle.csp_url.specs.Parts.{url_of_parts};
 ghost use Rattle.csp_url.specs.Reading.{url_of};
-ghost use Rattle.csp_url.specs.Texts.{stripped_of};
+ghost use Rattle.csp_url.specs.Texts.{shown_url_of};
 ghost use Rattle.csp_request.specs.Members.{needed, optional, required};
 ghost use Rattle.csp_request.specs.Urls as spec;
 
 use crate::error::DescriptionError;
 use crate::field::Field;
 use crate::member::{needed, needed_text, number_part, present, text_part};
+use crate::texts::{ReportTexts, no_text};
 use csp_model::{Memory, Scheme, Text, Url};
-use csp_url::{PartsError, UrlError, read_url, strip_url, url_from_parts, url_text};
+use csp_url::{PartsError, ShownUrl, UrlError, read_shown_url, read_url, url_from_parts, url_text};
 use serde_json::Value;
 use std::alloc::Global;
-
-/// A URL of a description, and what a report shows of it.
-#[derive(Drop)]
-pub(crate) struct Located {
-    pub(crate) url: Url,
-    pub(crate) shown: Text,
-}
 
 // The URL that a text is.
 fn url_of_text(alloc: Global, field: Field, text: &str) -> Result<Url, DescriptionError>
@@ -37,25 +31,16 @@ fn url_of_text(alloc: Global, field: Field, text: &str) -> Result<Url, Descripti
     }
 }
 
-// What a report shows of the URL that a text is.
-fn shown_text(alloc: Global, field: Field, text: &str) -> Result<Text, DescriptionError>
-    ensures { Gives DescriptionError.Memory result (needed field (stripped_of text.now)) }
+// The URL that a text is, and what a report shows of it.
+fn shown_url_of_text(alloc: Global, field: Field, text: &str) -> Result<ShownUrl, DescriptionError>
+    ensures url { Gives DescriptionError.Memory result (needed field (shown_url_of text.now)) }
+    ensures valid { IfOk result (λ there. IsValidUrl there.url) }
 {
-    match strip_url(alloc, text) {
-        Ok(shown) => Ok(shown),
+    match read_shown_url(alloc, text) {
+        Ok(there) => Ok(there),
         Err(UrlError::NotAUrl) => Err(DescriptionError::Misused { field }),
         Err(UrlError::Memory) => Err(DescriptionError::Memory),
     }
-}
-
-fn located_text(alloc: Global, field: Field, text: &str) -> Result<Located, DescriptionError>
-    ensures located { Gives DescriptionError.Memory result (spec.located_text field text.now) }
-    ensures valid { IfOk result (λ there. IsValidUrl there.url) }
-{
-    Ok(Located {
-        url: url_of_text(alloc, field, text)?,
-        shown: shown_text(alloc, field, text)?,
-    })
 }
 
 // The URL of parts.
@@ -92,31 +77,60 @@ fn shown_parts(alloc: Global, url: &Url) -> Result<Text, Memory>
 }
 
 // A URL in parts: a scheme, and perhaps a host, a port and a path.
-fn url_parts(alloc: Global, field: Field, value: &Value) -> Result<Located, DescriptionError>
-    ensures located { Gives DescriptionError.Memory result (spec.url_parts field (view value.now)) }
-    ensures valid { IfOk result (λ there. IsValidUrl there.url) }
+fn url_parts(alloc: Global, field: Field, value: &Value) -> Result<Url, DescriptionError>
+    ensures url { Gives DescriptionError.Memory result (spec.url_parts field (view value.now)) }
+    ensures valid { IfOk result IsValidUrl }
 {
     let scheme = needed_text("scheme", field, value)?;
     let host = text_part("host", field, value)?;
     let port = number_part("port", 65535, field, value)?;
     let path = text_part("path", field, value)?.unwrap_or("/");
-    let url = url_of_parts(alloc, field, scheme, host, port, path)?;
-    let shown = shown_parts(alloc, &url)?;
-    Ok(Located { url, shown })
+    url_of_parts(alloc, field, scheme, host, port, path)
 }
 
 // A URL: a text, or an object in parts.
-pub(crate) fn web_url(
-    alloc: Global,
-    field: Field,
-    value: &Value,
-) -> Result<Located, DescriptionError>
-    ensures located { Gives DescriptionError.Memory result (spec.web_url field (view value.now)) }
+pub(crate) fn web_url(alloc: Global, field: Field, value: &Value) -> Result<Url, DescriptionError>
+    ensures url { Gives DescriptionError.Memory result (spec.web_url field (view value.now)) }
+    ensures valid { IfOk result IsValidUrl }
+{
+    match value.as_str() {
+        Some(text) => url_of_text(alloc, field, text),
+        None => url_parts(alloc, field, value),
+    }
+}
+
+// A URL, and what a report shows of it.
+fn shown_url(alloc: Global, field: Field, value: &Value) -> Result<ShownUrl, DescriptionError>
+    ensures located { Gives DescriptionError.Memory result
+        (spec.located_url ReportTexts.Made field (view value.now)) }
     ensures valid { IfOk result (λ there. IsValidUrl there.url) }
 {
     match value.as_str() {
-        Some(text) => located_text(alloc, field, text),
-        None => url_parts(alloc, field, value),
+        Some(text) => shown_url_of_text(alloc, field, text),
+        None => {
+            let url = url_parts(alloc, field, value)?;
+            let shown = shown_parts(alloc, &url)?;
+            Ok(ShownUrl { url, shown })
+        }
+    }
+}
+
+// A URL, and what a report shows of it, where that is wanted.
+pub(crate) fn located_url(
+    alloc: Global,
+    texts: ReportTexts,
+    field: Field,
+    value: &Value,
+) -> Result<ShownUrl, DescriptionError>
+    ensures located { Gives DescriptionError.Memory result (spec.located_url texts field (view value.now)) }
+    ensures valid { IfOk result (λ there. IsValidUrl there.url) }
+{
+    match texts {
+        ReportTexts::Made => shown_url(alloc, field, value),
+        ReportTexts::Empty => Ok(ShownUrl {
+            url: web_url(alloc, field, value)?,
+            shown: no_text(alloc),
+        }),
     }
 }
 
@@ -125,9 +139,9 @@ pub(crate) fn optional_url(
     alloc: Global,
     field: Field,
     value: &Value,
-) -> Result<Option<Located>, DescriptionError>
-    ensures located { Gives DescriptionError.Memory result (optional spec.web_url field (view value.now)) }
-    ensures valid { IfOk result (λ found. IfSome found (λ there. IsValidUrl there.url)) }
+) -> Result<Option<Url>, DescriptionError>
+    ensures url { Gives DescriptionError.Memory result (optional spec.web_url field (view value.now)) }
+    ensures valid { IfOk result (λ found. IfSome found IsValidUrl) }
 {
     match present(value, field.as_str()) {
         None => Ok(None),
@@ -140,9 +154,38 @@ pub(crate) fn required_url(
     alloc: Global,
     field: Field,
     value: &Value,
-) -> Result<Located, DescriptionError>
-    ensures located { Gives DescriptionError.Memory result (required spec.web_url field (view value.now)) }
-    ensures valid { IfOk result (λ there. IsValidUrl there.url) }
+) -> Result<Url, DescriptionError>
+    ensures url { Gives DescriptionError.Memory result (required spec.web_url field (view value.now)) }
+    ensures valid { IfOk result IsValidUrl }
 {
     web_url(alloc, field, needed(field, present(value, field.as_str()))?)
+}
+
+// The page of a description, or none where it is absent.
+pub(crate) fn page(
+    alloc: Global,
+    texts: ReportTexts,
+    value: &Value,
+) -> Result<Option<ShownUrl>, DescriptionError>
+    ensures { Gives DescriptionError.Memory result
+        (optional (spec.located_url texts) Field.Page (view value.now)) }
+{
+    match present(value, "page") {
+        None => Ok(None),
+        Some(found) => Ok(Some(located_url(alloc, texts, Field::Page, found)?)),
+    }
+}
+
+// The one URL of a description without `urls`.
+pub(crate) fn only_url(
+    alloc: Global,
+    texts: ReportTexts,
+    value: &Value,
+) -> Result<ShownUrl, DescriptionError>
+    ensures located { Gives DescriptionError.Memory result
+        (required (spec.located_url texts) Field.Url (view value.now)) }
+    ensures valid { IfOk result (λ there. IsValidUrl there.url) }
+{
+    let found = needed(Field::Url, present(value, "url"))?;
+    located_url(alloc, texts, Field::Url, found)
 }

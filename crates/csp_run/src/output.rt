@@ -14,7 +14,7 @@ use crate::lines::push_verdict;
 use crate::plan::Form;
 use crate::status::Status;
 use csp_model::{Bytes, PolicyList, Verdict};
-use csp_request::{RequestError, Requests, describe_for};
+use csp_request::{ReportTexts, RequestError, Requests, describe_for};
 use csp_verdict::CompiledList;
 use serde_json::Value;
 use std::alloc::Global;
@@ -73,7 +73,8 @@ fn judge_each(alloc: Global, list: &PolicyList, requests: &[Value]) -> Result<Bu
     })
 }
 
-// The verdict on the description of this number. Only digests that some policy names are computed.
+// The verdict on the description of this number. Only digests that some policy names are computed, and no text
+// that only a report shows is made.
 fn judge_one(
     alloc: Global,
     list: &CompiledList<'_>,
@@ -82,7 +83,7 @@ fn judge_one(
 ) -> Result<Verdict, Fault>
     ensures { result ≢ Err Fault.Memory → result ≡ verdict_on list.now number (described (view request.now)) }
 {
-    match describe_for(alloc, request, list.algorithms()) {
+    match describe_for(alloc, request, list.algorithms(), ReportTexts::Empty) {
         Ok(described) => Ok(list.judge(alloc, &described)?),
         Err(error) => Err(request_fault(error.at(number))),
     }

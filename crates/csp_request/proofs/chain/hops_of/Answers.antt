@@ -12,11 +12,11 @@ loop-place-preserved c =
     let others = c.args.others.now in
     let hops = c.loop-place.hops in
     let place = c.loop-place.place in
-    let there = c.in_ok-there.there in
+    let there = c.in_ok-url.url in
     let small : place + 1 < 2 ^ 32 = omega arith in
     rw c.in_ok-push-2.ensures.ok record {
       hops = c.loop-place.invariant.hops
-          ∙ (ap (before_hops hops (place + 1)) (each_drop web_url field.Urls others place c.index-others-place.result there c.loop-place-test.true c.index-others-place.is c.in_ok-there.ensures.located)
+          ∙ (ap (before_hops hops (place + 1)) (each_drop web_url field.Urls others place c.index-others-place.result there c.loop-place-test.true c.index-others-place.is c.in_ok-url.ensures.url)
           ∙ before_more hops (place + 1) there (each web_url field.Urls (map view (drop (place + 1) others))));
-      valid = All-one_more IsValidHop hops (hop there.url (place + 1)) c.loop-place.invariant.valid (c.in_ok-there.ensures.valid, small);
+      valid = All-one_more IsValidHop hops (hop there (place + 1)) c.loop-place.invariant.valid (c.in_ok-url.ensures.valid, small);
     }
