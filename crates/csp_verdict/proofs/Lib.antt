@@ -1,4 +1,5 @@
 pub mod Entries
 pub mod ItemGoverned
+pub mod ItemsReported
 pub mod ItemsSoFar
 pub mod NamedDigests

@@ -1,7 +1,7 @@
 -- The verdict on inline code or style rests on those digests alone whose algorithms the list's hash-sources name.
 use Rattle.std.proofs.Common.{◌≡◌, ℕ, ◌+◌, Bool, true, false, ◌&&◌, ◌||◌, cond, List, [], ◌∷◌, ◌++◌, Option, Some, None, IsTrue, refl, sym, ap, ◌∙◌}
 use Rattle.std.proofs.lemmas.Bool.{cond-true, or_left, or_right}
-use Rattle.std.specs.List.{list_any, find, flat_map, cons_option}
+use Rattle.std.specs.List.{list_any, find, filter_map, flat_map, cons_option}
 use Rattle.std.specs.Option.{option_map}
 use Rattle.csp_model.specs.DecideGoverning.{allows_by}
 use Rattle.csp_model.specs.DecideInline.{allows_all_inline, hash_counts, sources_allow_inline}
@@ -10,7 +10,7 @@ use Rattle.csp_model.specs.Governing.{Governor, governor, governor_named, is_nam
 use Rattle.csp_model.specs.Inline.{is_element_kind}
 use Rattle.csp_model.specs.Names.{inline_directive}
 use Rattle.csp_model.specs.Tokens.{digest_by}
-use Rattle.csp_model.specs.Verdict.{item_of, items_from, items_of, list_allows, judged_checks, verdict_of}
+use Rattle.csp_model.specs.Verdict.{item_of, items_from, items_of, list_allows, judged_checks, verdict_of, check_violations, violations_of}
 use Rattle.csp_model.proofs.VerdictLaws.{item_by, verdict_with}
 use Rattle.csp_model.specs.declared.check.Check.{Check}
 use Rattle.csp_model.specs.declared.check.Check.TheVariants as check
@@ -27,7 +27,8 @@ use Rattle.csp_token.proofs.NamedDigests.{agreeing_match}
 use Rattle.csp_token.specs.Algorithms.{names}
 use Rattle.csp_token.specs.Digests.{digests_for, digests_of}
 use Rattle.csp_verdict.proofs.Entries.{governs_named}
-use Rattle.csp_verdict.specs.Algorithms.{policy_names, list_names, algorithms_of, AgreeWhereNamed}
+use Rattle.csp_verdict.specs.Algorithms.{policy_names, list_names, algorithms_of, AgreeWhereNamed, inline_request}
+use Rattle.csp_verdict.specs.Reported.{violation_at}
 
 -- what is found, where it passes another test, is an item that passes
 find_any : (p q : Directive → Bool) (ds : List Directive) (d : Directive) → find p ds ≡ Some d → q d ≡ true → list_any q ds ≡ true
@@ -101,6 +102,18 @@ agreeing_verdict list kind nonce first second agree =
     ∙ ap (λ (items : List Item). verdict_with (items ++ [])) (same_items kind nonce first second 0 list.policies agree)
     ∙ sym (one_verdict list (check.Inline kind nonce second))
 
+pub agreeing_violations : (list : PolicyList) (kind : InlineKind) (nonce : List ℕ) (first second : Digests)
+    (blocked_uri sample : List ℕ) → AgreeWhereNamed list first second
+    → violations_of list (inline_request kind nonce first blocked_uri sample)
+    ≡ violations_of list (inline_request kind nonce second blocked_uri sample)
+agreeing_violations list kind nonce first second blocked_uri sample agree =
+    let one = inline_request kind nonce first blocked_uri sample in
+    let other = inline_request kind nonce second blocked_uri sample in
+    ap (flat_map (check_violations list one)) (one_check list (check.Inline kind nonce first))
+    ∙ ap (λ (items : List Item). filter_map (violation_at list.policies one (check.Inline kind nonce first)) items ++ [])
+    (same_items kind nonce first second 0 list.policies agree)
+    ∙ sym (ap (flat_map (check_violations list other)) (one_check list (check.Inline kind nonce second)))
+
 wanted_agree : (list : PolicyList) (source : List ℕ)
     → AgreeWhereNamed list (digests_for source (algorithms_of list)) (digests_of source)
 wanted_agree list source Sha256 named = cond-true (list_names Sha256 list) _ _ named
@@ -112,3 +125,11 @@ pub wanted_verdict : (list : PolicyList) (kind : InlineKind) (nonce : List ℕ) 
     ≡ verdict_of list (check.Inline kind nonce (digests_of source) ∷ [])
 wanted_verdict list kind nonce source =
     agreeing_verdict list kind nonce (digests_for source (algorithms_of list)) (digests_of source) (wanted_agree list source)
+
+pub wanted_violations : (list : PolicyList) (kind : InlineKind) (nonce : List ℕ) (source : List ℕ)
+    (blocked_uri sample : List ℕ)
+    → violations_of list (inline_request kind nonce (digests_for source (algorithms_of list)) blocked_uri sample)
+    ≡ violations_of list (inline_request kind nonce (digests_of source) blocked_uri sample)
+wanted_violations list kind nonce source blocked_uri sample =
+    agreeing_violations list kind nonce (digests_for source (algorithms_of list)) (digests_of source) blocked_uri sample
+    (wanted_agree list source)

@@ -1,13 +1,16 @@
 -- The algorithms that the hash-sources of a list's policies name.
-use Rattle.std.specs.Prelude.{◌≡◌, Bool, IsTrue}
+use Rattle.std.specs.Prelude.{◌≡◌, ℕ, Bool, IsTrue, List, [], ◌∷◌}
 use Rattle.std.specs.List.{list_any}
 use Rattle.csp_model.specs.Tokens.{digest_by}
+use Rattle.csp_model.specs.declared.check.Check.TheVariants.{Inline}
 use Rattle.csp_model.specs.declared.check.Digests.{Digests}
+use Rattle.csp_model.specs.declared.check.InlineKind.{InlineKind}
 use Rattle.csp_model.specs.declared.policy.Directive.{Directive}
 use Rattle.csp_model.specs.declared.policy.Policy.{Policy}
 use Rattle.csp_model.specs.declared.policy.PolicyList.{PolicyList}
 use Rattle.csp_model.specs.declared.source.Algorithm.{Algorithm}
 use Rattle.csp_model.specs.declared.source.Algorithm.TheVariants.{Sha256, Sha384, Sha512}
+use Rattle.csp_model.specs.declared.verdict.Described.{Described}
 use Rattle.csp_token.specs.Algorithms.{names}
 use Rattle.csp_token.specs.declared.digest.Algorithms.{Algorithms}
 
@@ -31,3 +34,8 @@ abbrev pub AgreeWhereNamed : PolicyList → Digests → Digests → Type 0
 AgreeWhereNamed list first second =
     (algorithm : Algorithm) → IsTrue (list_names algorithm list)
     → digest_by algorithm first ≡ digest_by algorithm second
+
+-- a request of inline code or style with these digests, and what a report about it says
+abbrev pub inline_request : InlineKind → List ℕ → Digests → List ℕ → List ℕ → Described
+inline_request kind nonce digests blocked_uri sample =
+    record { checks = Inline kind nonce digests ∷ []; blocked_uri = blocked_uri; sample = sample }

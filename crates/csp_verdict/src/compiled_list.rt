@@ -7,7 +7,8 @@ ghost use Rattle.csp_verdict.specs.Algorithms.{algorithms_of};
 use crate::algorithms::named_algorithms;
 use crate::compiled_policy::CompiledPolicy;
 use crate::verdict::verdict_of;
-use csp_model::{Described, Memory, Policy, PolicyList, Verdict};
+use crate::violation::violations_of;
+use csp_model::{Described, List, Memory, Policy, PolicyList, Verdict, Violation};
 use csp_token::Algorithms;
 use std::alloc::Global;
 use std::marker::Model;
@@ -41,7 +42,21 @@ impl<'a> CompiledList<'a> {
         requires { length list.now.policies ≤ policy_limit }
         ensures list { IfOk result (λ made. made ≡ list.now) }
     {
-        let policies = compiled(alloc, list.policies.as_slice())?;
+        let policies = compiled(alloc, list.policies.as_slice(), false)?;
+        let algorithms = named_algorithms(list.policies.as_slice());
+        Ok(CompiledList {
+            policies,
+            algorithms,
+        })
+    }
+
+    /// Makes a list of at most 64 policies ready, as `new` does, and keeps each policy's text too. So
+    /// `violations` copies it where else it prints the policy for each violation.
+    pub fn for_reports(alloc: Global, list: &'a PolicyList) -> Result<CompiledList<'a>, Memory>
+        requires { length list.now.policies ≤ policy_limit }
+        ensures list { IfOk result (λ made. made ≡ list.now) }
+    {
+        let policies = compiled(alloc, list.policies.as_slice(), true)?;
         let algorithms = named_algorithms(list.policies.as_slice());
         Ok(CompiledList {
             policies,
@@ -59,6 +74,17 @@ impl<'a> CompiledList<'a> {
         verdict_of(alloc, self.policies.as_slice(), described.checks.as_slice())
     }
 
+    /// The violations of a described request under the list, as the function `violations` says.
+    pub fn violations(
+        &self,
+        alloc: Global,
+        described: &Described,
+    ) -> Result<List<Violation>, Memory>
+        ensures violations { IfOk result (λ made. made ≡ spec.violations_of self.now described.now) }
+    {
+        violations_of(alloc, self.policies.as_slice(), described)
+    }
+
     /// The algorithms that some hash-source of the list's policies has. No other digest of inline code or
     /// style makes a difference to its verdict: `laws::only_named_algorithms_count` says so.
     pub fn algorithms(&self) -> Algorithms
@@ -68,13 +94,17 @@ impl<'a> CompiledList<'a> {
     }
 }
 
-// Each policy, made ready.
-fn compiled<'a>(alloc: Global, policies: &'a [Policy]) -> Result<Vec<CompiledPolicy<'a>>, Memory>
+// Each policy, made ready, with its text where that is wanted.
+fn compiled<'a>(
+    alloc: Global,
+    policies: &'a [Policy],
+    are_printed: bool,
+) -> Result<Vec<CompiledPolicy<'a>>, Memory>
     ensures { IfOk result (λ made. made.items ≡ policies.now) }
 {
     let mut made = Vec::new(alloc);
     for policy in policies {
-        made.push(CompiledPolicy::new(alloc, policy)?)?;
+        made.push(CompiledPolicy::new(alloc, policy, are_printed)?)?;
     }
     Ok(made)
 }

@@ -1,20 +1,23 @@
 //! A policy made ready for many checks.
-ghost use Rattle.std.specs.Prelude.{◌≡◌, IfOk, map, take, option_copied, slice_get, Some};
+ghost use Rattle.std.specs.Prelude.{◌≡◌, IfOk, IfSome, map, take, option_copied, slice_get, Some};
 ghost use Rattle.csp_match.specs.Candidates.{names};
 ghost use Rattle.csp_match.specs.Shown.{shown};
 ghost use Rattle.csp_model.specs.DecideNavigation.{capability_allows};
 ghost use Rattle.csp_model.specs.Governing as spec;
 ghost use Rattle.csp_model.specs.Names as names_spec;
+ghost use Rattle.csp_model.specs.Policies as policies;
 ghost use Rattle.csp_verdict.specs.Entries as entries;
 ghost use Rattle.csp_verdict.specs.Governed.{governed_allows};
 
 use crate::compiled_directive::CompiledDirective;
 use crate::item::{Judge, effective_name};
+use crate::violation::has_sample;
 use csp_fetch::decided_by_tokens;
 use csp_inline::{governed_eval_allows, governed_inline_allows, governed_wasm_allows};
 use csp_match::{Candidates, names};
-use csp_model::{Capability, Check, Item, Memory, Name, Policy};
+use csp_model::{Capability, Check, Duplicate, Item, Keyword, Memory, Name, Policy, Text};
 use csp_nav::{capability_allows, worker_start_allows};
+use csp_policy::policy_text;
 use std::alloc::{AllocError, Global};
 use std::marker::Model;
 
@@ -27,7 +30,8 @@ struct Entry<'a> {
     own: Option<CompiledDirective<'a>>,
 }
 
-// A policy, and beside it what it has for each name and what it leaves to a sandbox.
+// A policy, and beside it what it has for each name, what it leaves to a sandbox, and its text where it was
+// printed ahead.
 #[derive(Drop)]
 pub(crate) struct CompiledPolicy<'a> {
     policy: &'a Policy,
@@ -36,6 +40,7 @@ pub(crate) struct CompiledPolicy<'a> {
     // Whether it allows each capability, in the order of the capabilities.
     capabilities: Vec<bool>,
     worker_start: bool,
+    printed: Option<Text>,
 }
 
 impl<'a> Model for CompiledPolicy<'a> {
@@ -51,18 +56,24 @@ impl<'a> Model for CompiledPolicy<'a> {
 }
 
 impl<'a> CompiledPolicy<'a> {
-    // Makes a policy ready.
-    pub(crate) fn new(alloc: Global, policy: &'a Policy) -> Result<CompiledPolicy<'a>, Memory>
+    // Makes a policy ready, and prints it ahead where that is wanted.
+    pub(crate) fn new(
+        alloc: Global,
+        policy: &'a Policy,
+        is_printed: bool,
+    ) -> Result<CompiledPolicy<'a>, Memory>
         ensures { IfOk result (λ made. made ≡ policy.now) }
     {
         let entries = entries_of(alloc, policy)?;
         let capabilities = allowed_capabilities(alloc, policy)?;
         let worker_start = worker_start_allows(policy);
+        let printed = printed_where(alloc, policy, is_printed)?;
         Ok(CompiledPolicy {
             policy,
             entries,
             capabilities,
             worker_start,
+            printed,
         })
     }
 
@@ -127,6 +138,32 @@ impl<'a> Judge for CompiledPolicy<'a> {
             effective,
             governing: found.name(),
         })
+    }
+
+    fn is_sampled(&self, check: &Check) -> bool {
+        has_sample(check)
+            && match self.governing(effective_name(check)) {
+                Some(found) => found.tokens().has_keyword(Keyword::ReportSample),
+                None => false,
+            }
+    }
+
+    fn text(&self, alloc: Global) -> Result<Text, Memory> {
+        match &self.printed {
+            Some(text) => text.copy(alloc),
+            None => policy_text(alloc, self.policy),
+        }
+    }
+}
+
+// The policy, printed where that is wanted.
+fn printed_where(alloc: Global, policy: &Policy, is_printed: bool) -> Result<Option<Text>, Memory>
+    ensures { IfOk result (λ printed. IfSome printed (λ text. text ≡ policies.policy_text policy.now)) }
+{
+    if is_printed {
+        Ok(Some(policy_text(alloc, policy)?))
+    } else {
+        Ok(None)
     }
 }
 

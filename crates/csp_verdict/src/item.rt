@@ -1,6 +1,7 @@
 //! The items of a verdict: the policies that don't allow a check.
 ghost use Rattle.std.specs.Prelude.{◌≡◌, ◌≤◌, ◌++◌, not, IfOk, OnOk, length, map};
 ghost use Rattle.std.specs.List.{list_any};
+ghost use Rattle.csp_model.specs.Policies as policies;
 ghost use Rattle.csp_model.specs.Policies.{policy_limit};
 ghost use Rattle.csp_model.specs.Verdict as spec;
 ghost use Rattle.csp_model.specs.declared.policy.Policy.{Policy as PolicyValue};
@@ -8,16 +9,28 @@ ghost use Rattle.csp_verdict.specs.Listed.{list_of};
 ghost use Rattle.csp_verdict.specs.Stops.{stops};
 
 use crate::allowed::allows;
+use crate::violation::has_sample;
 use csp_match::governor;
-use csp_model::{Check, Disposition, Item, List, Memory, Name, Policy};
+use csp_model::{Check, Disposition, Item, Keyword, List, Memory, Name, Policy, Text};
+use csp_policy::policy_text;
+use csp_token::has_keyword;
+use std::alloc::Global;
 
-// A policy, or what was made of one, that can be asked for the item of a check.
+// A policy, or what was made of one, that can be asked for the item of a check and for what reports say.
 pub(crate) trait Judge {
     ghost seen: { Self → PolicyValue };
 
     // The item of the policy of this number, where it doesn't allow the check.
     fn item_of(&self, number: u32, check: &Check) -> Option<Item>
         ensures { result ≡ spec.item_of number (seen self.now) check.now };
+
+    // Whether a report about the check shows a sample.
+    fn is_sampled(&self, check: &Check) -> bool
+        ensures { result ≡ spec.is_sampled (seen self.now) check.now };
+
+    // The policy, printed.
+    fn text(&self, alloc: Global) -> Result<Text, Memory>
+        ensures { IfOk result (λ text. text ≡ policies.policy_text (seen self.now)) };
 }
 
 impl Judge for Policy {
@@ -35,6 +48,18 @@ impl Judge for Policy {
             effective,
             governing: found.name,
         })
+    }
+
+    fn is_sampled(&self, check: &Check) -> bool {
+        has_sample(check)
+            && match governor(self, effective_name(check)) {
+                Some(found) => has_keyword(&found.directive.sources, Keyword::ReportSample),
+                None => false,
+            }
+    }
+
+    fn text(&self, alloc: Global) -> Result<Text, Memory> {
+        policy_text(alloc, self)
     }
 }
 

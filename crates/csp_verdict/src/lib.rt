@@ -10,7 +10,9 @@ mod compiled_policy;
 mod item;
 pub mod laws;
 mod verdict;
+mod violation;
 
 pub use allowed::{allows, list_allows};
 pub use compiled_list::CompiledList;
 pub use verdict::judge;
+pub use violation::violations;
