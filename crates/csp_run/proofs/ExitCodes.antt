@@ -4,12 +4,12 @@ use Rattle.csp_run.specs.declared.status.Status.{Status}
 use Rattle.csp_run.specs.declared.status.Status.TheVariants as status
 use Rattle.csp_run.specs.Texts.{exit_code}
 
--- the statuses by their exit codes; none has 7 or 11
+-- the statuses by their exit codes; none has 7
 statuses : List Status
 statuses =
     status.Clean ∷ status.Found ∷ status.Usage ∷ status.BadOrigin ∷ status.BadPolicy ∷ status.TooLarge
     ∷ status.BadRequests ∷ status.NotBuilt ∷ status.ReadFault ∷ status.WriteFault ∷ status.NoMemory
-    ∷ status.NotBuilt ∷ status.NotBuilt ∷ []
+    ∷ status.ReporterFault ∷ status.NotBuilt ∷ []
 
 status_at : ℕ → Status
 status_at n = get_or statuses n status.NotBuilt
@@ -26,6 +26,7 @@ back status.BadRequests = refl
 back status.ReadFault = refl
 back status.WriteFault = refl
 back status.NoMemory = refl
+back status.ReporterFault = refl
 back status.NotBuilt = refl
 
 pub codes_differ : (one other : Status) → exit_code one ≡ exit_code other → one ≡ other

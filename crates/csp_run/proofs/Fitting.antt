@@ -13,7 +13,7 @@ use Rattle.csp_run.specs.declared.fault.Role.TheVariants as role
 use Rattle.csp_run.specs.declared.files.Content.{Content}
 use Rattle.csp_run.specs.declared.files.Content.TheVariants as content
 use Rattle.csp_run.specs.declared.plan.Form.{Form}
-use Rattle.csp_run.specs.declared.plan.Form.TheVariants.{Judge}
+use Rattle.csp_run.specs.declared.plan.Form.TheVariants.{Judge, Report}
 use Rattle.csp_run.specs.Files.{World, IsRead, AreRead, file_limit, read_as, read_within}
 use Rattle.csp_run.specs.Files.{policies_or_fault}
 use Rattle.csp_run.specs.Shown.{fits}
@@ -86,7 +86,12 @@ judge : TwoFit Judge
 judge (content.Policies x) (content.Requests y) a b = refl
 judge x y a b = absurd (cc)
 
+report : TwoFit Report
+report (content.Policies x) (content.Requests y) a b = refl
+report x y a b = absurd (cc)
+
 -- what was read of as many files as the form takes fits it
 pub fit : (w : World) (o : Origin) (form : Form) (names : List (List ℕ)) (cs : List Content)
     → takes form (length names) ≡ true → AreRead w o 0 (files_from form 0 names) (Ok cs) → fits form cs ≡ true
 fit w o Judge names cs taken are = of_two w o Judge names cs judge taken are
+fit w o Report names cs taken are = of_two w o Report names cs report taken are

@@ -108,7 +108,7 @@ built status text = Ok (record { status = status; text = text })
 abbrev pub left_from : List Value → ℕ → Result (List Described) RequestError
 left_from values place = described_from digests_of (place + 1) (map view (drop place values))
 
-next_value : (values : List Value) (place : ℕ) (d : Value) → place < length values
+pub next_value : (values : List Value) (place : ℕ) (d : Value) → place < length values
     → map view (drop place values) ≡ view (get_or values place d) ∷ map view (drop (place + 1) values)
 next_value values place d within =
     ap (map view) (drop-cons values place d within

@@ -1,10 +1,13 @@
 pub mod Pieces
 pub mod Judging
+pub mod Handing
 pub mod SameVerdicts
+pub mod SameViolations
 pub mod Reading
 pub mod Fitting
 pub mod Quiet
 pub mod Statuses
+pub mod Untouched
 pub mod Usage
 pub mod ToldFault
 pub mod ExitCodes

@@ -4,19 +4,21 @@ use Rattle.std.proofs.Common.{cond, map}
 use Rattle.std.proofs.lemmas.Bool.{false≢true}
 use Rattle.csp_model.specs.declared.policy.PolicyList.{PolicyList}
 use Rattle.csp_model.specs.declared.verdict.Described.{Described}
+use Rattle.csp_model.specs.declared.verdict.Violation.{Violation}
 use Rattle.csp_request.specs.declared.error.RequestError.{RequestError}
 use Rattle.csp_run.specs.declared.fault.Fault.{Fault}
 use Rattle.csp_run.specs.declared.files.Content.{Content}
 use Rattle.csp_run.specs.declared.files.Content.TheVariants as content
 use Rattle.csp_run.specs.declared.output.Built.{Built}
 use Rattle.csp_run.specs.declared.plan.Form.{Form}
-use Rattle.csp_run.specs.declared.plan.Form.TheVariants.{Judge}
+use Rattle.csp_run.specs.declared.plan.Form.TheVariants.{Judge, Report}
 use Rattle.csp_run.specs.declared.status.Status.{Status}
 use Rattle.csp_run.specs.declared.status.Status.TheVariants.{Clean, Found}
+use Rattle.csp_run.specs.Desk.{Desk}
 use Rattle.csp_run.specs.Due.{IsEndOf}
 use Rattle.csp_run.specs.Files.{World}
 use Rattle.csp_run.specs.Lines.{judgment}
-use Rattle.csp_run.specs.Outputs.{IsOutput, judged}
+use Rattle.csp_run.specs.Outputs.{IsOutput, IsReportOn, judged}
 use Rattle.csp_run.specs.Words.{Plan}
 
 -- the statuses of outputs
@@ -36,22 +38,30 @@ judged_done list (Ok requests) built is =
     ap (λ (b : Built). is_done b.status) same ∙ clean_or_found _
 judged_done list (Err refused) built is = absurd (cc is)
 
-printed_done : (form : Form) (found : Result (List Content) Fault) (built : Built)
-    → IsOutput form found (Ok built)
-    → is_done built.status ≡ true
-printed_done form (Err f) built is = absurd (cc is)
-printed_done Judge (Ok (content.Policies list ∷ content.Requests bytes ∷ [])) built is =
-    judged_done list _ built is
-printed_done form (Ok contents) built is = absurd is
+reported_done : (found : Result (List Violation) RequestError) (desk : Desk) (built : Built)
+    → IsReportOn found desk (Ok built) → is_done built.status ≡ true
+reported_done (Ok all) desk built is = ap (λ (b : Built). is_done b.status) is.0
+reported_done (Err refused) desk built is = absurd (cc is.0)
 
-ended_done : (w : World) (asked : Result Plan Fault) (built : Built) → IsEndOf w asked (Ok built)
+printed_done : (form : Form) (found : Result (List Content) Fault) (desk : Desk) (built : Built)
+    → IsOutput form found desk (Ok built)
     → is_done built.status ≡ true
-ended_done w (Err f) built is = absurd (cc is.0)
-ended_done w (Ok plan) built is = printed_done plan.form is.0 built is.2
+printed_done form (Err f) desk built is = absurd (cc is.0)
+printed_done Judge (Ok (content.Policies list ∷ content.Requests bytes ∷ [])) desk built is =
+    judged_done list _ built is.0
+printed_done Report (Ok (content.Policies list ∷ content.Requests bytes ∷ [])) desk built is =
+    reported_done _ desk built is
+printed_done form (Ok contents) desk built is = absurd is
+
+ended_done : (w : World) (desk : Desk) (asked : Result Plan Fault) (built : Built)
+    → IsEndOf w desk asked (Ok built)
+    → is_done built.status ≡ true
+ended_done w desk (Err f) built is = absurd (cc is.0)
+ended_done w desk (Ok plan) built is = printed_done plan.form is.0 desk built is.2
 
 -- another status is none of an output
-pub no_output : (w : World) (asked : Result Plan Fault) (built : Built) (status : Status)
-    → IsEndOf w asked (Ok built)
+pub no_output : (w : World) (desk : Desk) (asked : Result Plan Fault) (built : Built) (status : Status)
+    → IsEndOf w desk asked (Ok built)
     → is_done status ≡ false → built.status ≡ status → ⊥
-no_output w asked built status is other same =
-    false≢true (sym other ∙ ap is_done (sym same) ∙ ended_done w asked built is)
+no_output w desk asked built status is other same =
+    false≢true (sym other ∙ ap is_done (sym same) ∙ ended_done w desk asked built is)

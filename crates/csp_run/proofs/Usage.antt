@@ -6,6 +6,7 @@ use Rattle.csp_model.specs.declared.policy.Policy.{Policy}
 use Rattle.csp_model.specs.declared.url.Origin.{Origin}
 use Rattle.csp_model.specs.declared.policy.PolicyList.{PolicyList}
 use Rattle.csp_model.specs.declared.verdict.Described.{Described}
+use Rattle.csp_model.specs.declared.verdict.Violation.{Violation}
 use Rattle.csp_policy.specs.declared.error.BlockError.{BlockError}
 use Rattle.csp_policy.specs.declared.error.BlockError.TheVariants as refusal
 use Rattle.csp_run.specs.declared.fault.Fault.{Fault}
@@ -16,15 +17,16 @@ use Rattle.csp_run.specs.declared.fault.Role.TheVariants as role
 use Rattle.csp_run.specs.declared.files.Content.{Content}
 use Rattle.csp_run.specs.declared.files.Content.TheVariants as content
 use Rattle.csp_run.specs.declared.plan.Form.{Form}
-use Rattle.csp_run.specs.declared.plan.Form.TheVariants.{Judge}
+use Rattle.csp_run.specs.declared.plan.Form.TheVariants.{Judge, Report}
 use Rattle.csp_request.specs.declared.error.RequestError.{RequestError}
 use Rattle.csp_request.specs.declared.error.RequestError.TheVariants as request
 use Rattle.csp_run.specs.declared.status.Status.TheVariants as status
+use Rattle.csp_run.specs.Desk.{Desk}
 use Rattle.csp_run.specs.Due.{End, IsDue, IsEndOf, end_status}
 use Rattle.csp_run.specs.Files.{World, AreRead, file_limit, read_as, read_within}
 use Rattle.csp_run.specs.Files.{policies_or_fault}
 use Rattle.csp_run.specs.declared.output.Built.{Built}
-use Rattle.csp_run.specs.Outputs.{IsOutput, judged, request_fault}
+use Rattle.csp_run.specs.Outputs.{IsOutput, IsReportOn, judged, request_fault}
 use Rattle.csp_run.specs.Texts.{status_of}
 use Rattle.csp_run.specs.Words.{File, Plan, plan_of}
 use Rattle.csp_run.proofs.Statuses.{no_output}
@@ -85,38 +87,47 @@ judged_never : (list : PolicyList) (described : Result (List Described) RequestE
 judged_never list (Ok requests) is = absurd (cc is)
 judged_never list (Err refused) is = refusal_never refused (cc is)
 
--- no command gives usage after its files are read
-no_usage : (form : Form) (contents : List Content) → IsOutput form (Ok contents) (Err fault.Usage) → ⊥
-no_usage Judge (content.Policies list ∷ content.Requests bytes ∷ []) is = judged_never list _ is
-no_usage form contents is = is
+reported_never : (found : Result (List Violation) RequestError) (desk : Desk)
+    → IsReportOn found desk (Err fault.Usage) → ⊥
+reported_never (Ok all) desk is = is
+reported_never (Err refused) desk is = refusal_never refused (cc is.0)
 
-after_files : (w : World) (plan : Plan) (found : Result (List Content) Fault)
+-- no command gives usage after its files are read
+no_usage : (form : Form) (contents : List Content) (desk : Desk)
+    → IsOutput form (Ok contents) desk (Err fault.Usage) → ⊥
+no_usage Judge (content.Policies list ∷ content.Requests bytes ∷ []) desk is = judged_never list _ is.0
+no_usage Report (content.Policies list ∷ content.Requests bytes ∷ []) desk is = reported_never _ desk is
+no_usage form contents desk is = is
+
+after_files : (w : World) (desk : Desk) (plan : Plan) (found : Result (List Content) Fault)
     → AreRead w plan.origin 0 plan.files found
-    → IsOutput plan.form found (Err fault.Usage) → ⊥
-after_files w plan (Ok contents) are is = no_usage plan.form contents is
-after_files w plan (Err g) are is =
+    → IsOutput plan.form found desk (Err fault.Usage) → ⊥
+after_files w desk plan (Ok contents) are is = no_usage plan.form contents desk is
+after_files w desk plan (Err g) are is =
     let P : Fault → Type 0 = λ h. AreRead w plan.origin 0 plan.files (Err h) in
-    let same : g ≡ fault.Usage = cc is in
+    let same : g ≡ fault.Usage = cc (is.0) in
     files_never w plan.origin 0 plan.files (subst P same are)
 
-by_the_words : (w : World) (asked : Result Plan Fault) → IsEndOf w asked (Err fault.Usage)
+by_the_words : (w : World) (desk : Desk) (asked : Result Plan Fault) → IsEndOf w desk asked (Err fault.Usage)
     → asked ≡ Err fault.Usage
-by_the_words w (Ok plan) is = absurd (after_files w plan is.0 is.1 is.2)
-by_the_words w (Err f) is = let same : f ≡ fault.Usage = cc (is.0) in ap (λ (g : Fault). Err g) same
+by_the_words w desk (Ok plan) is = absurd (after_files w desk plan is.0 is.1 is.2)
+by_the_words w desk (Err f) is = let same : f ≡ fault.Usage = cc (is.0) in ap (λ (g : Fault). Err g) same
 
-ends_so : (w : World) (asked : Result Plan Fault) (end : End) → IsEndOf w asked end
+ends_so : (w : World) (desk : Desk) (asked : Result Plan Fault) (end : End) → IsEndOf w desk asked end
     → end_status end ≡ status.Usage
     → asked ≡ Err fault.Usage
-ends_so w asked (Ok built) is usage = absurd (no_output w asked built status.Usage is refl usage)
-ends_so w asked (Err f) is usage =
-    let P : Fault → Type 0 = λ g. IsEndOf w asked (Err g) in
-    by_the_words w asked (subst P (usage_fault f usage) is)
+ends_so w desk asked (Ok built) is usage = absurd (no_output w desk asked built status.Usage is refl usage)
+ends_so w desk asked (Err f) is usage =
+    let P : Fault → Type 0 = λ g. IsEndOf w desk asked (Err g) in
+    by_the_words w desk asked (subst P (usage_fault f usage) is)
 
 no_memory : (end : End) → end_status end ≡ status.Usage → ◌≢◌ {A = End} end (Err fault.Memory)
 no_memory end usage same =
     let e : status.NoMemory ≡ status.Usage = sym (ap end_status same) ∙ usage in absurd (cc e)
 
 -- usage is due only where the words have none of the forms
-pub usage_only_by_words : (w : World) (words : List (List ℕ)) (end : End) → IsDue w words end
+pub usage_only_by_words : (w : World) (desk : Desk) (words : List (List ℕ)) (end : End)
+    → IsDue w desk words end
     → end_status end ≡ status.Usage → plan_of words ≡ Err fault.Usage
-usage_only_by_words w words end due usage = ends_so w (plan_of words) end (due (no_memory end usage)) usage
+usage_only_by_words w desk words end due usage =
+    ends_so w desk (plan_of words) end (due.ended (no_memory end usage)) usage

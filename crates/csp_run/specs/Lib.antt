@@ -1,8 +1,10 @@
+pub mod Desk
 pub mod Due
 pub mod Files
 pub mod Laws
 pub mod Lines
 pub mod Outputs
+pub mod Reports
 pub mod Shown
 pub mod Texts
 pub mod Words

@@ -1,7 +1,9 @@
 -- What each command prints of what its files hold.
 use Rattle.std.specs.Prelude.{◌≡◌, List, [], ◌∷◌, map, Result, Ok, Err}
+use Rattle.csp_desk.specs.Growth.{GrewInPart}
 use Rattle.csp_model.specs.declared.policy.PolicyList.{PolicyList}
 use Rattle.csp_model.specs.declared.verdict.Described.{Described}
+use Rattle.csp_model.specs.declared.verdict.Violation.{Violation}
 use Rattle.csp_request.specs.Requests.{requests_of}
 use Rattle.csp_request.specs.declared.error.RequestError.{RequestError}
 use Rattle.csp_request.specs.declared.error.RequestError.TheVariants as request
@@ -13,8 +15,10 @@ use Rattle.csp_run.specs.declared.files.Content.{Content}
 use Rattle.csp_run.specs.declared.files.Content.TheVariants as content
 use Rattle.csp_run.specs.declared.output.Built.{Built}
 use Rattle.csp_run.specs.declared.plan.Form.{Form}
-use Rattle.csp_run.specs.declared.plan.Form.TheVariants.{Judge}
+use Rattle.csp_run.specs.declared.plan.Form.TheVariants.{Judge, Report}
+use Rattle.csp_run.specs.Desk.{Desk, IsUntouched}
 use Rattle.csp_run.specs.Lines.{judgment}
+use Rattle.csp_run.specs.Reports.{violations_in, IsReport}
 
 -- the fault of what a request file is refused for
 abbrev pub request_fault : RequestError → Fault
@@ -29,9 +33,24 @@ abbrev pub judged : PolicyList → Result (List Described) RequestError → Resu
 judged list (Ok requests) = Ok (judgment list (map (λ (d : Described). d.checks) requests))
 judged list (Err refused) = Err (request_fault refused)
 
--- what ends a command after its files: their fault, or its output on what they hold
-abbrev pub IsOutput : Form → Result (List Content) Fault → Result Built Fault → Type 0
-IsOutput form (Err f) end = end ≡ Err f
-IsOutput Judge (Ok (content.Policies list ∷ content.Requests bytes ∷ [])) end =
-    end ≡ judged list (requests_of bytes)
-IsOutput form (Ok contents) end = ⊥
+-- what ends `report` on these violations, or on the fault of the request file, with which nothing is handed out
+abbrev pub IsReportOn : Result (List Violation) RequestError → Desk → Result Built Fault → Type 0
+IsReportOn (Ok all) desk end = IsReport all desk end
+IsReportOn (Err refused) desk end = (end ≡ Err (request_fault refused)) × IsUntouched desk
+
+-- What ends a command after its files, and what it does to the desk: their fault, or its output on what they
+-- hold. Only `report` hands anything to the desk.
+abbrev pub IsOutput : Form → Result (List Content) Fault → Desk → Result Built Fault → Type 0
+IsOutput form (Err f) desk end = (end ≡ Err f) × IsUntouched desk
+IsOutput Judge (Ok (content.Policies list ∷ content.Requests bytes ∷ [])) desk end =
+    (end ≡ judged list (requests_of bytes)) × IsUntouched desk
+IsOutput Report (Ok (content.Policies list ∷ content.Requests bytes ∷ [])) desk end =
+    IsReportOn (violations_in list (requests_of bytes)) desk end
+IsOutput form (Ok contents) desk end = ⊥
+
+-- Each reporter took a first part of the violations of the requests that the files have, if they have some.
+abbrev pub GrewOn : Form → List Content → Desk → Type 0
+GrewOn Report (content.Policies list ∷ content.Requests bytes ∷ []) desk =
+    (all : List Violation) × (violations_in list (requests_of bytes) ≡ Ok all)
+    × GrewInPart all desk.held_before desk.held_now
+GrewOn form contents desk = ⊥

@@ -1,19 +1,29 @@
--- What clauses of private functions cite: plans as contracts see them, contents that fit a form, and verdicts
--- on single descriptions.
+-- What clauses of private functions cite: plans as contracts see them, contents that fit a form, verdicts on
+-- single descriptions, what is left where the handing out of violations stops, and requests described in part.
 use Rattle.std.specs.Prelude.{ℕ, ⊤, Bool, true, false, List, [], ◌∷◌, Result, Ok, Err}
+use Rattle.serde_json.specs.Data.{Data}
+use Rattle.csp_desk.specs.Growth.{GrewInPart, StopsAt}
+use Rattle.csp_desk.specs.declared.desk.DeskError.{DeskError}
+use Rattle.csp_desk.specs.declared.desk.DeskError.TheVariants.{Refused, Memory}
 use Rattle.csp_model.specs.Policies.{IsReadable}
 use Rattle.csp_run.specs.declared.fault.Fault.{Fault}
+use Rattle.csp_run.specs.declared.fault.Fault.TheVariants as fault
 use Rattle.csp_run.specs.declared.files.Content.{Content}
 use Rattle.csp_run.specs.declared.files.Content.TheVariants as content
 use Rattle.csp_run.specs.declared.plan.Form.{Form}
-use Rattle.csp_run.specs.declared.plan.Form.TheVariants.{Judge}
+use Rattle.csp_run.specs.declared.plan.Form.TheVariants.{Judge, Report}
 use Rattle.csp_run.specs.declared.plan.Plan.{Plan as Held}
 use Rattle.csp_model.specs.Verdict.{verdict_of}
 use Rattle.csp_model.specs.declared.policy.PolicyList.{PolicyList}
 use Rattle.csp_model.specs.declared.verdict.Described.{Described}
 use Rattle.csp_model.specs.declared.verdict.Verdict.{Verdict}
-use Rattle.csp_request.specs.Requests.{refused_at}
+use Rattle.csp_request.specs.Requests.{described_from, refused_at}
 use Rattle.csp_request.specs.declared.error.DescriptionError.{DescriptionError}
+use Rattle.csp_request.specs.declared.error.RequestError.{RequestError}
+use Rattle.csp_token.specs.Digests.{digests_for}
+use Rattle.csp_token.specs.declared.digest.Algorithms.{Algorithms}
+use Rattle.csp_model.specs.declared.verdict.Violation.{Violation}
+use Rattle.csp_run.specs.Desk.{Desk}
 use Rattle.csp_run.specs.Outputs.{request_fault}
 use Rattle.csp_run.specs.Words.{Plan, File, files_from}
 
@@ -32,9 +42,27 @@ IsSound (content.Requests bytes) = ⊤
 -- what a form's files hold is of these kinds
 abbrev pub fits : Form → List Content → Bool
 fits Judge (content.Policies list ∷ content.Requests bytes ∷ []) = true
+fits Report (content.Policies list ∷ content.Requests bytes ∷ []) = true
 fits form contents = false
 
 -- the verdict on the description of this number, or the fault of its refusal
 abbrev pub verdict_on : PolicyList → ℕ → Result Described DescriptionError → Result Verdict Fault
 verdict_on list number (Ok found) = Ok (verdict_of list found.checks)
 verdict_on list number (Err refused) = Err (request_fault (refused_at number refused))
+
+-- the fault of what stops the handing out of violations
+abbrev pub desk_fault : DeskError → Fault
+desk_fault (Refused reporter) = fault.Refused reporter
+desk_fault Memory = fault.Memory
+
+-- What is left where these violations aren't all handed out: a refusal leaves what it leaves, and there was no
+-- memory to take one of them or to find the next.
+abbrev pub HasStopped : DeskError → List Violation → Desk → Type 0
+HasStopped (Refused reporter) all desk =
+    StopsAt (Refused reporter) all desk.held_before desk.held_now desk.faults_before desk.faults_now
+HasStopped Memory all desk = GrewInPart all desk.held_before desk.held_now
+
+-- what descriptions stand for, with the digests of the wanted algorithms alone, or what the file is refused for
+abbrev pub described_for : Algorithms → Result (List Data) RequestError → Result (List Described) RequestError
+described_for wanted (Ok values) = described_from (λ source. digests_for source wanted) 1 values
+described_for wanted (Err refused) = Err refused

@@ -39,6 +39,8 @@ fault_pieces fault.NotJson = codes "bad requests: not a JSON array" ∷ [] ∷ [
 fault_pieces (fault.BadRequest request field) =
     codes "bad requests: request " ∷ decimal request ∷ codes " " ∷ field_text field ∷ codes "\n" ∷ []
 fault_pieces (fault.Read file) = codes "read fault: " ∷ role_text file ∷ [] ∷ [] ∷ codes "\n" ∷ []
+fault_pieces (fault.Refused reporter) =
+    codes "reporter fault: " ∷ decimal reporter ∷ [] ∷ [] ∷ codes "\n" ∷ []
 fault_pieces fault.Memory = codes "no memory" ∷ [] ∷ [] ∷ [] ∷ codes "\n" ∷ []
 
 -- the line
@@ -55,6 +57,7 @@ status_of fault.NotJson = status.BadRequests
 status_of (fault.BadRequest request field) = status.BadRequests
 status_of (fault.Read file) = status.ReadFault
 status_of fault.Memory = status.NoMemory
+status_of (fault.Refused reporter) = status.ReporterFault
 
 -- the exit code of a status
 abbrev pub exit_code : Status → ℕ
@@ -68,4 +71,5 @@ exit_code status.BadRequests = 6
 exit_code status.ReadFault = 8
 exit_code status.WriteFault = 9
 exit_code status.NoMemory = 10
+exit_code status.ReporterFault = 11
 exit_code status.NotBuilt = 12

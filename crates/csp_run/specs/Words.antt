@@ -1,5 +1,5 @@
 -- What the words ask for: the forms, and the files of each.
-use Rattle.std.specs.Prelude.{ℕ, Bool, false, ◌+◌, ◌==◌, ◌&&◌, ◌||◌, not, nat_le, nat_lt, if◌then◌else◌}
+use Rattle.std.specs.Prelude.{ℕ, Bool, false, ◌+◌, ◌==◌, ◌&&◌, not, nat_le, nat_lt, if◌then◌else◌}
 use Rattle.std.specs.Prelude.{List, [], ◌∷◌, length, slice_index, Option, Some, None, Result, Ok, Err, codes}
 use Rattle.std.specs.Str.{bytes_eq}
 use Rattle.csp_model.specs.Ascii.{code}
@@ -11,7 +11,7 @@ use Rattle.csp_run.specs.declared.fault.Fault.TheVariants.{Usage, BadOrigin, Not
 use Rattle.csp_run.specs.declared.fault.Role.{Role}
 use Rattle.csp_run.specs.declared.fault.Role.TheVariants as role
 use Rattle.csp_run.specs.declared.plan.Form.{Form}
-use Rattle.csp_run.specs.declared.plan.Form.TheVariants.{Judge}
+use Rattle.csp_run.specs.declared.plan.Form.TheVariants.{Judge, Report}
 
 -- how many pairs of sources a drill has: a decimal number from 1 to 200, without leading zeros
 unfoldable pub is_drill_number : List ℕ → Bool
@@ -22,22 +22,26 @@ is_drill_number word =
 -- words of a form that isn't built yet
 abbrev pub is_unbuilt : List (List ℕ) → Bool
 is_unbuilt (verb ∷ count ∷ []) = bytes_eq verb (codes "drill") && is_drill_number count
-is_unbuilt (verb ∷ origin ∷ first ∷ second ∷ []) =
-    bytes_eq verb (codes "report") || bytes_eq verb (codes "compare")
+is_unbuilt (verb ∷ origin ∷ first ∷ second ∷ []) = bytes_eq verb (codes "compare")
 is_unbuilt (verb ∷ origin ∷ first ∷ second ∷ proof ∷ []) = bytes_eq verb (codes "check")
 is_unbuilt words = false
 
 -- the form that a verb names
 abbrev pub form_of : List ℕ → Option Form
-form_of verb = if bytes_eq verb (codes "judge") then Some Judge else None
+form_of verb =
+    if bytes_eq verb (codes "judge") then Some Judge
+    else if bytes_eq verb (codes "report") then Some Report
+    else None
 
 -- how many files it reads
 abbrev pub takes : Form → ℕ → Bool
 takes Judge files = files == 2
+takes Report files = files == 2
 
 -- what the file at a place, counted from 0, is to a command
 abbrev pub role_at : Form → ℕ → Role
 role_at Judge place = if place == 0 then role.Policy else role.Requests
+role_at Report place = if place == 0 then role.Policy else role.Requests
 
 -- a file that a command reads
 pub record File : Type 0 where

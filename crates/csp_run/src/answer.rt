@@ -1,5 +1,7 @@
 //! The whole output, built before a byte of it is written.
-ghost use Rattle.std.specs.Prelude.{◌≡◌, ◌≤◌, ℕ, List as Items};
+ghost use Rattle.std.specs.Prelude.{◌≡◌, ◌≤◌, ◌<◌, ◌^◌, ℕ, List as Items, length, map};
+ghost use Rattle.csp_desk.specs.Growth.{NoneFell};
+ghost use Rattle.csp_run.specs.Desk.{desk as lent};
 ghost use Rattle.csp_run.specs.Due.{IsDue};
 ghost use Rattle.csp_run.specs.Files.{world};
 
@@ -7,17 +9,25 @@ use crate::fault::Fault;
 use crate::files::read_files;
 use crate::output::{Built, output};
 use crate::plan::plan_of;
+use csp_desk::Reporter;
 use csp_io::Inputs;
 use csp_model::{List, Text};
 use std::alloc::Global;
 
-// The whole output, or why there is none.
+// The whole output, or why there is none, and what becomes of the desk.
 pub(crate) fn answer<I: Inputs>(
     alloc: Global,
     words: &List<Text>,
     inputs: &mut I,
+    desk: &mut Vec<Box<dyn Reporter>>,
 ) -> Result<Built, Fault>
-    ensures due { IsDue (world I.Inputs inputs.old inputs.new) words.now result }
+    requires { length desk.old.items < 2 ^ 32 }
+    ensures due { IsDue (world I.Inputs inputs.old inputs.new)
+        (lent (λ b. kind b) (λ b. held b) (λ b. (Reporter-box b).faults b.value) desk.old.items desk.new.items)
+        words.now result }
+    ensures kinds { map (λ b. kind b) desk.new.items ≡ map (λ b. kind b) desk.old.items }
+    ensures desk_later { NoneFell (map (λ b. (Reporter-box b).faults b.value) desk.old.items)
+        (map (λ b. (Reporter-box b).faults b.value) desk.new.items) }
     ensures contents { (n : Items ℕ) → I.contents inputs.new n ≡ I.contents inputs.old n }
     ensures later { (n : Items ℕ) → I.faults inputs.old n ≤ I.faults inputs.new n }
 {
@@ -29,5 +39,5 @@ pub(crate) fn answer<I: Inputs>(
         Ok(contents) => contents,
         Err(fault) => return Err(fault),
     };
-    output(alloc, plan.form, contents.as_slice())
+    output(alloc, plan.form, contents.as_slice(), desk)
 }

@@ -3,6 +3,7 @@ ghost use Rattle.std.specs.Prelude.{◌≡◌};
 ghost use Rattle.csp_run.specs.Texts as texts;
 
 use crate::status::Status;
+use csp_desk::DeskError;
 use csp_model::Memory;
 use csp_request::Field;
 
@@ -51,6 +52,8 @@ pub enum Fault {
     BadRequest { request: u32, field: Field },
     /// A file couldn't be read.
     Read { file: Role },
+    /// The reporter of this number, counted from 1, refused a violation.
+    Refused { reporter: u32 },
     /// There was no memory.
     Memory,
 }
@@ -67,6 +70,7 @@ pub fn status_of(fault: Fault) -> Status
         Fault::TooLarge { .. } => Status::TooLarge,
         Fault::NotJson | Fault::BadRequest { .. } => Status::BadRequests,
         Fault::Read { .. } => Status::ReadFault,
+        Fault::Refused { .. } => Status::ReporterFault,
         Fault::Memory => Status::NoMemory,
     }
 }
@@ -78,5 +82,18 @@ impl From<Memory> for Fault {
 
     fn from(_: Memory) -> Fault {
         Fault::Memory
+    }
+}
+
+impl From<DeskError> for Fault {
+    ghost use Rattle.csp_run.specs.Shown.{desk_fault};
+
+    ghost from_gives = { λ error made. made ≡ desk_fault error };
+
+    fn from(error: DeskError) -> Fault {
+        match error {
+            DeskError::Refused { reporter } => Fault::Refused { reporter },
+            DeskError::Memory => Fault::Memory,
+        }
     }
 }

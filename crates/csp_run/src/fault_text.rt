@@ -94,6 +94,9 @@ fn pieces<'a>(fault: Fault, digits: &'a mut Buffer) -> [&'a str; 5]
             "\n",
         ],
         Fault::Read { file } => ["read fault: ", role_text(file), "", "", "\n"],
+        Fault::Refused { reporter } => {
+            ["reporter fault: ", digits.format(reporter), "", "", "\n"]
+        }
         Fault::Memory => ["no memory", "", "", "", "\n"],
     }
 }

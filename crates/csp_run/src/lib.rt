@@ -9,6 +9,7 @@ pub mod laws;
 mod lines;
 mod output;
 mod plan;
+mod report;
 mod status;
 mod top;
 

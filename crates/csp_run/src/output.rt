@@ -1,18 +1,22 @@
 //! What each command prints of what its files hold.
-ghost use Rattle.std.specs.Prelude.{◌≡◌, ◌≢◌, ◌≤◌, IsTrue, All, length, map, if◌then◌else◌};
+ghost use Rattle.std.specs.Prelude.{◌≡◌, ◌≢◌, ◌⊎◌, ◌≤◌, ◌<◌, ◌^◌, IsTrue, All, length, map, if◌then◌else◌};
 ghost use Rattle.serde_json.specs.View.{view};
+ghost use Rattle.csp_desk.specs.Growth.{NoneFell};
 ghost use Rattle.csp_model.specs.Policies.{IsReadable};
 ghost use Rattle.csp_request.specs.Described.{described};
 ghost use Rattle.csp_request.specs.Requests.{described_from, request_limit, requests_of};
 ghost use Rattle.csp_token.specs.Digests.{digests_of};
-ghost use Rattle.csp_run.specs.Outputs.{IsOutput, judged, request_fault};
+ghost use Rattle.csp_run.specs.Desk.{desk as lent, IsUntouched};
+ghost use Rattle.csp_run.specs.Outputs.{GrewOn, IsOutput, judged, request_fault};
 ghost use Rattle.csp_run.specs.Shown.{fits, IsSound, verdict_on};
 
 use crate::fault::{Fault, Limit, Role};
 use crate::files::Content;
 use crate::lines::push_verdict;
 use crate::plan::Form;
+use crate::report::report;
 use crate::status::Status;
+use csp_desk::Reporter;
 use csp_model::{Bytes, PolicyList, Verdict};
 use csp_request::{ReportTexts, RequestError, Requests, describe_for};
 use csp_verdict::CompiledList;
@@ -26,15 +30,29 @@ pub struct Built {
     pub text: Bytes,
 }
 
-// The output of a command on what its files hold.
-pub(crate) fn output(alloc: Global, form: Form, contents: &[Content]) -> Result<Built, Fault>
+// The output of a command on what its files hold, and what it does to the desk.
+pub(crate) fn output(
+    alloc: Global,
+    form: Form,
+    contents: &[Content],
+    desk: &mut Vec<Box<dyn Reporter>>,
+) -> Result<Built, Fault>
     requires fits { IsTrue (fits form contents.now) }
     requires sound { All IsSound contents.now }
-    ensures { result ≢ Err Fault.Memory → IsOutput form (Ok contents.now) result }
+    requires few { length desk.old.items < 2 ^ 32 }
+    ensures end { result ≢ Err Fault.Memory → IsOutput form (Ok contents.now)
+        (lent (λ b. kind b) (λ b. held b) (λ b. faults b) desk.old.items desk.new.items) result }
+    ensures grown { let d = lent (λ b. kind b) (λ b. held b) (λ b. faults b) desk.old.items desk.new.items in
+        IsUntouched d ⊎ GrewOn form contents.now d }
+    ensures kinds { map (λ b. kind b) desk.new.items ≡ map (λ b. kind b) desk.old.items }
+    ensures later { NoneFell (map (λ b. faults b) desk.old.items) (map (λ b. faults b) desk.new.items) }
 {
     match (form, contents) {
         (Form::Judge, [Content::Policies(list), Content::Requests(bytes)]) => {
             judge(alloc, list, bytes.as_slice())
+        }
+        (Form::Report, [Content::Policies(list), Content::Requests(bytes)]) => {
+            report(alloc, list, bytes.as_slice(), desk)
         }
         _ => unreachable!(),
     }
@@ -100,7 +118,7 @@ fn judged_status(blocked: bool) -> Status
 }
 
 // The fault of what a request file is refused for.
-fn request_fault(error: RequestError) -> Fault
+pub(crate) fn request_fault(error: RequestError) -> Fault
     ensures { result ≡ request_fault error }
 {
     let file = Role::Requests;

@@ -14,6 +14,8 @@ use std::alloc::Global;
 pub enum Form {
     /// The verdicts of a policy file on the requests of a request file.
     Judge,
+    /// What reporters tell of the violations of a policy file by the requests of a request file.
+    Report,
 }
 
 /// A command, the origin of its policies, and the names of the files that it reads, in order.
@@ -29,8 +31,13 @@ pub(crate) fn role_at(form: Form, place: usize) -> Role
     ensures { result ≡ spec.role_at form place }
 {
     match form {
-        Form::Judge if place == 0 => Role::Policy,
-        Form::Judge => Role::Requests,
+        Form::Judge | Form::Report => {
+            if place == 0 {
+                Role::Policy
+            } else {
+                Role::Requests
+            }
+        }
     }
 }
 
@@ -69,7 +76,7 @@ fn is_unbuilt(words: &[Text]) -> bool
 {
     match words {
         [verb, count] => verb.as_str() == "drill" && is_drill_number(count.as_str().as_bytes()),
-        [verb, _, _, _] => matches!(verb.as_str(), "report" | "compare"),
+        [verb, _, _, _] => matches!(verb.as_str(), "compare"),
         [verb, _, _, _, _] => matches!(verb.as_str(), "check"),
         _ => false,
     }
@@ -89,6 +96,7 @@ fn form_of(verb: &str) -> Option<Form>
 {
     match verb {
         "judge" => Some(Form::Judge),
+        "report" => Some(Form::Report),
         _ => None,
     }
 }
@@ -98,6 +106,6 @@ fn takes(form: Form, files: usize) -> bool
     ensures { result ≡ spec.takes form files }
 {
     match form {
-        Form::Judge => files == 2,
+        Form::Judge | Form::Report => files == 2,
     }
 }

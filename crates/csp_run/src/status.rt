@@ -25,6 +25,8 @@ pub enum Status {
     WriteFault,
     /// There was no memory.
     NoMemory,
+    /// A reporter refused a violation.
+    ReporterFault,
     /// What the words or a file ask for isn't built yet.
     NotBuilt,
 }
@@ -44,6 +46,7 @@ pub fn exit_code(status: Status) -> u8
         Status::ReadFault => 8,
         Status::WriteFault => 9,
         Status::NoMemory => 10,
+        Status::ReporterFault => 11,
         Status::NotBuilt => 12,
     }
 }

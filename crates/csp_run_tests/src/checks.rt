@@ -5,7 +5,7 @@ use csp_model::{List, Origin};
 use csp_policy::read_block;
 use csp_request::{CheckError, Field, check_json, read_check, read_requests};
 use csp_run::{Status, run};
-use csp_verdict::{CompiledList, judge};
+use csp_verdict::{CompiledList, judge, violations};
 use std::test::Fail;
 
 // A description of one check, and how the check is printed.
@@ -130,12 +130,18 @@ const REQUESTS: &str = r#"[
 fn a_compiled_list_answers_as_its_list(rt: HostRuntime) -> Result<(), Fail> {
     let list = read_block(rt.alloc(), POLICIES.as_bytes(), &Origin::Opaque)?;
     let compiled = CompiledList::new(rt.alloc(), &list)?;
+    let reporting = CompiledList::for_reports(rt.alloc(), &list)?;
     let requests = read_requests(rt.alloc(), REQUESTS.as_bytes())?;
     assert_eq!(rt; requests.len(), 13);
     for request in requests.as_slice() {
         let plain = judge(rt.alloc(), &list, request)?;
         let made_ready = compiled.judge(rt.alloc(), request)?;
         assert_eq!(rt; made_ready, plain);
+        let plain = violations(rt.alloc(), &list, request)?;
+        let made_ready = compiled.violations(rt.alloc(), request)?;
+        let printed_ahead = reporting.violations(rt.alloc(), request)?;
+        assert_eq!(rt; made_ready, plain);
+        assert_eq!(rt; printed_ahead, plain);
     }
     Ok(())
 }
@@ -151,7 +157,8 @@ fn many_requests_under_many_sources(rt: HostRuntime) -> Result<(), Fail> {
     let words = texts(rt.alloc(), &["judge", "https://a.example", "p", "r"])?;
     let mut files = inputs(rt.alloc(), policy.as_str(), requests.as_str(), &[])?;
     let mut out = MemorySink::new(rt.alloc(), 1_000_000, 4096, List::new(rt.alloc()))?;
-    let status = run(rt.alloc(), &words, &mut files, &mut out);
+    let mut desk = Vec::new(rt.alloc());
+    let status = run(rt.alloc(), &words, &mut files, &mut out, &mut desk);
     assert_eq!(rt; status, Status::Clean);
     assert!(rt; out.taken().starts_with(b"1 allowed\n2 allowed\n"));
     assert!(rt; out.taken().ends_with(b"\n10000 allowed\n"));

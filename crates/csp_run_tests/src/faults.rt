@@ -76,7 +76,8 @@ fn refused_memory_ends_whole(rt: HostRuntime) {
     let Ok(mut out) = MemorySink::new(rt.alloc(), 100, 3, List::new(rt.alloc())) else {
         return;
     };
-    let status = run(rt.alloc(), &words, &mut files, &mut out);
+    let mut desk = Vec::new(rt.alloc());
+    let status = run(rt.alloc(), &words, &mut files, &mut out, &mut desk);
     if status == Status::NoMemory {
         assert_eq!(rt; out.taken(), b"no memory\n".as_slice());
     } else {

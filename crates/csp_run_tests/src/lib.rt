@@ -1,5 +1,5 @@
-//! Tests of `csp_run::run` as tables: what it answers and writes over files and a sink in memory, and a read,
-//! a write and an allocation that fail. Beside them stand those of the calls that it is made of: of checks
+//! Tests of `csp_run::run` as tables: what it answers and writes over files and a sink in memory, what reporters
+//! tell, and a read, a write, a reporter and an allocation that fail. Beside them stand those of the calls that it is made of: of checks
 //! that are read, printed and judged, and of inputs and sinks.
 //!
 //! Nothing stands on this crate. What a proved clause says of every input is not tested again.
@@ -16,7 +16,11 @@ mod inputs;
 #[cfg(test)]
 mod kinds;
 #[cfg(test)]
+mod limited;
+#[cfg(test)]
 mod policies;
+#[cfg(test)]
+mod reports;
 #[cfg(test)]
 mod runs;
 #[cfg(test)]

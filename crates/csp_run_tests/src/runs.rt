@@ -1,4 +1,4 @@
-//! A run over files and a sink in memory, so that a row of a table is short.
+//! A run over files and a sink in memory and with an empty desk, so that a row of a table is short.
 use csp_io::{MemoryInputs, MemorySink};
 use csp_model::{Bytes, List, Memory, Text};
 use csp_run::{Status, run};
@@ -55,7 +55,8 @@ pub(crate) fn written(
 ) -> Result<(Status, Bytes), Memory> {
     let words = texts(alloc, words)?;
     let mut out = MemorySink::new(alloc, room, 1, numbers(alloc, failing)?)?;
-    let status = run(alloc, &words, &mut files, &mut out);
+    let mut desk = Vec::new(alloc);
+    let status = run(alloc, &words, &mut files, &mut out, &mut desk);
     Ok((status, Bytes::new(alloc, out.taken())?))
 }
 

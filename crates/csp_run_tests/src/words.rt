@@ -8,7 +8,7 @@ const USAGE: &str = "usage: judge ORIGIN POLICY REQUESTS | report ORIGIN POLICY 
 
 const UNBUILT: &str = "not built: command\n";
 
-const RUNS: [(&[&str], Status, &str); 13] = [
+const RUNS: [(&[&str], Status, &str); 14] = [
     (&[], Status::Usage, USAGE),
     (&["judge"], Status::Usage, USAGE),
     (
@@ -20,7 +20,12 @@ const RUNS: [(&[&str], Status, &str); 13] = [
     (&["drill", "201"], Status::Usage, USAGE),
     (&["drill", "08"], Status::Usage, USAGE),
     (&["drill", "200"], Status::NotBuilt, UNBUILT),
-    (&["report", "o", "p", "r"], Status::NotBuilt, UNBUILT),
+    (&["report"], Status::Usage, USAGE),
+    (
+        &["report", "o", "p", "r"],
+        Status::BadOrigin,
+        "bad origin\n",
+    ),
     (&["compare", "o", "p", "r"], Status::NotBuilt, UNBUILT),
     (&["check", "o", "p", "r", "q"], Status::NotBuilt, UNBUILT),
     (
@@ -46,7 +51,7 @@ fn words(rt: HostRuntime) -> Result<(), Fail> {
     Ok(())
 }
 
-const NUMBERS: [(Status, u8); 11] = [
+const NUMBERS: [(Status, u8); 12] = [
     (Status::Clean, 0),
     (Status::Found, 1),
     (Status::Usage, 2),
@@ -57,6 +62,7 @@ const NUMBERS: [(Status, u8); 11] = [
     (Status::ReadFault, 8),
     (Status::WriteFault, 9),
     (Status::NoMemory, 10),
+    (Status::ReporterFault, 11),
     (Status::NotBuilt, 12),
 ];
 

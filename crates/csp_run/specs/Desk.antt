@@ -1,0 +1,35 @@
+-- What a call does to the desk that is lent to it.
+use Rattle.std.specs.Prelude.{◌≡◌, ℕ, List, [], map, slice_index}
+use Rattle.csp_io.specs.Told.{Rose}
+use Rattle.csp_desk.specs.declared.reporter.Kind.{Kind}
+use Rattle.csp_model.specs.declared.verdict.Violation.{Violation}
+
+-- what a call knows of the reporters of a desk, in order: their kinds, what each held before the call and holds
+-- now, and their counts of faults
+pub record Desk : Type 0 where
+  pub kinds : List Kind
+  pub held_before : List (List Violation)
+  pub held_now : List (List Violation)
+  pub faults_before : List ℕ
+  pub faults_now : List ℕ
+
+abbrev pub desk : {R : Type 0} → (R → Kind) → (R → List Violation) → (R → ℕ) → List R → List R → Desk
+desk kind held faults old new = record {
+  kinds = map kind old;
+  held_before = map held old;
+  held_now = map held new;
+  faults_before = map faults old;
+  faults_now = map faults new;
+}
+
+-- the same, with no reporter that refused anything
+abbrev pub without_refusals : Desk → Desk
+without_refusals d = record d { faults_before = []; faults_now = [] }
+
+-- no reporter's count rose
+abbrev pub NoneRefused : Desk → Type 0
+NoneRefused d = (place : ℕ) → Rose (slice_index d.faults_before place) (slice_index d.faults_now place) → ⊥
+
+-- each reporter holds what it held
+abbrev pub IsUntouched : Desk → Type 0
+IsUntouched d = d.held_now ≡ d.held_before

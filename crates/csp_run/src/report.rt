@@ -1,0 +1,126 @@
+//! What `report` does: it hands the violations of each request to the desk, and prints what the reporters tell.
+ghost use Rattle.std.specs.Prelude.{◌≡◌, ◌≢◌, ◌⊎◌, ◌≤◌, ◌<◌, ◌^◌, IfErr, OnOk, length, map, Ok, List as Items};
+ghost use Rattle.serde_json.specs.View.{view};
+ghost use Rattle.csp_desk.specs.Growth.{GrewInPart, NoneFell, all_grown};
+ghost use Rattle.csp_model.specs.Answers.{Gives};
+ghost use Rattle.csp_model.specs.Policies.{IsReadable};
+ghost use Rattle.csp_model.specs.declared.verdict.Violation.{Violation};
+ghost use Rattle.csp_request.specs.Requests.{described_from, request_limit, requests_in, requests_of};
+ghost use Rattle.csp_token.specs.Digests.{digests_for};
+ghost use Rattle.csp_run.specs.Desk.{desk as lent, IsUntouched};
+ghost use Rattle.csp_run.specs.Outputs.{IsReportOn};
+ghost use Rattle.csp_run.specs.Reports.{IsReport, all_violations, violations_in};
+ghost use Rattle.csp_run.specs.Shown.{HasStopped, described_for};
+
+use crate::fault::Fault;
+use crate::output::{Built, request_fault};
+use crate::status::Status;
+use csp_desk::{DeskError, Reporter, hand_out, texts_of};
+use csp_model::{Described, List, PolicyList};
+use csp_request::{ReportTexts, RequestError, Requests, describe_for};
+use csp_token::Algorithms;
+use csp_verdict::CompiledList;
+use serde_json::Value;
+use std::alloc::Global;
+
+// The text of the desk behind the violations of all requests of a request file.
+pub(crate) fn report(
+    alloc: Global,
+    list: &PolicyList,
+    bytes: &[u8],
+    desk: &mut Vec<Box<dyn Reporter>>,
+) -> Result<Built, Fault>
+    requires readable { IsReadable list.now }
+    requires few { length desk.old.items < 2 ^ 32 }
+    ensures end { result ≢ Err Fault.Memory → IsReportOn (violations_in list.now (requests_of bytes.now))
+        (lent (λ b. kind b) (λ b. held b) (λ b. faults b) desk.old.items desk.new.items) result }
+    ensures grown { let d = lent (λ b. kind b) (λ b. held b) (λ b. faults b) desk.old.items desk.new.items in
+        IsUntouched d ⊎ ((all : Items Violation) × (violations_in list.now (requests_of bytes.now) ≡ Ok all)
+        × GrewInPart all d.held_before d.held_now) }
+    ensures kinds { map (λ b. kind b) desk.new.items ≡ map (λ b. kind b) desk.old.items }
+    ensures later { NoneFell (map (λ b. faults b) desk.old.items) (map (λ b. faults b) desk.new.items) }
+{
+    let list = CompiledList::for_reports(alloc, list)?;
+    match read_requests_for(alloc, bytes, list.algorithms()) {
+        Ok(requests) => report_each(alloc, &list, requests.as_slice(), desk),
+        Err(error) => Err(request_fault(error)),
+    }
+}
+
+// The requests of a request file, as `csp_request::read_requests` reads them, but with the digests of the wanted
+// algorithms alone. All are read before the violations of the first are handed out, since a later one may be refused.
+fn read_requests_for(
+    alloc: Global,
+    bytes: &[u8],
+    wanted: Algorithms,
+) -> Result<List<Described>, RequestError>
+    ensures { Gives RequestError.Memory result (described_for wanted (requests_in bytes.now)) }
+{
+    let requests = Requests::read(alloc, bytes)?;
+    describe_each(alloc, requests.as_slice(), wanted)
+}
+
+fn describe_each(
+    alloc: Global,
+    requests: &[Value],
+    wanted: Algorithms,
+) -> Result<List<Described>, RequestError>
+    requires { length requests.now ≤ request_limit }
+    ensures { Gives RequestError.Memory result
+        (described_from (λ source. digests_for source wanted) 1 (map view requests.now)) }
+{
+    let mut made = List::new(alloc);
+    for (place, request) in requests.iter().enumerate() {
+        match describe_for(alloc, request, wanted, ReportTexts::Made) {
+            Ok(described) => made.push(described)?,
+            Err(error) => return Err(error.at(place as u32 + 1)),
+        }
+    }
+    Ok(made)
+}
+
+// The text of the desk behind the violations of all these requests.
+fn report_each(
+    alloc: Global,
+    list: &CompiledList<'_>,
+    requests: &[Described],
+    desk: &mut Vec<Box<dyn Reporter>>,
+) -> Result<Built, Fault>
+    requires { length desk.old.items < 2 ^ 32 }
+    ensures end { result ≢ Err Fault.Memory → IsReport (all_violations list.now requests.now)
+        (lent (λ b. kind b) (λ b. held b) (λ b. faults b) desk.old.items desk.new.items) result }
+    ensures grown { GrewInPart (all_violations list.now requests.now)
+        (map (λ b. held b) desk.old.items) (map (λ b. held b) desk.new.items) }
+    ensures kinds { map (λ b. kind b) desk.new.items ≡ map (λ b. kind b) desk.old.items }
+    ensures later { NoneFell (map (λ b. faults b) desk.old.items) (map (λ b. faults b) desk.new.items) }
+{
+    hand_out_each(alloc, list, requests, desk)?;
+    Ok(Built {
+        status: Status::Clean,
+        text: texts_of(alloc, desk.as_slice())?,
+    })
+}
+
+// Hands out the violations of each request, which are let go before those of the next are found.
+fn hand_out_each(
+    alloc: Global,
+    list: &CompiledList<'_>,
+    requests: &[Described],
+    desk: &mut Vec<Box<dyn Reporter>>,
+) -> Result<(), DeskError>
+    requires { length desk.old.items < 2 ^ 32 }
+    ensures took { OnOk result (map (λ b. held b) desk.new.items
+        ≡ all_grown (all_violations list.now requests.now) (map (λ b. held b) desk.old.items)) }
+    ensures stopped { IfErr result (λ e. HasStopped e (all_violations list.now requests.now)
+        (lent (λ b. kind b) (λ b. held b) (λ b. faults b) desk.old.items desk.new.items)) }
+    ensures kinds { map (λ b. kind b) desk.new.items ≡ map (λ b. kind b) desk.old.items }
+    ensures later { NoneFell (map (λ b. faults b) desk.old.items) (map (λ b. faults b) desk.new.items) }
+{
+    for request in requests {
+        let Ok(violations) = list.violations(alloc, request) else {
+            return Err(DeskError::Memory);
+        };
+        hand_out(alloc, desk, &violations)?;
+    }
+    Ok(())
+}
