@@ -4,8 +4,8 @@ use Rattle.csp_io.specs.Told.{Rose}
 use Rattle.csp_desk.specs.declared.reporter.Kind.{Kind}
 use Rattle.csp_model.specs.declared.verdict.Violation.{Violation}
 
--- what a call knows of the reporters of a desk, in order: their kinds, what each held before the call and holds
--- now, and their counts of faults
+-- what a call knows of the reporters of a desk, in order: their kinds, what each held before the call and
+-- holds now, and their counts of faults
 pub record Desk : Type 0 where
   pub kinds : List Kind
   pub held_before : List (List Violation)

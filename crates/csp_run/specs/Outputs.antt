@@ -33,7 +33,7 @@ abbrev pub judged : PolicyList → Result (List Described) RequestError → Resu
 judged list (Ok requests) = Ok (judgment list (map (λ (d : Described). d.checks) requests))
 judged list (Err refused) = Err (request_fault refused)
 
--- what ends `report` on these violations, or on the fault of the request file, with which nothing is handed out
+-- what ends `report` on these violations, or on the fault of the request file, which hands nothing out
 abbrev pub IsReportOn : Result (List Violation) RequestError → Desk → Result Built Fault → Type 0
 IsReportOn (Ok all) desk end = IsReport all desk end
 IsReportOn (Err refused) desk end = (end ≡ Err (request_fault refused)) × IsUntouched desk

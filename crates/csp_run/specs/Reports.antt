@@ -20,7 +20,8 @@ abbrev pub all_violations : PolicyList → List Described → List Violation
 all_violations list requests = flat_map (violations_of list) requests
 
 -- those of the requests of a file, or what the file is refused for
-abbrev pub violations_in : PolicyList → Result (List Described) RequestError → Result (List Violation) RequestError
+abbrev pub violations_in : PolicyList → Result (List Described) RequestError
+    → Result (List Violation) RequestError
 violations_in list (Ok requests) = Ok (all_violations list requests)
 violations_in list (Err refused) = Err refused
 
@@ -28,8 +29,8 @@ violations_in list (Err refused) = Err refused
 abbrev pub report_of : Desk → List Violation → Built
 report_of desk all = record { status = Clean; text = desk_text desk.kinds (all_grown all desk.held_before) }
 
--- What ends the handing out of violations: each reporter took all of them, and the text of the desk is printed.
--- Or one refused a violation, and nothing was handed out behind it.
+-- What ends the handing out of violations: each reporter took all of them, and the text of the desk is
+-- printed. Or one refused a violation, and nothing was handed out behind it.
 abbrev pub IsReport : List Violation → Desk → Result Built Fault → Type 0
 IsReport all desk (Ok built) = (built ≡ report_of desk all) × (desk.held_now ≡ all_grown all desk.held_before)
 IsReport all desk (Err (fault.Refused reporter)) =

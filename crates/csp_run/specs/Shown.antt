@@ -1,5 +1,5 @@
 -- What clauses of private functions cite: plans as contracts see them, contents that fit a form, verdicts on
--- single descriptions, what is left where the handing out of violations stops, and requests described in part.
+-- single descriptions, requests described in part, and what is left where the handing out of violations stops.
 use Rattle.std.specs.Prelude.{ℕ, ⊤, Bool, true, false, List, [], ◌∷◌, Result, Ok, Err}
 use Rattle.serde_json.specs.Data.{Data}
 use Rattle.csp_desk.specs.Growth.{GrewInPart, StopsAt}
@@ -55,14 +55,14 @@ abbrev pub desk_fault : DeskError → Fault
 desk_fault (Refused reporter) = fault.Refused reporter
 desk_fault Memory = fault.Memory
 
--- What is left where these violations aren't all handed out: a refusal leaves what it leaves, and there was no
--- memory to take one of them or to find the next.
+-- What is left where these violations aren't all handed out: one was refused, or there was no memory to take
+-- one or to find the next.
 abbrev pub HasStopped : DeskError → List Violation → Desk → Type 0
 HasStopped (Refused reporter) all desk =
     StopsAt (Refused reporter) all desk.held_before desk.held_now desk.faults_before desk.faults_now
 HasStopped Memory all desk = GrewInPart all desk.held_before desk.held_now
 
--- what descriptions stand for, with the digests of the wanted algorithms alone, or what the file is refused for
+-- what descriptions stand for, with the digests of the wanted algorithms alone, or why their file is refused
 abbrev pub described_for : Algorithms → Result (List Data) RequestError → Result (List Described) RequestError
 described_for wanted (Ok values) = described_from (λ source. digests_for source wanted) 1 values
 described_for wanted (Err refused) = Err refused

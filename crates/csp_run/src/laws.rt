@@ -28,7 +28,7 @@ pub fn a_told_fault_is_found()
 {}
 
 /// Only a report hands anything to the reporters, and only where it ends with `Clean`, `ReporterFault` or
-/// `NoMemory`: else each holds what it held. What is written where a write failed was the text of such an end.
+/// `NoMemory`: else each holds what it held. Where a write failed, what was to be written had such an end.
 pub fn reporters_keep_what_they_hold()
     ensures words { (w : World) (desk : Desk) (words : List (List ℕ)) (end : End) → IsDue w desk words end
         → is_report (plan_of words) ≡ false → IsUntouched desk }

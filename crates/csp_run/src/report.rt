@@ -1,4 +1,4 @@
-//! What `report` does: it hands the violations of each request to the desk, and prints what the reporters tell.
+//! What `report` does: it hands the violations of each request to a desk, and prints what its reporters tell.
 ghost use Rattle.std.specs.Prelude.{◌≡◌, ◌≢◌, ◌⊎◌, ◌≤◌, ◌<◌, ◌^◌, IfErr, OnOk, length, map, Ok, List as Items};
 ghost use Rattle.serde_json.specs.View.{view};
 ghost use Rattle.csp_desk.specs.Growth.{GrewInPart, NoneFell, all_grown};
@@ -47,8 +47,9 @@ pub(crate) fn report(
     }
 }
 
-// The requests of a request file, as `csp_request::read_requests` reads them, but with the digests of the wanted
-// algorithms alone. All are read before the violations of the first are handed out, since a later one may be refused.
+// The requests of a request file, as `csp_request::read_requests` reads them, but with the digests of the
+// wanted algorithms alone. All are read before the first violation is handed out, since a later one may be
+// refused.
 fn read_requests_for(
     alloc: Global,
     bytes: &[u8],

@@ -5,7 +5,7 @@ ghost use Rattle.csp_run.specs.Texts as texts;
 /// The status of a run.
 #[derive(Clone, Copy, Debug, PartialEq, Eq)]
 pub enum Status {
-    /// Nothing is blocked.
+    /// Nothing is blocked, or the report is done.
     Clean,
     /// Some request is blocked.
     Found,

@@ -17,6 +17,9 @@ use std::alloc::Global;
 
 /// Does what the words say. The words are those after the program's name. The output is built whole
 /// before its first byte is written, and after a fault nothing is written but the fault's text.
+///
+/// `report` hands every violation to each reporter of the desk in turn, and prints what they tell. No other
+/// command hands anything to them.
 pub fn run<I: Inputs, S: Sink>(
     alloc: Global,
     words: &List<Text>,

@@ -24,7 +24,8 @@ pub fn only_named_algorithms_count()
         ≡ verdict_of list (check.Inline kind nonce (digests_of source) ∷ []) }
     ensures violations { (list : PolicyList) (kind : InlineKind) (nonce : Items ℕ) (source : Items ℕ)
         (blocked_uri sample : Items ℕ)
-        → violations_of list (inline_request kind nonce (digests_for source (algorithms_of list)) blocked_uri sample)
+        → violations_of list
+        (inline_request kind nonce (digests_for source (algorithms_of list)) blocked_uri sample)
         ≡ violations_of list (inline_request kind nonce (digests_of source) blocked_uri sample) }
 {}
 

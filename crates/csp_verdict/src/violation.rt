@@ -35,7 +35,8 @@ pub(crate) fn violations_of<P: Judge>(
     described: &Described,
 ) -> Result<List<Violation>, Memory>
     requires { length policies.now ≤ policy_limit }
-    ensures { IfOk result (λ made. made ≡ spec.violations_of (list_of (map P.seen policies.now)) described.now) }
+    ensures { IfOk result (λ made.
+        made ≡ spec.violations_of (list_of (map P.seen policies.now)) described.now) }
 {
     let mut found = List::new(alloc);
     for check in described.checks.as_slice() {
