@@ -1,6 +1,6 @@
 //! Atoms: facts about a check that a policy's answer can depend on, and what one fact says of another.
 //!
-//! `holds` and `follows` take no memory.
+//! `holds`, `follows` and `follows_as` take no memory.
 #![tactic(auto)]
 
 mod atom;
@@ -13,5 +13,5 @@ mod vocabulary;
 
 pub use atom::{Atom, Literal, Vocabulary};
 pub use holding::holds;
-pub use table::follows;
+pub use table::{follows, follows_as};
 pub use vocabulary::vocabulary_of;

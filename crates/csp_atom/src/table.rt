@@ -17,10 +17,17 @@ pub fn follows(literal: &Literal, atom: &Atom) -> Option<bool>
         → IsTrue (is_true_of hashes asked literal.now)
         → IfSome result (λ known. holds hashes asked atom.now ≡ known) }
 {
-    if literal.positive {
-        follows_true(&literal.atom, atom)
+    follows_as(&literal.atom, literal.positive, atom)
+}
+
+/// What `follows` answers for the literal of this atom and sign, whose atom stands anywhere.
+pub fn follows_as(known: &Atom, positive: bool, asked: &Atom) -> Option<bool>
+    ensures { result ≡ spec.follows (record { atom = known.now; positive = positive }) asked.now }
+{
+    if positive {
+        follows_true(known, asked)
     } else {
-        follows_false(&literal.atom, atom)
+        follows_false(known, asked)
     }
 }
 
