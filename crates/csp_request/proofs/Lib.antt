@@ -7,12 +7,4 @@ pub mod Turns
 pub mod Untold
 pub mod OnlyCheck
 pub mod RequestTurns
-mod CheckBack
-mod DigestsBack
-mod FileBack
-mod NamesBack
-mod PrintedJson
-mod PrintedText
 mod ReadOnce
-mod TextBack
-mod UrlBack

@@ -2,12 +2,8 @@
 use Rattle.std.specs.Prelude.{ℕ, List, [], ◌∷◌, Option, codes}
 use Rattle.std.specs.List.{find}
 use Rattle.std.specs.Str.{bytes_eq}
-use Rattle.csp_model.specs.declared.check.Group.{Group}
-use Rattle.csp_model.specs.declared.check.Group.TheVariants as group
 use Rattle.csp_model.specs.declared.check.InlineKind.{InlineKind}
 use Rattle.csp_model.specs.declared.check.InlineKind.TheVariants as inline
-use Rattle.csp_fetch.specs.declared.destination.Destination.{Destination}
-use Rattle.csp_fetch.specs.declared.destination.Destination.TheVariants as destination
 use Rattle.csp_request.specs.declared.kind.Kind.{Kind}
 use Rattle.csp_request.specs.declared.kind.Kind.TheVariants as kind
 
@@ -42,16 +38,3 @@ inline_kinds = inline.Script ∷ inline.ScriptAttribute ∷ inline.Style ∷ inl
 
 abbrev pub inline_named : List ℕ → Option InlineKind
 inline_named name = find (λ k. bytes_eq name (inline_text k)) inline_kinds
-
--- the destination that stands for a group in what is printed
-abbrev pub destination_for : Group → Destination
-destination_for group.Connect = destination.Empty
-destination_for group.Font = destination.Font
-destination_for group.Frame = destination.Frame
-destination_for group.Img = destination.Image
-destination_for group.Manifest = destination.Manifest
-destination_for group.Media = destination.Video
-destination_for group.Object = destination.Object
-destination_for group.StyleElem = destination.Style
-destination_for group.ScriptElem = destination.Script
-destination_for group.Worker = destination.Worker

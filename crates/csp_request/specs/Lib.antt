@@ -5,4 +5,3 @@ pub mod Hops
 pub mod Kinds
 pub mod Described
 pub mod Requests
-pub mod Printed

@@ -2,12 +2,11 @@
 ghost use Rattle.std.specs.Prelude.{◌≡◌};
 ghost use Rattle.csp_request.specs.Kinds as spec;
 
-use csp_fetch::Destination;
-use csp_model::{Group, InlineKind};
+use csp_model::InlineKind;
 
-// What a description asks for.
+/// What a description asks for: its member `kind`.
 #[derive(Clone, Copy, Debug, PartialEq, Eq)]
-pub(crate) enum Kind {
+pub enum Kind {
     Fetch,
     Inline,
     Eval,
@@ -20,8 +19,8 @@ pub(crate) enum Kind {
 }
 
 impl Kind {
-    // The kind as it is written.
-    pub(crate) fn as_str(self) -> &'static str
+    /// The kind as it is written, as `worker-start`.
+    pub fn as_str(self) -> &'static str
         ensures { result.now ≡ spec.kind_text self }
     {
         match self {
@@ -56,8 +55,9 @@ impl Kind {
     }
 }
 
-// Inline code or style as it is written.
-pub(crate) fn inline_text(kind: InlineKind) -> &'static str
+/// What inline code or style it is, as the member `type` is written: `script`, `script-attribute`, `style`,
+/// `style-attribute` or `navigation`.
+pub fn inline_text(kind: InlineKind) -> &'static str
     ensures { result.now ≡ spec.inline_text kind }
 {
     match kind {
@@ -80,23 +80,5 @@ pub(crate) fn inline_named(name: &str) -> Option<InlineKind>
         "style-attribute" => Some(InlineKind::StyleAttribute),
         "navigation" => Some(InlineKind::Navigation),
         _ => None,
-    }
-}
-
-// The destination that stands for a group in what is printed.
-pub(crate) fn destination_for(group: Group) -> Destination
-    ensures { result ≡ spec.destination_for group }
-{
-    match group {
-        Group::Connect => Destination::Empty,
-        Group::Font => Destination::Font,
-        Group::Frame => Destination::Frame,
-        Group::Img => Destination::Image,
-        Group::Manifest => Destination::Manifest,
-        Group::Media => Destination::Video,
-        Group::Object => Destination::Object,
-        Group::StyleElem => Destination::Style,
-        Group::ScriptElem => Destination::Script,
-        Group::Worker => Destination::Worker,
     }
 }

@@ -1,4 +1,4 @@
-//! Requests and checks described in JSON: reads request files, and writes and reads single checks.
+//! Requests and checks described in JSON: reads request files, and files of single checks.
 #![tactic(auto)]
 
 mod chain;
@@ -12,7 +12,6 @@ mod inline;
 mod kind;
 mod located;
 mod member;
-mod print;
 mod requests;
 mod sample;
 mod texts;
@@ -21,6 +20,6 @@ pub use check::read_check;
 pub use description::{describe, describe_for};
 pub use error::{CheckError, DescriptionError, RequestError};
 pub use field::Field;
-pub use print::check_json;
+pub use kind::{Kind, inline_text};
 pub use requests::{Requests, read_requests};
 pub use texts::ReportTexts;

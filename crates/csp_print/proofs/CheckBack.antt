@@ -13,12 +13,12 @@ use Rattle.csp_token.proofs.ReadsBack.{reads_back}
 use Rattle.csp_request.specs.Json.{whole_number}
 use Rattle.csp_request.specs.Described.{described_as, ancestor, described}
 use Rattle.csp_request.specs.Urls.{shown_parts}
-use Rattle.csp_request.specs.Printed.{url_data, printed}
+use Rattle.csp_print.specs.Printed.{url_data, printed}
 use Rattle.csp_request.specs.declared.field.Field.{Field}
 use Rattle.csp_request.specs.declared.field.Field.TheVariants as field
-use Rattle.csp_request.proofs.DigestsBack.{digests_back}
-use Rattle.csp_request.proofs.NamesBack.{capability_back, inline_back, destination_back, group_back}
-use Rattle.csp_request.proofs.UrlBack.{url_back, located_back, url_present}
+use Rattle.csp_print.proofs.DigestsBack.{digests_back}
+use Rattle.csp_print.proofs.NamesBack.{capability_back, inline_back, destination_back, group_back}
+use Rattle.csp_print.proofs.UrlBack.{url_back, located_back, url_present}
 
 count_back : (redirects : ℕ) → redirects < 2 ^ 32
     → whole_number (2 ^ 32 - 1) (number (unsigned redirects)) ≡ Some redirects

@@ -6,7 +6,7 @@ use Rattle.csp_model.specs.declared.check.Check.{Check}
 use Rattle.csp_model.specs.declared.check.Check.TheVariants as check
 use Rattle.csp_model.specs.declared.url.Url.{Url}
 use Rattle.csp_model.specs.declared.url.Url.TheVariants as url
-use Rattle.csp_request.specs.Printed.{port_data, url_data, printed}
+use Rattle.csp_print.specs.Printed.{port_data, url_data, printed}
 
 port_no_float : (port : Option ℕ) → has_float (port_data port) ≡ false
 port_no_float None = refl

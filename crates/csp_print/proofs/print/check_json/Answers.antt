@@ -1,8 +1,8 @@
 use Rattle.serde_json.specs.View.{view}
-use Rattle.csp_request.proofs.FileBack.{file_back}
-use Rattle.csp_request.proofs.PrintedText.{text_of_printed}
-use Rattle.csp_request.proofs.TextBack.{text_back}
-use Rattle.csp_request.proofs.print.check_json.Goals as goal
+use Rattle.csp_print.proofs.FileBack.{file_back}
+use Rattle.csp_print.proofs.PrintedText.{text_of_printed}
+use Rattle.csp_print.proofs.TextBack.{text_back}
+use Rattle.csp_print.proofs.print.check_json.Goals as goal
 
 pub returns-clause-reads_back : goal.returns-clause-reads_back
 returns-clause-reads_back c valid =

@@ -8,7 +8,8 @@ use Rattle.csp_model.specs.declared.check.Group.TheVariants as group
 use Rattle.csp_model.specs.declared.check.InlineKind.{InlineKind}
 use Rattle.csp_model.specs.declared.check.InlineKind.TheVariants as inline
 use Rattle.csp_fetch.specs.Destinations.{destination_text, destination_named, group_of}
-use Rattle.csp_request.specs.Kinds.{inline_text, inline_named, destination_for}
+use Rattle.csp_request.specs.Kinds.{inline_text, inline_named}
+use Rattle.csp_print.specs.Printed.{destination_for}
 
 pub capability_back : (which : Capability) → capability_named (capability_text which) ≡ Some which
 capability_back capability.Forms = refl

@@ -10,7 +10,7 @@ use Rattle.csp_model.specs.Validity.{IsOfSize, IsValidDigests}
 use Rattle.csp_model.specs.declared.check.Digests.{Digests}
 use Rattle.csp_token.proofs.Sizes.{bytes_of_size}
 use Rattle.csp_request.specs.Described.{lower_hex, digests}
-use Rattle.csp_request.specs.Printed.{digests_data}
+use Rattle.csp_print.specs.Printed.{digests_data}
 use Rattle.csp_request.specs.declared.field.Field.{Field}
 
 digit_lower : (d : ℕ) → d < 16 → not (is_ascii_uppercase (slice_index lower_digits d)) ≡ true

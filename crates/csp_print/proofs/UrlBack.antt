@@ -22,7 +22,7 @@ use Rattle.csp_request.specs.Json.{unless_null}
 use Rattle.csp_request.specs.Members.{by_form, number}
 use Rattle.csp_url.specs.Texts.{shown_url}
 use Rattle.csp_request.specs.Urls.{shown_parts, web_url, located_url}
-use Rattle.csp_request.specs.Printed.{port_data, url_data}
+use Rattle.csp_print.specs.Printed.{port_data, url_data}
 use Rattle.csp_request.specs.declared.field.Field.{Field}
 use Rattle.csp_request.specs.declared.texts.ReportTexts.TheVariants.{Made}
 

@@ -7,10 +7,10 @@ use Rattle.serde_json.specs.Written.{compact_text}
 use Rattle.csp_model.specs.Validity.{IsValidCheck}
 use Rattle.csp_model.specs.declared.check.Check.{Check}
 use Rattle.csp_request.specs.Json.{json_of}
-use Rattle.csp_request.specs.Printed.{printed}
+use Rattle.csp_print.specs.Printed.{printed}
 use Rattle.csp_request.specs.Requests.{one_check, check_in, check_of}
-use Rattle.csp_request.proofs.CheckBack.{check_back}
-use Rattle.csp_request.proofs.PrintedJson.{read_text, check_readable, check_depth}
+use Rattle.csp_print.proofs.CheckBack.{check_back}
+use Rattle.csp_print.proofs.PrintedJson.{read_text, check_readable, check_depth}
 
 -- the JSON value of bytes in UTF-8 is what they read as
 pub json_back : (text : List ℕ) (value : Data) → IsUtf8 text → read text ≡ Some value

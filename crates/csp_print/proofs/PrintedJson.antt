@@ -18,7 +18,7 @@ use Rattle.csp_model.specs.declared.check.Check.TheVariants as check
 use Rattle.csp_model.specs.declared.url.Scheme.{Scheme}
 use Rattle.csp_model.specs.declared.url.Url.{Url}
 use Rattle.csp_model.specs.declared.url.Url.TheVariants as url
-use Rattle.csp_request.specs.Printed.{port_data, url_data, printed}
+use Rattle.csp_print.specs.Printed.{port_data, url_data, printed}
 
 -- a value that its JSON stands for, with good numbers, reads back from its text
 pub record IsReadable (value : Data) : Type 0 where

@@ -10,12 +10,15 @@ use Rattle.csp_model.specs.declared.check.Check.{Check}
 use Rattle.csp_model.specs.declared.check.Check.TheVariants as check
 use Rattle.csp_model.specs.declared.check.Digests.{Digests}
 use Rattle.csp_model.specs.declared.check.Group.{Group}
+use Rattle.csp_model.specs.declared.check.Group.TheVariants as group
 use Rattle.csp_model.specs.declared.url.Url.{Url}
 use Rattle.csp_model.specs.declared.url.Url.TheVariants as url
 use Rattle.csp_model.specs.declared.verdict.Described.{Described}
 use Rattle.csp_fetch.specs.Destinations.{destination_text}
+use Rattle.csp_fetch.specs.declared.destination.Destination.{Destination}
+use Rattle.csp_fetch.specs.declared.destination.Destination.TheVariants as destination
 use Rattle.csp_token.specs.Integrity.{integrity_text}
-use Rattle.csp_request.specs.Kinds.{kind_text, inline_text, destination_for}
+use Rattle.csp_request.specs.Kinds.{kind_text, inline_text}
 use Rattle.csp_request.specs.Requests.{requests_of}
 use Rattle.csp_request.specs.declared.kind.Kind.{Kind}
 use Rattle.csp_request.specs.declared.kind.Kind.TheVariants as kind
@@ -49,6 +52,19 @@ digests_data digests = object_of (
 
 abbrev pub kind_member : Kind → (List ℕ × Data)
 kind_member which = (codes "kind", string (kind_text which))
+
+-- the destination that stands for a group in what is printed
+abbrev pub destination_for : Group → Destination
+destination_for group.Connect = destination.Empty
+destination_for group.Font = destination.Font
+destination_for group.Frame = destination.Frame
+destination_for group.Img = destination.Image
+destination_for group.Manifest = destination.Manifest
+destination_for group.Media = destination.Video
+destination_for group.Object = destination.Object
+destination_for group.StyleElem = destination.Style
+destination_for group.ScriptElem = destination.Script
+destination_for group.Worker = destination.Worker
 
 -- a fetch, whose URL and integrity metadata are written already
 abbrev pub fetch_data : Group → Data → ℕ → List ℕ → List ℕ → Bool → Data

@@ -2,60 +2,20 @@
 ghost use Rattle.std.specs.Prelude.{◌≡◌, [], ◌∷◌, IfOk, Ok, string_bytes};
 ghost use Rattle.serde_json.specs.View.{view};
 ghost use Rattle.serde_json.specs.Written.{compact_text};
-ghost use Rattle.csp_model.specs.Paths as paths;
 ghost use Rattle.csp_model.specs.Validity.{IsValidCheck};
 ghost use Rattle.csp_model.specs.declared.check.Check.TheVariants as check;
-ghost use Rattle.csp_request.specs.Printed as spec;
+ghost use Rattle.csp_print.specs.Printed as spec;
 ghost use Rattle.csp_request.specs.Requests.{check_of};
 
-use crate::kind::{Kind, destination_for, inline_text};
+use crate::destination::destination_for;
+use crate::url_parts::url_value;
 use csp_model::{
-    Bytes, Capability, Check, Digests, Group, Hash, InlineKind, List, Memory, Text, Url, push_path,
+    Bytes, Capability, Check, Digests, Group, Hash, InlineKind, List, Memory, Text, Url,
 };
+use csp_request::{Kind, inline_text};
 use csp_token::integrity_text;
 use serde_json::{Value, json};
 use std::alloc::{AllocError, Global};
-
-// The text of a path.
-fn path_text(alloc: Global, path: &List<Bytes>) -> Result<String, Memory>
-    ensures { IfOk result (λ text. string_bytes text ≡ paths.path_text path.now) }
-{
-    let mut text = String::new(alloc);
-    push_path(&mut text, path.as_slice())?;
-    Ok(text)
-}
-
-fn port_value(port: Option<u16>) -> Value
-    ensures { view result ≡ spec.port_data port }
-{
-    match port {
-        None => Value::Null,
-        Some(number) => Value::from(number),
-    }
-}
-
-// A URL in parts.
-fn url_value(alloc: Global, url: &Url) -> Result<Value, Memory>
-    ensures { IfOk result (λ value. view value ≡ spec.url_data url.now) }
-{
-    match url {
-        Url::Plain { scheme } => Ok(json!(in alloc; {"scheme": scheme.as_str()})?),
-        Url::Hosted {
-            scheme,
-            host,
-            port,
-            path,
-        } => {
-            let path = path_text(alloc, path)?;
-            Ok(json!(in alloc; {
-                "host": host.as_str(),
-                "path": path,
-                "port": port_value(*port),
-                "scheme": scheme.as_str()
-            })?)
-        }
-    }
-}
 
 fn digests_value(alloc: Global, digests: &Digests) -> Result<Value, Memory>
     ensures { IfOk result (λ value. view value ≡ spec.digests_data digests.now) }

@@ -10,11 +10,11 @@ use Rattle.csp_model.specs.Validity.{IsValidCheck}
 use Rattle.csp_model.specs.declared.check.Check.{Check}
 use Rattle.csp_request.specs.Described.{described_as}
 use Rattle.csp_request.specs.Json.{array_of}
-use Rattle.csp_request.specs.Printed.{printed, in_array, AsksFor}
+use Rattle.csp_print.specs.Printed.{printed, in_array, AsksFor}
 use Rattle.csp_request.specs.Requests.{within_limit, first_before, each_described}
-use Rattle.csp_request.proofs.CheckBack.{shown_of, check_back}
-use Rattle.csp_request.proofs.PrintedJson.{IsReadable, read_text, check_readable, check_depth}
-use Rattle.csp_request.proofs.TextBack.{json_back}
+use Rattle.csp_print.proofs.CheckBack.{shown_of, check_back}
+use Rattle.csp_print.proofs.PrintedJson.{IsReadable, read_text, check_readable, check_depth}
+use Rattle.csp_print.proofs.TextBack.{json_back}
 
 -- an array of a value alone
 abbrev alone : Data → Data
