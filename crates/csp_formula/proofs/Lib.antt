@@ -1,0 +1,21 @@
+pub mod Maybe
+pub mod SurelySound
+pub mod AllDecided
+pub mod Examples
+pub mod Labels
+pub mod SuffixDomain
+pub mod UrlPartsSaid
+pub mod SourcesSaid
+pub mod MembersOf
+pub mod TokensSaid
+pub mod DigestsSaid
+pub mod DigestOf
+pub mod HashSources
+pub mod ReadSources
+pub mod Governs
+pub mod PolicySaid
+pub mod AtomsOfSources
+pub mod AtomsWithin
+pub mod AtomsOfPolicies
+pub mod ReadParts
+mod ExamplesOfShapes

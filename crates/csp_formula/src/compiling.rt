@@ -1,0 +1,190 @@
+//! The formula of a policy at a shape.
+ghost use Rattle.std.specs.Prelude.{◌≡◌, IfOk};
+ghost use Rattle.csp_model.specs.DecideVerdict.{allows};
+ghost use Rattle.csp_model.specs.Policies.{IsReadablePolicy};
+ghost use Rattle.csp_model.specs.Validity.{IsValidCheck};
+ghost use Rattle.csp_model.specs.declared.check.Check.{Check as CheckValue};
+ghost use Rattle.csp_shape.specs.Shapes.{HasShape};
+ghost use Rattle.csp_formula.specs.Sentences.{sentence_of};
+ghost use Rattle.csp_formula.specs.Compiled as spec;
+ghost use Rattle.csp_formula.specs.Values.{is_true_for};
+
+use crate::formula::Formula;
+use crate::inline::{allows_all_inline, hash_counts, is_element_kind};
+use crate::laws::a_formula_is_what_the_policy_allows;
+use crate::sources::list_formula;
+use crate::tokens::{digests_formula, integrity_formula, nonces_formula};
+use csp_atom::Vocabulary;
+use csp_inline::{eval_allows, wasm_allows};
+use csp_match::governor;
+use csp_model::{FetchRule, Group, InlineKind, Keyword, List, Memory, Name, Policy, Source};
+use csp_nav::{capability_allows, opaque_ancestor_allows, worker_start_allows};
+use csp_shape::Shape;
+use csp_token::has_keyword;
+use std::alloc::Global;
+
+/// The formula of a policy at a shape: it is true of a valid check of the shape exactly where the policy
+/// allows the check, whatever the policy's disposition, where the policy is as reading makes it and the
+/// vocabulary has its hash-sources.
+///
+/// Its sentence is that of the tables in `specs/Compiled` and `specs/Sources`, so its atoms are those of the
+/// tables, and so is what literals decide of it. Time and memory grow with the list that governs and, for
+/// scripts and workers, with the vocabulary.
+pub fn compile(
+    alloc: Global,
+    policy: &Policy,
+    shape: Shape,
+    vocabulary: &Vocabulary,
+) -> Result<Formula, Memory>
+    ensures sentence { IfOk result (λ made. sentence_of made
+        ≡ spec.policy_sentence policy.now shape vocabulary.now.hashes) }
+    ensures allows { IfOk result (λ made. (asked : CheckValue) → IsReadablePolicy policy.now
+        → spec.HasHashesOf vocabulary.now.hashes policy.now → IsValidCheck asked → HasShape asked shape
+        → is_true_for vocabulary.now.hashes asked (sentence_of made) ≡ allows policy.now asked) }
+{
+    a_formula_is_what_the_policy_allows();
+    policy_formula(alloc, policy, shape, vocabulary)
+}
+
+fn policy_formula(
+    alloc: Global,
+    policy: &Policy,
+    shape: Shape,
+    vocabulary: &Vocabulary,
+) -> Result<Formula, Memory>
+    ensures { IfOk result (λ made. sentence_of made
+        ≡ spec.policy_sentence policy.now shape vocabulary.now.hashes) }
+{
+    match shape {
+        Shape::Fetch {
+            group,
+            parser_inserted,
+            ..
+        } => fetch_formula(alloc, policy, group, shape, parser_inserted, vocabulary),
+        Shape::Form { .. } => listed_formula(alloc, policy, Name::FormAction, shape),
+        Shape::Base { .. } => listed_formula(alloc, policy, Name::BaseUri, shape),
+        Shape::Ancestor { .. } => listed_formula(alloc, policy, Name::FrameAncestors, shape),
+        Shape::OpaqueAncestor => Ok(Formula::Constant(opaque_ancestor_allows(policy))),
+        Shape::Inline { kind } => inline_formula(alloc, policy, kind),
+        Shape::Eval => Ok(Formula::Constant(eval_allows(policy))),
+        Shape::Wasm => Ok(Formula::Constant(wasm_allows(policy))),
+        Shape::Capability { capability } => {
+            Ok(Formula::Constant(capability_allows(policy, capability)))
+        }
+        Shape::WorkerStart => Ok(Formula::Constant(worker_start_allows(policy))),
+    }
+}
+
+// The formula of the list that governs, which decides alone.
+fn listed_formula(
+    alloc: Global,
+    policy: &Policy,
+    effective: Name,
+    shape: Shape,
+) -> Result<Formula, Memory>
+    ensures { IfOk result (λ made. sentence_of made ≡ spec.listed_sentence policy.now effective shape) }
+{
+    match governor(policy, effective) {
+        None => Ok(Formula::Constant(true)),
+        Some(found) => list_formula(alloc, &policy.origin, shape, &found.directive.sources),
+    }
+}
+
+// The formula of fetches of a group, where the list that governs says this of their URL.
+fn fetch_formula(
+    alloc: Global,
+    policy: &Policy,
+    group: Group,
+    shape: Shape,
+    parser_inserted: bool,
+    vocabulary: &Vocabulary,
+) -> Result<Formula, Memory>
+    ensures { IfOk result (λ made. sentence_of made
+        ≡ spec.group_sentence policy.now group shape parser_inserted vocabulary.now.hashes) }
+{
+    match governor(policy, group.directive()) {
+        None => Ok(Formula::Constant(true)),
+        Some(found) => {
+            let sources = &found.directive.sources;
+            let listed = list_formula(alloc, &policy.origin, shape, sources)?;
+            let rule = group.rule(found.name);
+            ruled_formula(alloc, rule, vocabulary, sources, parser_inserted, listed)
+        }
+    }
+}
+
+// The formula of fetches by the rule of a governing list; `listed` says whether the list matches their URL.
+fn ruled_formula(
+    alloc: Global,
+    rule: FetchRule,
+    vocabulary: &Vocabulary,
+    sources: &List<Source>,
+    parser_inserted: bool,
+    listed: Formula,
+) -> Result<Formula, Memory>
+    ensures { IfOk result (λ made. sentence_of made
+        ≡ spec.fetch_sentence rule vocabulary.now.hashes sources.now parser_inserted (sentence_of listed)) }
+{
+    match rule {
+        FetchRule::Script => {
+            let nonces = nonces_formula(alloc, sources.as_slice())?;
+            let integrity = integrity_formula(
+                alloc,
+                vocabulary.hashes.as_slice(),
+                sources.as_slice(),
+            )?;
+            let last = dynamic_or_listed(sources, parser_inserted, listed);
+            Ok(Formula::OneOf(vec![in alloc; nonces, integrity, last]?))
+        }
+        FetchRule::Style => {
+            let nonces = nonces_formula(alloc, sources.as_slice())?;
+            Ok(Formula::OneOf(vec![in alloc; nonces, listed]?))
+        }
+        FetchRule::List => Ok(listed),
+    }
+}
+
+// What the list says, or `'strict-dynamic'` in its place.
+fn dynamic_or_listed(sources: &List<Source>, parser_inserted: bool, listed: Formula) -> Formula
+    ensures { sentence_of result
+        ≡ spec.dynamic_sentence sources.now parser_inserted (sentence_of listed) }
+{
+    if has_keyword(sources, Keyword::StrictDynamic) {
+        Formula::Constant(!parser_inserted)
+    } else {
+        listed
+    }
+}
+
+// The formula of inline code or style of a kind.
+fn inline_formula(alloc: Global, policy: &Policy, kind: InlineKind) -> Result<Formula, Memory>
+    ensures { IfOk result (λ made. sentence_of made ≡ spec.kind_sentence policy.now kind) }
+{
+    match governor(policy, kind.directive()) {
+        None => Ok(Formula::Constant(true)),
+        Some(found) => sources_formula(alloc, kind, &found.directive.sources),
+    }
+}
+
+fn sources_formula(
+    alloc: Global,
+    kind: InlineKind,
+    sources: &List<Source>,
+) -> Result<Formula, Memory>
+    ensures { IfOk result (λ made. sentence_of made ≡ spec.inline_sentence kind sources.now) }
+{
+    if allows_all_inline(kind, sources) {
+        return Ok(Formula::Constant(true));
+    }
+    let nonces = if is_element_kind(kind) {
+        nonces_formula(alloc, sources.as_slice())?
+    } else {
+        Formula::Constant(false)
+    };
+    let digests = if hash_counts(kind, sources) {
+        digests_formula(alloc, sources.as_slice())?
+    } else {
+        Formula::Constant(false)
+    };
+    Ok(Formula::OneOf(vec![in alloc; nonces, digests]?))
+}

@@ -1,0 +1,14 @@
+//! Formulas.
+use csp_atom::Atom;
+
+/// A formula over atoms.
+#[derive(Debug, Drop)]
+pub enum Formula {
+    Constant(bool),
+    Fact(Atom),
+    Not(Box<Formula>),
+    /// The and of its parts.
+    Every(Vec<Formula>),
+    /// The or of its parts.
+    OneOf(Vec<Formula>),
+}
