@@ -1,0 +1,55 @@
+-- A literal gave only marks that stand within its reach.
+use Rattle.std.proofs.Common.{◌≡◌, ◌∙◌, refl, sym, ℕ, ◌+◌, ◌≤◌, ◌<◌, Bool, List, [], ◌∷◌, ◌++◌, length, map, Option, Some, None, arith}
+use Rattle.std.proofs.lemmas.Bool.Decides.{nat_tests}
+use Rattle.std.proofs.lemmas.List.{get_or-map, length-map}
+use Rattle.std.specs.List.{slice_index_or}
+use Rattle.csp_atom.specs.Follows.{follows}
+use Rattle.csp_atom.specs.declared.atom.Atom.{Atom}
+use Rattle.csp_atom.specs.declared.atom.Atom.TheVariants.{HostDomain}
+use Rattle.csp_atom.specs.declared.atom.Literal.{Literal}
+use Rattle.csp_valuation.specs.Marks.{answered, mark, cleared}
+use Rattle.csp_valuation.specs.Paths.{literal_of, literals_of}
+use Rattle.csp_valuation.specs.Reach.{Covers, KeepsOutside}
+use Rattle.csp_valuation.specs.declared.marks.Decision.{Decision}
+use Rattle.csp_valuation.specs.declared.taken.Taken.{Taken}
+use Rattle.csp_valuation.proofs.Marking.{mark_taken, literals_push, length_literals}
+use Rattle.csp_valuation.proofs.Within.{marked_none}
+
+kept_answer : (o : Option Bool) (n m : ℕ) (rest : Option Decision) → n < m → cleared m rest ≡ rest → cleared m (answered o n rest) ≡ answered o n rest
+kept_answer (Some b) n m rest h e = grind (arith, nat_tests)
+kept_answer None n m rest h e = e
+
+-- what earlier literals gave stays
+kept_before : (n m : ℕ) (ls : List Literal) (a : Atom) → n + length ls ≤ m → cleared m (mark n ls a) ≡ mark n ls a
+kept_before n m [] a h = refl
+kept_before n m (l ∷ ls) a h = kept_answer (follows l a) n m (mark (n + 1) ls a) (omega arith) (kept_before (n + 1) m ls a (omega arith))
+
+kept_where : (n : ℕ) (ls : List Literal) (l : Literal) (a : Atom) → n ≡ length ls → follows l a ≡ None → cleared n (mark 0 (ls ++ l ∷ []) a) ≡ mark 0 (ls ++ l ∷ []) a
+kept_where n ls l a e none =
+    let same : mark 0 (ls ++ l ∷ []) a ≡ mark 0 ls a = mark_taken 0 ls l a ∙ marked_none l (0 + length ls) (mark 0 ls a) a none in
+    rw same (kept_before 0 n ls a (omega arith))
+
+kept_at : (n : ℕ) (ls : List Literal) (l : Literal) (atoms : List Atom) (j : ℕ) (d : Option Decision) → n ≡ length ls → j < length atoms
+    → ((e : Atom) → follows l (slice_index_or atoms j e) ≡ None)
+    → cleared n (slice_index_or (map (mark 0 (ls ++ l ∷ [])) atoms) j d) ≡ slice_index_or (map (mark 0 (ls ++ l ∷ [])) atoms) j d
+kept_at n ls l atoms j d e h none =
+    rw (get_or-map (mark 0 (ls ++ l ∷ [])) atoms j HostDomain d h) (kept_where n ls l (slice_index_or atoms j HostDomain) e (none HostDomain))
+
+kept_outside : (n : ℕ) (ls : List Literal) (l : Literal) (atoms : List Atom) (start end : ℕ) → n ≡ length ls → Covers l atoms start end
+    → KeepsOutside n (map (mark 0 (ls ++ l ∷ [])) atoms) start end
+kept_outside n ls l atoms start end e reach =
+    let long : length (map (mark 0 (ls ++ l ∷ [])) atoms) ≡ length atoms = length-map atoms (mark 0 (ls ++ l ∷ [])) in
+    let inside = reach.inside in
+    let ordered = reach.ordered in
+    record {
+      ordered = reach.ordered;
+      inside = omega arith;
+      before = λ j d low high. kept_at n ls l atoms j d e (omega arith) (λ a. reach.before j a low high);
+      after = λ j d low high. kept_at n ls l atoms j d e (omega arith) (λ a. reach.after j a low (omega arith));
+    }
+
+pub keeps_outside : (path later : List Taken) (s : Taken) (n : ℕ) (atoms : List Atom) (marks : List (Option Decision)) (start end : ℕ)
+    → marks ≡ map (mark 0 (literals_of path)) atoms → n ≡ length later → path ≡ later ++ s ∷ []
+    → Covers (literal_of s) atoms start end → KeepsOutside n marks start end
+keeps_outside path later s n atoms marks start end b e p reach =
+    rw (b, p, literals_push later s) (kept_outside n (literals_of later) (literal_of s) atoms start end (e ∙ sym (length_literals later)) reach)

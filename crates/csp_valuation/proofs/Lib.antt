@@ -1,0 +1,11 @@
+pub mod Ascending
+pub mod Finding
+pub mod Gaining
+pub mod Kept
+pub mod Layers
+pub mod Listed
+pub mod Marking
+pub mod OrderLaws
+pub mod ReachLaws
+pub mod Values
+pub mod Within

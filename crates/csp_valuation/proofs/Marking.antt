@@ -1,0 +1,131 @@
+-- What is marked is what the first literal that decides an atom says, and by which.
+use Rattle.std.proofs.Common.{◌≡◌, ◌∙◌, ℕ, zero, suc, ◌+◌, ◌<◌, ◌≤◌, Bool, false, refl, sym, ap, List, [], ◌∷◌, ◌++◌, length, map, Option, Some, None, arith, get_or, slice_get, take, drop, drop-cons, add-one, append_assoc, length-append, replicate, add-zero, zero-add}
+use Rattle.std.proofs.lemmas.Bool.Decides.{nat_tests}
+use Rattle.std.proofs.lemmas.Option.{slice_get-map, slice_get-get_or}
+use Rattle.std.specs.Option.{option_map}
+use Rattle.std.proofs.Math.ListN.{set}
+use Rattle.std.proofs.lemmas.List.{take_more_set, drop-set-lt}
+use Rattle.std.proofs.Math.Seq.{take-append_seam}
+use Rattle.csp_atom.specs.Follows.{follows}
+use Rattle.csp_formula.specs.Surely.{decided, or_else}
+use Rattle.csp_atom.specs.declared.atom.Atom.{Atom}
+use Rattle.csp_atom.specs.declared.atom.Literal.{Literal}
+use Rattle.csp_valuation.specs.declared.marks.Decision.{Decision}
+use Rattle.csp_valuation.specs.declared.taken.Taken.{Taken}
+use Rattle.csp_valuation.specs.Paths.{literal_of, literals_of}
+use Rattle.csp_valuation.specs.Marks.{answered, mark, marked, all_marked, cleared, forgotten}
+use Rattle.csp_valuation.specs.Valuations.{value_of_atom}
+
+-- taking a literal
+
+answered_taken : (o : Option Bool) (n m : ℕ) (l : Literal) (a : Atom) (r s : Option Decision) → r ≡ marked l m s a → answered o n r ≡ marked l m (answered o n s) a
+answered_taken (Some b) n m l a r s e = refl
+answered_taken None n m l a r s e = e
+
+pub mark_taken : (n : ℕ) (ls : List Literal) (l : Literal) (a : Atom) → mark n (ls ++ l ∷ []) a ≡ marked l (n + length ls) (mark n ls a) a
+mark_taken n [] l a = rw add-zero refl
+mark_taken n (x ∷ ls) l a =
+    let e : n + 1 + length ls ≡ n + suc (length ls) = omega arith in
+    answered_taken (follows x a) n (n + suc (length ls)) l a (mark (n + 1) (ls ++ l ∷ []) a) (mark (n + 1) ls a) (rw (← e) (mark_taken (n + 1) ls l a))
+
+pub all_taken : (ls : List Literal) (l : Literal) (n : ℕ) (atoms : List Atom) → n ≡ length ls → all_marked l n (map (mark 0 ls) atoms) atoms ≡ map (mark 0 (ls ++ l ∷ [])) atoms
+all_taken ls l n [] e = refl
+all_taken ls l n (a ∷ atoms) e =
+    let here : mark 0 (ls ++ l ∷ []) a ≡ marked l n (mark 0 ls a) a = rw (e, ← zero-add (length ls)) (mark_taken 0 ls l a) in
+    rw (here, all_taken ls l n atoms e) refl
+
+-- taking it back
+
+cleared_itself : (o : Option Bool) (n m : ℕ) → n ≡ m → cleared m (answered o n None) ≡ None
+cleared_itself (Some b) n m e = grind (arith, nat_tests)
+cleared_itself None n m e = refl
+
+cleared_before : (o : Option Bool) (n m : ℕ) (r s : Option Decision) → n < m → cleared m r ≡ s → cleared m (answered o n r) ≡ answered o n s
+cleared_before (Some b) n m r s h e = grind (arith, nat_tests)
+cleared_before None n m r s h e = e
+
+pub mark_taken_back : (n m : ℕ) (ls : List Literal) (l : Literal) (a : Atom) → m ≡ n + length ls → cleared m (mark n (ls ++ l ∷ []) a) ≡ mark n ls a
+mark_taken_back n m [] l a e = cleared_itself (follows l a) n m (omega arith)
+mark_taken_back n m (x ∷ ls) l a e = cleared_before (follows x a) n m (mark (n + 1) (ls ++ l ∷ []) a) (mark (n + 1) ls a) (omega arith) (mark_taken_back (n + 1) m ls l a (omega arith))
+
+pub all_taken_back : (ls : List Literal) (l : Literal) (n : ℕ) (atoms : List Atom) → n ≡ length ls → map (cleared n) (map (mark 0 (ls ++ l ∷ [])) atoms) ≡ map (mark 0 ls) atoms
+all_taken_back ls l n [] e = refl
+all_taken_back ls l n (a ∷ atoms) e = rw (mark_taken_back 0 n ls l a (omega arith), all_taken_back ls l n atoms e) refl
+
+-- the value
+
+abbrev pub value_of : Option Decision → Option Bool
+value_of None = None
+value_of (Some m) = Some m.value
+
+value_answered : (o : Option Bool) (n : ℕ) (r : Option Decision) (rest : Option Bool) → value_of r ≡ rest → value_of (answered o n r) ≡ or_else o rest
+value_answered (Some b) n r rest e = refl
+value_answered None n r rest e = e
+
+pub value_mark : (n : ℕ) (ls : List Literal) (a : Atom) → value_of (mark n ls a) ≡ decided ls a
+value_mark n [] a = refl
+value_mark n (l ∷ ls) a = value_answered (follows l a) n (mark (n + 1) ls a) (decided ls a) (value_mark (n + 1) ls a)
+
+-- the value by what stands at a place of the marks
+abbrev pub value_found : Option (Option Decision) → Option Bool
+value_found None = Some false
+value_found (Some m) = value_of m
+
+found_atom : (ls : List Literal) (o : Option Atom) → value_found (option_map (mark 0 ls) o) ≡ value_of_atom ls o
+found_atom ls None = refl
+found_atom ls (Some a) = value_mark 0 ls a
+
+pub value_found_at : (ls : List Literal) (atoms : List Atom) (marks : List (Option Decision)) (place : ℕ) → marks ≡ map (mark 0 ls) atoms →
+    value_found (slice_get marks place) ≡ value_of_atom ls (slice_get atoms place)
+value_found_at ls atoms marks place e = rw (e, slice_get-map (mark 0 ls) atoms place) (found_atom ls (slice_get atoms place))
+
+-- nothing is marked where there are no literals
+pub none_marked : (n : ℕ) (atoms : List Atom) → n ≡ length atoms → replicate n None ≡ map (mark 0 []) atoms
+none_marked n [] e = rw e refl
+none_marked n (a ∷ atoms) e = rw e (ap (λ (ms : List (Option Decision)). None ∷ ms) (none_marked (length atoms) atoms refl))
+
+pub all_forgotten : (ls : List Literal) (atoms : List Atom) → map forgotten (map (mark 0 ls) atoms) ≡ map (mark 0 []) atoms
+all_forgotten ls [] = refl
+all_forgotten ls (a ∷ atoms) = ap (λ (ms : List (Option Decision)). None ∷ ms) (all_forgotten ls atoms)
+
+-- a slice that was written back into its vector
+pub written : {X : Type 0} (n : ℕ) (xs ys : List X) → n ≡ length xs → take n (xs ++ ys) ≡ xs
+written n xs ys e = rw e (take-append_seam xs ys)
+
+-- paths
+
+pub literals_push : (path : List Taken) (s : Taken) → literals_of (path ++ s ∷ []) ≡ literals_of path ++ literal_of s ∷ []
+literals_push [] s = refl
+literals_push (x ∷ path) s = ap (λ (ls : List Literal). literal_of x ∷ ls) (literals_push path s)
+
+pub length_literals : (path : List Taken) → length (literals_of path) ≡ length path
+length_literals [] = refl
+length_literals (x ∷ path) = ap suc (length_literals path)
+
+pub marks_taken : (path later : List Taken) (s : Taken) (n : ℕ) (atoms : List Atom) (before after : List (Option Decision)) → before ≡ map (mark 0 (literals_of path)) atoms → n ≡ length path →
+    after ≡ all_marked (literal_of s) n before atoms → later ≡ path ++ s ∷ [] → after ≡ map (mark 0 (literals_of later)) atoms
+marks_taken path later s n atoms before after b e a p =
+    a ∙ rw (b, p, literals_push path s) (all_taken (literals_of path) (literal_of s) n atoms (e ∙ sym (length_literals path)))
+
+pub marks_taken_back : (path later : List Taken) (s : Taken) (n : ℕ) (atoms : List Atom) (before after : List (Option Decision)) → before ≡ map (mark 0 (literals_of path)) atoms → n ≡ length later →
+    after ≡ map (cleared n) before → path ≡ later ++ s ∷ [] → after ≡ map (mark 0 (literals_of later)) atoms
+marks_taken_back path later s n atoms before after b e a p =
+    a ∙ rw (b, p, literals_push later s) (all_taken_back (literals_of later) (literal_of s) n atoms (e ∙ sym (length_literals later)))
+
+pub room_left : (path later : List Taken) (s : Taken) (room : ℕ) → later ≡ path ++ s ∷ [] → length (literals_of path) < room → length later ≤ room
+room_left path later s room p h = rw p (omega (arith, length_literals path, length-append path (s ∷ [])))
+
+pub forget_one : (ms : List (Option Decision)) (i : ℕ) → i < length ms → take (i + 1) (set ms i None) ++ map forgotten (drop (i + 1) (set ms i None)) ≡ take i ms ++ map forgotten (drop i ms)
+forget_one ms i h = rw (take_more_set ms i None, drop-set-lt (i + 1) ms i None (omega arith), append_assoc, drop-cons ms i None, add-one) refl
+
+-- what is decided stays
+keep : (l : Literal) (n : ℕ) (marks : List (Option Decision)) (atoms : List Atom) (place : ℕ) (m : Decision) → length marks ≡ length atoms → slice_get marks place ≡ Some (Some m) →
+    take (suc place) marks ++ all_marked l n (drop (suc place) marks) (drop (suc place) atoms) ≡ take place marks ++ all_marked l n (drop place marks) (drop place atoms)
+keep l n [] atoms place m e h = cc
+keep l n (x ∷ marks) [] place m e h = absurd (omega arith)
+keep l n (x ∷ marks) (a ∷ atoms) zero m e h = let f : x ≡ Some m = cc in rw f refl
+keep l n (x ∷ marks) (a ∷ atoms) (suc place) m e h = ap (λ (ms : List (Option Decision)). x ∷ ms) (keep l n marks atoms place m (omega arith) h)
+
+pub keep_one : (l : Literal) (n : ℕ) (marks : List (Option Decision)) (atoms : List Atom) (place : ℕ) (m : Decision) → length marks ≡ length atoms → place < length marks → get_or marks place None ≡ Some m →
+    take (place + 1) marks ++ all_marked l n (drop (place + 1) marks) (drop (place + 1) atoms) ≡ take place marks ++ all_marked l n (drop place marks) (drop place atoms)
+keep_one l n marks atoms place m e h f = rw add-one (keep l n marks atoms place m e (slice_get-get_or marks place None h ∙ ap Some f))

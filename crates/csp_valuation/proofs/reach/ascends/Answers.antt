@@ -1,0 +1,13 @@
+use Rattle.std.proofs.Common.{arith, ◌∙◌, sym, ap}
+use Rattle.std.specs.Ordering.{is_gt}
+use Rattle.csp_valuation.proofs.Ascending.{ascends_one, ascends_more, next_at}
+use Rattle.csp_valuation.proofs.reach.ascends.Goals as goal
+
+pub loop-place-init : goal.loop-place-init
+loop-place-init c = ascends_one c.args.atoms.now
+
+pub loop-place-preserved : goal.loop-place-preserved
+loop-place-preserved c =
+    let low = sym (ap is_gt c.compare.ensures) ∙ sym c.is_gt.ensures ∙ c.if-is_gt.false in
+    ascends_more c.args.atoms.now c.loop-place.place (omega arith) c.loop-place.invariant
+    (next_at c.args.atoms.now c.loop-place.place c.index-atoms-place.result c.index-atoms-place-in-loop-place.result (omega arith) c.index-atoms-place.is c.index-atoms-place-in-loop-place.is low)

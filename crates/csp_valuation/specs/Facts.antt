@@ -1,0 +1,40 @@
+-- The atoms that stand in a sentence, and sets of atoms that gain some.
+use Rattle.std.specs.Prelude.{◌≡◌, ◌++◌, ◌||◌, Bool, List, [], ◌∷◌}
+use Rattle.std.specs.BTreeSet.{BTreeSet, contains_by}
+use Rattle.std.specs.List.{Contains, flat_map, list_any}
+use Rattle.std.specs.Ordering.{is_eq}
+use Rattle.csp_atom.specs.declared.atom.Atom.{Atom}
+use Rattle.csp_formula.specs.Sentences.{Sentence, Known, Fact, Not, Both, Either, sentence_of}
+use Rattle.csp_formula.specs.declared.formula.Formula.{Formula}
+use Rattle.csp_valuation.specs.Order.{atom_cmp}
+use Rattle.csp_valuation.specs.Reach.{Ascends}
+use Rattle.csp_valuation.specs.declared.key.Key.{Key}
+
+abbrev pub atoms_in : Sentence → List Atom
+atoms_in (Known b) = []
+atoms_in (Fact atom) = atom ∷ []
+atoms_in (Not x) = atoms_in x
+atoms_in (Both x y) = atoms_in x ++ atoms_in y
+atoms_in (Either x y) = atoms_in x ++ atoms_in y
+
+-- the atoms that stand in some of the formulas
+abbrev pub facts_of : List Formula → List Atom
+facts_of formulas = flat_map (λ (formula : Formula). atoms_in (sentence_of formula)) formulas
+
+-- the list ascends and has each of these atoms
+pub record IsListOf (atoms wanted : List Atom) : Type 0 where
+  pub ascends : Ascends atoms
+  pub has : (atom : Atom) → Contains wanted atom → Contains atoms atom
+
+abbrev pub has_atom : List Atom → Atom → Bool
+has_atom atoms atom = list_any (λ (other : Atom). is_eq (atom_cmp other atom)) atoms
+
+abbrev pub is_seen : BTreeSet Key → Atom → Bool
+is_seen seen atom = contains_by (λ (key : Key). atom_cmp atom key.atom.now) seen
+
+-- the set has what it had, and these
+abbrev pub Gains : BTreeSet Key → BTreeSet Key → List Atom → Type 0
+Gains old new atoms = (atom : Atom) → is_seen new atom ≡ (is_seen old atom || has_atom atoms atom)
+
+abbrev pub atom_of : Key → Atom
+atom_of key = key.atom.now

@@ -1,0 +1,10 @@
+-- The literals of a path, the root's first.
+use Rattle.std.specs.Prelude.{List, map}
+use Rattle.csp_atom.specs.declared.atom.Literal.{Literal}
+use Rattle.csp_valuation.specs.declared.taken.Taken.{Taken}
+
+abbrev pub literal_of : Taken → Literal
+literal_of taken = record { atom = taken.atom.now; positive = taken.positive }
+
+abbrev pub literals_of : List Taken → List Literal
+literals_of path = map literal_of path

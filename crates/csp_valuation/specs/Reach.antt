@@ -1,0 +1,67 @@
+-- Which atoms a literal can decide, by their places in a list that ascends.
+use Rattle.std.specs.Prelude.{◌≡◌, ℕ, ◌≤◌, ◌<◌, Bool, false, true, not, List, length, Option, None, if◌then◌else◌, nat_lt}
+use Rattle.std.specs.List.{AllWithin, slice_index_or}
+use Rattle.std.specs.Ordering.{is_lt, is_gt}
+use Rattle.csp_atom.specs.Follows.{follows}
+use Rattle.csp_atom.specs.declared.atom.Atom.{Atom}
+use Rattle.csp_atom.specs.declared.atom.Atom.TheVariants.{HostIs, HostUnder, HostDomain, PortIs, PathIs, PathUnder, SchemeIs, NonceIs, IntegrityHas, IntegrityOutside, DigestIs}
+use Rattle.csp_atom.specs.declared.atom.Literal.{Literal}
+use Rattle.csp_valuation.specs.Marks.{cleared}
+use Rattle.csp_valuation.specs.Order.{rank, atom_cmp}
+use Rattle.csp_valuation.specs.declared.marks.Decision.{Decision}
+
+-- no atom is above a later one
+abbrev pub Ascends : List Atom → Type 0
+Ascends atoms = (i j : ℕ) (d : Atom) → i ≤ j → j < length atoms
+    → is_gt (atom_cmp (slice_index_or atoms i d) (slice_index_or atoms j d)) ≡ false
+
+-- the literal of this atom and sign decides no other atom
+abbrev pub decides_itself_alone : Atom → Bool → Bool
+decides_itself_alone (HostIs host) positive = not positive
+decides_itself_alone (PortIs n) positive = not positive
+decides_itself_alone (PathIs pieces) positive = not positive
+decides_itself_alone (SchemeIs scheme) positive = not positive
+decides_itself_alone (NonceIs value) positive = not positive
+decides_itself_alone (DigestIs digest) positive = not positive
+decides_itself_alone (IntegrityHas hash) positive = true
+decides_itself_alone IntegrityOutside positive = true
+decides_itself_alone atom positive = false
+
+-- the ranks of the kinds that speak of the same part of a check
+abbrev pub first_rank : Atom → ℕ
+first_rank (HostUnder suffix) = 0
+first_rank HostDomain = 0
+first_rank (PathUnder pieces) = 4
+first_rank atom = rank atom
+
+abbrev pub last_rank : Atom → ℕ
+last_rank (HostIs host) = 2
+last_rank (HostUnder suffix) = 2
+last_rank (PathIs pieces) = 5
+last_rank atom = rank atom
+
+-- the atom stands before all that the literal can decide
+abbrev pub is_before : Literal → Atom → Bool
+is_before literal atom =
+    if decides_itself_alone literal.atom literal.positive then is_lt (atom_cmp atom literal.atom)
+    else nat_lt (rank atom) (first_rank literal.atom)
+
+-- it stands after them
+abbrev pub is_after : Literal → Atom → Bool
+is_after literal atom =
+    if decides_itself_alone literal.atom literal.positive then is_gt (atom_cmp atom literal.atom)
+    else nat_lt (last_rank literal.atom) (rank atom)
+
+-- the literal decides none of the atoms outside of these places
+pub record Covers (literal : Literal) (atoms : List Atom) (start end : ℕ) : Type 0 where
+  pub ordered : start ≤ end
+  pub inside : end ≤ length atoms
+  pub before : AllWithin (λ atom. follows literal atom ≡ None) atoms 0 start
+  pub after : AllWithin (λ atom. follows literal atom ≡ None) atoms end (length atoms)
+
+-- the literal of this number gave none of the marks outside of these places
+pub record KeepsOutside (by : ℕ) (marks : List (Option Decision)) (start end : ℕ) : Type 0 where
+  pub ordered : start ≤ end
+  pub inside : end ≤ length marks
+  pub before : AllWithin (λ mark. cleared by mark ≡ mark) marks 0 start
+  pub after : AllWithin (λ mark. cleared by mark ≡ mark) marks end (length marks)

@@ -1,0 +1,21 @@
+//! Partial assignments of truth values to atoms along paths of literals, which a checker of proofs and a search
+//! for them walk with, and formulas over places in a list of atoms.
+//!
+//! Once a valuation is made, no call takes memory.
+#![tactic(auto)]
+
+mod collecting;
+mod key;
+mod marks;
+mod order;
+mod placed;
+mod placing;
+mod reach;
+mod taken;
+mod valuation;
+mod waiting;
+
+pub use placed::PlacedFormula;
+pub use placing::{PlacedFormulas, place_formulas};
+pub use taken::Taken;
+pub use valuation::Valuation;

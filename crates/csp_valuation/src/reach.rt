@@ -1,0 +1,109 @@
+//! The places of the atoms that a literal can decide, where the atoms of a list ascend.
+ghost use Rattle.std.specs.Prelude.{◌≡◌, true};
+ghost use Rattle.csp_valuation.specs.Paths.{literal_of};
+ghost use Rattle.csp_valuation.specs.Reach as spec;
+
+use crate::order::{compare, rank};
+use crate::taken::Taken;
+use csp_atom::Atom;
+
+// The places from `start` on, up to `end` and without it.
+#[derive(Clone, Copy, Debug)]
+pub(crate) struct Reach {
+    pub(crate) start: usize,
+    pub(crate) end: usize,
+}
+
+// Whether no atom is above a later one.
+pub(crate) fn ascends(atoms: &[Atom]) -> bool
+    ensures { result ≡ true → spec.Ascends atoms.now }
+{
+    for place in 1..atoms.len() {
+        if compare(&atoms[place - 1], &atoms[place]).is_gt() {
+            return false;
+        }
+    }
+    true
+}
+
+// Places outside of which the literal decides no atom: all, where it isn't known that the atoms ascend.
+pub(crate) fn reach_of(literal: Taken, atoms: &[Atom], ascending: bool) -> Reach
+    requires { ascending ≡ true → spec.Ascends atoms.now }
+    ensures { spec.Covers (literal_of literal.entry) atoms.now result.start result.end }
+{
+    if ascending {
+        reach_by_order(literal, atoms)
+    } else {
+        Reach {
+            start: 0,
+            end: atoms.len(),
+        }
+    }
+}
+
+fn reach_by_order(literal: Taken, atoms: &[Atom]) -> Reach
+    requires { spec.Ascends atoms.now }
+    ensures { spec.Covers (literal_of literal.entry) atoms.now result.start result.end }
+{
+    let start = atoms.partition_point(|atom| is_before(literal, atom));
+    let end = atoms.partition_point(|atom| !is_after(literal, atom));
+    Reach { start, end }
+}
+
+fn is_before(literal: Taken, atom: &Atom) -> bool
+    ensures { result ≡ spec.is_before (literal_of literal.entry) atom.now }
+{
+    if decides_itself_alone(literal.atom, literal.positive) {
+        compare(atom, literal.atom).is_lt()
+    } else {
+        rank(atom) < first_rank(literal.atom)
+    }
+}
+
+fn is_after(literal: Taken, atom: &Atom) -> bool
+    ensures { result ≡ spec.is_after (literal_of literal.entry) atom.now }
+{
+    if decides_itself_alone(literal.atom, literal.positive) {
+        compare(atom, literal.atom).is_gt()
+    } else {
+        last_rank(literal.atom) < rank(atom)
+    }
+}
+
+// Whether the literal of this atom and sign decides no other atom. Most positive ones decide a whole kind.
+fn decides_itself_alone(atom: &Atom, positive: bool) -> bool
+    ensures { result ≡ spec.decides_itself_alone atom.now positive }
+{
+    match atom {
+        Atom::HostIs(_)
+        | Atom::PortIs(_)
+        | Atom::PathIs(_)
+        | Atom::SchemeIs(_)
+        | Atom::NonceIs(_)
+        | Atom::DigestIs(_) => !positive,
+        Atom::IntegrityHas(_) | Atom::IntegrityOutside => true,
+        Atom::HostUnder(_) | Atom::HostDomain | Atom::PathUnder(_) => false,
+    }
+}
+
+// The least rank of a kind that speaks of the same part of a check.
+fn first_rank(atom: &Atom) -> u8
+    ensures { result ≡ spec.first_rank atom.now }
+{
+    match atom {
+        Atom::HostUnder(_) | Atom::HostDomain => 0,
+        Atom::PathUnder(_) => 4,
+        _ => rank(atom),
+    }
+}
+
+// The greatest.
+fn last_rank(atom: &Atom) -> u8
+    ensures { result ≡ spec.last_rank atom.now }
+{
+    match atom {
+        Atom::HostIs(_) | Atom::HostUnder(_) => 2,
+        Atom::PathIs(_) => 5,
+        _ => rank(atom),
+    }
+}

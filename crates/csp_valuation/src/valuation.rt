@@ -1,0 +1,168 @@
+//! The partial assignment that the literals of a path give.
+ghost use Rattle.std.specs.Prelude.{◌≡◌, ◌<◌, ◌++◌, [], ◌∷◌, ℕ, length, IfOk, MatchOption, IsSome, None};
+ghost use Rattle.csp_formula.specs.Surely.{surely};
+ghost use Rattle.csp_valuation.specs.Paths.{literal_of, literals_of};
+ghost use Rattle.csp_valuation.specs.Placed.{sentence_at};
+ghost use Rattle.csp_valuation.specs.Valuations.{value_at};
+
+use crate::marks::{Decision, clear_within, forget_all, mark_within};
+use crate::placed::{PlacedFormula, value_under};
+use crate::reach::{ascends, reach_of};
+use crate::taken::Taken;
+use crate::waiting::waits_on;
+use csp_atom::Atom;
+use csp_model::{List, Memory};
+use std::alloc::Global;
+use std::marker::Model;
+
+/// What the literals of a path decide of each atom of a list: the first of them, from the root, that decides
+/// an atom gives it its value. A literal's own atom needn't be in the list.
+///
+/// In a list that ascends, as `place_formulas` makes it, a literal that decides no atom but its own is taken and
+/// taken back by a binary search, and any other in time linear in the atoms on the same part of a check. In other
+/// lists each literal takes time linear in all atoms.
+#[derive(Debug, Drop)]
+pub struct Valuation<'a> {
+    atoms: Vec<Atom>,
+    marks: Vec<Option<Decision>>,
+    path: Vec<Taken<'a>>,
+    room: usize,
+    ascending: bool,
+}
+
+impl<'a> Model for Valuation<'a> {
+    ghost use Rattle.std.specs.Prelude.{◌≡◌, ◌≤◌, length, map, true, vec_capacity};
+    ghost use Rattle.csp_valuation.specs.Marks.{mark};
+    ghost use Rattle.csp_valuation.specs.Paths.{literals_of};
+    ghost use Rattle.csp_valuation.specs.Reach.{Ascends};
+    ghost use Rattle.csp_valuation.specs.Valuations.{Assignment};
+
+    ghost Value = { Assignment };
+
+    ghost view = { λ v. record {
+      atoms = v.atoms.items;
+      literals = literals_of v.path.items;
+      room = v.room;
+    } };
+
+    ghost invariant = { λ v. (v.marks.items ≡ map (mark 0 (literals_of v.path.items)) v.atoms.items)
+        × (length v.path.items ≤ v.room) × (v.room ≤ vec_capacity v.path)
+        × (v.ascending ≡ true → Ascends v.atoms.items) };
+}
+
+impl<'a> Valuation<'a> {
+    /// The valuation of these atoms under no literal, with room for a path of this many.
+    pub fn new(alloc: Global, atoms: List<Atom>, room: usize) -> Result<Valuation<'a>, Memory>
+        ensures { IfOk result (λ made. made ≡ record { atoms = atoms; literals = []; room = room }) }
+    {
+        let atoms = atoms.into_vec();
+        let marks = vec![in alloc; None; atoms.len()]?;
+        let path = Vec::with_capacity(alloc, room)?;
+        let ascending = ascends(&atoms);
+        Ok(Valuation {
+            atoms,
+            marks,
+            path,
+            room,
+            ascending,
+        })
+    }
+
+    /// Takes a literal: the path goes on with it.
+    pub fn take(&mut self, literal: Taken<'a>)
+        requires { length self.old.literals < self.old.room }
+        ensures { self.new
+            ≡ record self.old { literals = self.old.literals ++ literal_of literal.entry ∷ [] } }
+    {
+        let reach = reach_of(literal, &self.atoms, self.ascending);
+        mark_within(
+            reach,
+            &mut self.marks,
+            &self.atoms,
+            literal,
+            self.path.len(),
+        );
+        self.path.push(literal).unwrap();
+    }
+
+    /// Takes the last literal back, if there is one: all is as before it was taken.
+    pub fn take_back(&mut self) -> Option<Taken<'a>>
+        ensures { MatchOption result
+            ((self.old.literals ≡ []) × (self.new ≡ self.old))
+            (λ last. (self.old
+            ≡ record self.new { literals = self.new.literals ++ literal_of last ∷ [] })
+            × (length self.new.literals < self.new.room)) }
+    {
+        let last = self.path.pop()?;
+        let reach = reach_of(last, &self.atoms, self.ascending);
+        clear_within(reach, &mut self.marks, self.path.len());
+        Some(last)
+    }
+
+    /// Goes back to the root, where no literal is taken.
+    pub fn clear(&mut self)
+        ensures { self.new ≡ record self.old { literals = [] } }
+    {
+        forget_all(&mut self.marks);
+        self.path.clear();
+    }
+
+    /// The atoms, each at its place.
+    pub fn atoms(&self) -> &[Atom]
+        ensures { result.now ≡ self.now.atoms }
+    {
+        self.atoms.as_slice()
+    }
+
+    /// The literals of the path, that of the root first.
+    pub fn path(&self) -> &[Taken<'a>]
+        ensures { literals_of result.now ≡ self.now.literals }
+    {
+        self.path.as_slice()
+    }
+
+    /// The value of the atom at a place, where the path decides it. What stands at no place doesn't hold.
+    pub fn value(&self, place: usize) -> Option<bool>
+        ensures { result ≡ value_at self.now place }
+    {
+        match self.marks.get(place) {
+            Some(Some(decision)) => Some(decision.value),
+            Some(None) => None,
+            None => Some(false),
+        }
+    }
+
+    /// The value of the formula, where the path decides it.
+    pub fn value_of(&self, formula: &PlacedFormula) -> Option<bool>
+        ensures { result ≡ surely self.now.literals (sentence_at self.now.atoms formula.now) }
+    {
+        value_under(self, formula)
+    }
+
+    /// The place of a fact of the formula that the path doesn't decide, nor any part of the formula that the fact
+    /// stands in. There is one exactly where the path doesn't decide the formula.
+    pub fn undecided_in(&self, formula: &PlacedFormula) -> Option<usize>
+        ensures { MatchOption result
+            (IsSome (surely self.now.literals (sentence_at self.now.atoms formula.now)))
+            (λ place. (surely self.now.literals (sentence_at self.now.atoms formula.now) ≡ None)
+            × (value_at self.now place ≡ None)) }
+    {
+        waits_on(self, formula)
+    }
+
+    /// The first place whose atom the path doesn't decide.
+    pub fn undecided(&self) -> Option<usize>
+        ensures { MatchOption result
+            ((place : ℕ) → IsSome (value_at self.now place))
+            (λ place. (place < length self.now.atoms)
+            × (value_at self.now place ≡ None)
+            × ((before : ℕ) → before < place → IsSome (value_at self.now before))) }
+    {
+        for place in 0..self.atoms.len() {
+            if self.value(place).is_none() {
+                return Some(place);
+            }
+        }
+        None
+    }
+}
