@@ -1,0 +1,5 @@
+use Rattle.csp_proof.proofs.ShapesListed.{numbered}
+use Rattle.csp_proof.proofs.laws.shapes_are_in_order.Goals as goal
+
+pub returns : goal.returns
+returns c = numbered
