@@ -1,0 +1,165 @@
+//! A cell, and the two that an atom splits it into.
+ghost use Rattle.std.specs.Prelude.{◌≡◌, ◌↔◌, [], ◌∷◌, ◌++◌, All, Any, AllPairs, IfOk, OnOk, MatchOption, List as Items, None, Some, true, false, not, filter};
+ghost use Rattle.csp_atom.specs.Atoms.{BelongsTo, Holds, IsValidAtom};
+ghost use Rattle.csp_atom.specs.Follows.{follows};
+ghost use Rattle.csp_atom.specs.declared.atom.Atom.{Atom as AtomValue};
+ghost use Rattle.csp_cell.specs.Cells.{IsCell, IsOf, Meets, StandTogether, Takes, decided, places};
+ghost use Rattle.csp_cell.specs.Inside.{Adds};
+ghost use Rattle.csp_model.specs.declared.check.Check.{Check as CheckValue};
+ghost use Rattle.csp_model.specs.declared.source.Hash.{Hash as HashValue};
+ghost use Rattle.csp_shape.specs.Shapes.{looks_at};
+
+use crate::implies::{first_decided, needed_beside};
+use csp_atom::{Atom, Literal};
+use csp_model::{Duplicate, Memory};
+use csp_shape::Shape;
+use std::alloc::Global;
+use std::marker::Model;
+
+/// The checks of one shape of which each of some literals is true. No literal refutes another, and none decides
+/// all that another decides.
+#[derive(Debug, Drop)]
+pub struct Cell {
+    alloc: Global,
+    shape: Shape,
+    placing: Vec<Literal>,
+    others: Vec<Literal>,
+}
+
+impl Model for Cell {
+    ghost use Rattle.csp_cell.specs.Cells.{Region};
+    ghost use Rattle.csp_cell.specs.Inside.{IsMade, region_of};
+
+    ghost Value = { Region };
+
+    ghost view = { region_of };
+
+    ghost invariant = { IsMade };
+}
+
+impl Cell {
+    /// The cell of all checks of a shape.
+    pub fn new(alloc: Global, shape: Shape) -> Cell
+        ensures { result ≡ record { shape = shape; literals = [] } }
+    {
+        Cell {
+            alloc,
+            shape,
+            placing: Vec::new(alloc),
+            others: Vec::new(alloc),
+        }
+    }
+
+    /// The shape of the cell's checks.
+    pub fn shape(&self) -> Shape
+        ensures shape { result ≡ self.now.shape }
+        ensures each { All (IsOf result) self.now.literals }
+        ensures together { AllPairs StandTogether self.now.literals }
+    {
+        self.shape
+    }
+
+    /// The positive literals, but for those on integrity metadata. There is at most one on the host, on the port, on
+    /// the path, on the scheme of a URL without a host, on the nonce and on the digest of each algorithm.
+    pub fn placing(&self) -> &[Literal]
+        ensures { result.now ≡ filter places self.now.literals }
+    {
+        &self.placing
+    }
+
+    /// The denials, and the literals on integrity metadata.
+    pub fn others(&self) -> &[Literal]
+        ensures { result.now ≡ filter (λ literal. not (places literal)) self.now.literals }
+    {
+        &self.others
+    }
+
+    /// The value that the atom has for each check of the cell, where a literal of the cell decides it.
+    pub fn value(&self, atom: &Atom) -> Option<bool>
+        ensures first { result ≡ decided self.now.literals atom.now }
+        ensures some { MatchOption result
+            (All (λ literal. follows literal atom.now ≡ None) self.now.literals)
+            (λ value. Any (λ literal. follows literal atom.now ≡ Some value) self.now.literals) }
+    {
+        match first_decided(&self.placing, atom) {
+            Some(value) => Some(value),
+            None => first_decided(&self.others, atom),
+        }
+    }
+
+    /// The cell of its checks that have the fact, and that of those that don't. Of the cell's literals each has
+    /// those that its new one doesn't make needless.
+    pub fn split(&self, atom: &Atom) -> Result<(Cell, Cell), Memory>
+        requires undecided { decided self.now.literals atom.now ≡ None }
+        requires valid { IsValidAtom atom.now }
+        requires belongs { BelongsTo (looks_at self.now.shape) atom.now }
+        ensures shape { IfOk result (λ cells. (cells.0.shape ≡ self.now.shape) × (cells.1.shape ≡ self.now.shape)) }
+        ensures first { IfOk result (λ cells.
+            Takes self.now.literals (record { atom = atom.now; positive = true }) cells.0.literals) }
+        ensures second { IfOk result (λ cells.
+            Takes self.now.literals (record { atom = atom.now; positive = false }) cells.1.literals) }
+        ensures first_decides { IfOk result (λ cells. (asked : AtomValue) → decided cells.0.literals asked
+            ≡ decided (self.now.literals ++ record { atom = atom.now; positive = true } ∷ []) asked) }
+        ensures second_decides { IfOk result (λ cells. (asked : AtomValue) → decided cells.1.literals asked
+            ≡ decided (self.now.literals ++ record { atom = atom.now; positive = false } ∷ []) asked) }
+        ensures first_meets { IfOk result (λ cells. (hashes : Items HashValue) (asked : CheckValue)
+            → (Meets hashes asked cells.0.literals
+            ↔ (Meets hashes asked self.now.literals × Holds hashes asked atom.now))) }
+        ensures second_meets { IfOk result (λ cells. (hashes : Items HashValue) (asked : CheckValue)
+            → (Meets hashes asked cells.1.literals
+            ↔ (Meets hashes asked self.now.literals × ¬ Holds hashes asked atom.now))) }
+    {
+        let first = self.with(atom, true)?;
+        let second = self.with(atom, false)?;
+        Ok((first, second))
+    }
+
+    // The cell with one more literal.
+    fn with(&self, atom: &Atom, positive: bool) -> Result<Cell, Memory>
+        requires undecided { decided self.now.literals atom.now ≡ None }
+        requires valid { IsValidAtom atom.now }
+        requires belongs { BelongsTo (looks_at self.now.shape) atom.now }
+        ensures shape { IfOk result (λ cell. cell.shape ≡ self.now.shape) }
+        ensures takes { IfOk result (λ cell.
+            Takes self.now.literals (record { atom = atom.now; positive = positive }) cell.literals) }
+        ensures decides { IfOk result (λ cell. (asked : AtomValue) → decided cell.literals asked
+            ≡ decided (self.now.literals ++ record { atom = atom.now; positive = positive } ∷ []) asked) }
+    {
+        let literal = Literal {
+            atom: atom.copy(self.alloc)?,
+            positive,
+        };
+        let mut placing = needed_beside(self.alloc, &literal, &self.placing)?;
+        let mut others = needed_beside(self.alloc, &literal, &self.others)?;
+        add(&mut placing, &mut others, literal)?;
+        Ok(Cell {
+            alloc: self.alloc,
+            shape: self.shape,
+            placing,
+            others,
+        })
+    }
+}
+
+// Adds the literal to the part that is its own.
+fn add(
+    placing: &mut Vec<Literal>,
+    others: &mut Vec<Literal>,
+    literal: Literal,
+) -> Result<(), Memory>
+    ensures { OnOk result (Adds placing.old.items others.old.items literal placing.new.items others.new.items) }
+{
+    if is_placing(&literal) {
+        placing.push(literal)?;
+    } else {
+        others.push(literal)?;
+    }
+    Ok(())
+}
+
+// Whether the literal says what one part of a check is, or within what it lies.
+fn is_placing(literal: &Literal) -> bool
+    ensures { result ≡ places literal.now }
+{
+    literal.positive && !matches!(literal.atom, Atom::IntegrityHas(_) | Atom::IntegrityOutside)
+}
