@@ -1,6 +1,5 @@
 -- A literal covers what it makes true, and nothing else.
-use Rattle.std.proofs.Common.{◌≡◌, ◌≢◌, ◌∙◌, Bool, true, false, Option, Some, None, refl, sym, ap}
-use Rattle.std.proofs.lemmas.Bool.{false≢true}
+use Rattle.std.proofs.Common.{◌≡◌, ◌∙◌, Bool, true, false, Option, Some, None, refl, ap}
 use Rattle.csp_atom.proofs.Own.{own}
 use Rattle.csp_atom.specs.Follows.{follows}
 use Rattle.csp_atom.specs.declared.atom.Literal.{Literal}

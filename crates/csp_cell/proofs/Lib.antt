@@ -1,7 +1,14 @@
 pub mod Covering
+pub mod Inserting
+pub mod LookupIs
+pub mod LookupLaws
+pub mod LookupPaths
 pub mod Making
 pub mod Once
+pub mod OrderLaws
 pub mod Parts
+pub mod SameAtom
+pub mod Searching
 pub mod Splitting
 pub mod Taking
 pub mod Through

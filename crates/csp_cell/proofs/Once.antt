@@ -7,11 +7,11 @@ use Rattle.csp_model.specs.DecideEquality.{same_host}
 use Rattle.csp_model.specs.declared.check.Digest.TheVariants.{Sha256, Sha384, Sha512}
 use Rattle.csp_atom.proofs.Refutes.{refutes_back}
 use Rattle.csp_atom.specs.Atoms.{part_of}
-use Rattle.csp_atom.specs.Follows.{lies_within, same_path, nested, follows_true, follows, Refutes}
+use Rattle.csp_atom.specs.Follows.{lies_within, same_path, nested, follows_true}
 use Rattle.csp_atom.specs.declared.atom.Atom.{Atom}
-use Rattle.csp_atom.specs.declared.atom.Atom.TheVariants.{HostIs, HostUnder, HostDomain, PortIs, PathIs, PathUnder, SchemeIs, NonceIs, IntegrityHas, IntegrityOutside, DigestIs}
+use Rattle.csp_atom.specs.declared.atom.Atom.TheVariants.{HostIs, HostUnder, HostDomain, PortIs, PathIs, PathUnder, SchemeIs, NonceIs, DigestIs}
 use Rattle.csp_atom.specs.declared.atom.Literal.{Literal}
-use Rattle.csp_cell.specs.Cells.{Covers, StandTogether, implies, is_integrity, places}
+use Rattle.csp_cell.specs.Cells.{StandTogether, is_integrity}
 use Rattle.csp_cell.specs.Inside.{IsPlacing}
 use Rattle.csp_cell.proofs.Covering.{covers_implied}
 

@@ -1,11 +1,11 @@
 -- The two parts of a cell: what they decide together, and what a literal adds to one of them.
-use Rattle.std.proofs.Common.{◌≡◌, ◌≢◌, ◌∙◌, Bool, true, false, not, List, [], ◌∷◌, ◌++◌, filter, length, Option, Some, None, MatchOption, All, Any, refl, sym, ap, subst, append_assoc, arith, suc, ◌<◌}
+use Rattle.std.proofs.Common.{◌≡◌, ◌∙◌, Bool, true, false, not, List, [], ◌∷◌, ◌++◌, filter, Option, Some, None, MatchOption, All, Any, refl, sym, ap, append_assoc, arith, suc}
 use Rattle.std.proofs.lemmas.List.{append-nil}
-use Rattle.std.proofs.lemmas.List.Elements.{All-head, All-tail, All-push, All-filter, filter-append}
+use Rattle.std.proofs.lemmas.List.Elements.{All-head, All-tail, All-push, filter-append}
 use Rattle.csp_atom.specs.Follows.{follows}
 use Rattle.csp_atom.specs.declared.atom.Atom.{Atom}
 use Rattle.csp_atom.specs.declared.atom.Literal.{Literal}
-use Rattle.csp_cell.specs.Cells.{or_else, decided, implies, needed_beside, Takes, Region, IsCell, IsOf, places}
+use Rattle.csp_cell.specs.Cells.{or_else, decided, implies, needed_beside, Takes, places}
 use Rattle.csp_cell.specs.Inside.{IsPlacing, IsOther, Adds}
 use Rattle.csp_cell.proofs.Taking.{all_none}
 
@@ -36,13 +36,7 @@ adds_placing p o l e = record {
   list = (p, o, refl, append_assoc p (l ∷ []) o);
   first = λ all. All-push IsPlacing p l all e;
   second = λ all. all;
-}
-
-pub adds_other : (p o : List Literal) (l : Literal) → places l ≡ false → Adds p o l p (o ++ l ∷ [])
-adds_other p o l e = record {
-  list = (p ++ o, [], append-nil (p ++ o), sym (append_assoc p o (l ∷ [])));
-  first = λ all. all;
-  second = λ all. All-push IsOther o l all e;
+  rises = λ up. up;
 }
 
 pub takes_added : (l : Literal) (p o new_p new_o : List Literal) → Adds (needed_beside l p) (needed_beside l o) l new_p new_o

@@ -1,12 +1,11 @@
 -- The new literal and those that are needed beside it are a cell, which a check meets where it meets the old one
 -- and the literal is true of it.
-use Rattle.std.proofs.Common.{◌≡◌, ◌∙◌, Bool, true, false, not, if◌then◌else◌, List, [], ◌∷◌, ◌++◌, filter, Option, Some, None, All, AllPairs, IfSome, IsTrue, refl, sym, ap, subst, ◌↔◌}
+use Rattle.std.proofs.Common.{◌≡◌, ◌∙◌, Bool, true, false, not, if◌then◌else◌, List, [], ◌∷◌, ◌++◌, Some, None, AllPairs, IfSome, IsTrue, refl, sym, subst, ◌↔◌}
 use Rattle.std.proofs.lemmas.Bool.{false≢true}
-use Rattle.std.proofs.lemmas.List.Elements.{All-filter, All-push, All-weaker, filter_passes}
+use Rattle.std.proofs.lemmas.List.Elements.{All-filter, filter_passes}
 use Rattle.std.proofs.lemmas.List.Kept.{AllPairs-filter}
 use Rattle.std.proofs.lemmas.List.Quantifiers.{all_pairs_push}
 use Rattle.std.specs.Bool.{Decides}
-use Rattle.csp_model.proofs.Deciding.{fails}
 use Rattle.csp_model.specs.declared.check.Check.{Check}
 use Rattle.csp_model.specs.declared.source.Hash.{Hash}
 use Rattle.csp_atom.proofs.HoldingDecided.{holds_decides}
@@ -17,7 +16,7 @@ use Rattle.csp_atom.specs.Follows.{follows, Refutes}
 use Rattle.csp_atom.specs.Holding.{holds, is_true_of}
 use Rattle.csp_atom.specs.declared.atom.Atom.{Atom}
 use Rattle.csp_atom.specs.declared.atom.Literal.{Literal}
-use Rattle.csp_cell.specs.Cells.{Region, IsCell, IsOf, Meets, StandTogether, Covers, decided, implies, needed_beside, Takes}
+use Rattle.csp_cell.specs.Cells.{Region, IsCell, IsOf, Meets, StandTogether, Covers, decided, implies, Takes}
 use Rattle.csp_cell.proofs.Covering.{implied, implies_covered}
 use Rattle.csp_cell.proofs.Taking.{pairs_insert, all_taken, all_given, all_none, DontRefute, decides_same}
 

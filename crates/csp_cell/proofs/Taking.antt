@@ -1,15 +1,14 @@
 -- A list that takes a literal: what holds of it, and what it decides.
-use Rattle.std.proofs.Common.{◌≡◌, ◌≢◌, ◌∙◌, ℕ, ◌<◌, suc, Bool, true, false, not, cond, List, [], ◌∷◌, ◌++◌, length, filter, Option, Some, None, All, AllPairs, IfSome, IsTrue, arith, refl, sym, ap, subst, ◌⊎◌, inl, inr, ◌↔◌}
-use Rattle.std.proofs.lemmas.Bool.{false≢true}
+use Rattle.std.proofs.Common.{◌≡◌, ◌∙◌, suc, Bool, true, false, not, cond, List, [], ◌∷◌, ◌++◌, filter, Option, Some, None, All, AllPairs, arith, refl, sym, subst, ◌⊎◌, inl, inr}
 use Rattle.std.proofs.lemmas.List.{append-nil}
-use Rattle.std.proofs.lemmas.List.Elements.{All-cons, All-head, All-tail, All-nil, All-filter, All-push, All-weaker, filter_passes}
-use Rattle.std.proofs.lemmas.List.Kept.{AllPairs-cons, AllPairs-filter}
+use Rattle.std.proofs.lemmas.List.Elements.{All-cons, All-head, All-tail, All-nil, All-filter, All-push, All-weaker}
+use Rattle.std.proofs.lemmas.List.Kept.{AllPairs-cons}
 use Rattle.csp_atom.proofs.Refutes.{refutes_back}
 use Rattle.csp_atom.specs.Follows.{follows, Refutes}
 use Rattle.csp_atom.specs.declared.atom.Atom.{Atom}
 use Rattle.csp_atom.specs.declared.atom.Literal.{Literal}
-use Rattle.csp_cell.specs.Cells.{or_else, decided, Covers, StandTogether, implies, needed_beside, Takes}
-use Rattle.csp_cell.proofs.Covering.{implied, implies_covered}
+use Rattle.csp_cell.specs.Cells.{or_else, decided, implies, Takes}
+use Rattle.csp_cell.proofs.Covering.{implied}
 use Rattle.csp_cell.proofs.Through.{through}
 
 -- Lists with one item more
@@ -26,10 +25,10 @@ module _ {X : Type 0} where
       let (rest, here) = all_remove P front back x (All-tail P f (front ++ x ∷ back) all) in
       (All-cons P f (front ++ back) (All-head P f (front ++ x ∷ back) all) rest, here)
 
-  pairs_head : (R : X → X → Type 0) (x : X) (xs : List X) → AllPairs R (x ∷ xs) → All (R x) xs
+  pub pairs_head : (R : X → X → Type 0) (x : X) (xs : List X) → AllPairs R (x ∷ xs) → All (R x) xs
   pairs_head R x xs pairs k d h = pairs 0 (suc k) d (omega arith) (omega arith)
 
-  pairs_tail : (R : X → X → Type 0) (x : X) (xs : List X) → AllPairs R (x ∷ xs) → AllPairs R xs
+  pub pairs_tail : (R : X → X → Type 0) (x : X) (xs : List X) → AllPairs R (x ∷ xs) → AllPairs R xs
   pairs_tail R x xs pairs i j d low h = pairs (suc i) (suc j) d (omega arith) (omega arith)
 
   pub pairs_insert : (R : X → X → Type 0) (front back : List X) (x : X) → AllPairs R (front ++ back)

@@ -1,22 +1,19 @@
 -- What a literal makes true decides nothing that the literal doesn't decide alike.
-use Rattle.std.proofs.Common.{◌≡◌, ◌==◌, ◌∙◌, ℕ, Bool, true, false, not, List, [], ◌∷◌, ◌++◌, Option, Some, None, IfSome, refl, sym, ap, subst, append_assoc, ◌⊎◌, inl, inr}
+use Rattle.std.proofs.Common.{◌≡◌, ◌∙◌, ℕ, Bool, true, false, not, List, [], ◌∷◌, ◌++◌, Option, Some, IfSome, refl, sym, ap, subst, append_assoc, ◌⊎◌, inl, inr}
 use Rattle.std.specs.Bool.{Decides}
-use Rattle.std.specs.Str.{bytes_eq}
 use Rattle.std.proofs.lemmas.Bool.{false≢true}
 use Rattle.std.proofs.lemmas.Bool.Decides.{Decides-eqb}
 use Rattle.std.proofs.lemmas.Slice.Eq.{bytes_eq-Decides}
 use Rattle.csp_model.proofs.EndLaws.{begins_Decides, beyond_Decides}
 use Rattle.csp_model.proofs.EqualityDecided.{same_host_decides, same_hash_decides}
 use Rattle.csp_model.proofs.MatchingDecided.{host_under_decides, domain_host_decides}
-use Rattle.csp_model.specs.Ascii.{code}
 use Rattle.csp_model.specs.DecideMatching.{is_domain_host}
 use Rattle.csp_model.specs.DecideEnds.{is_host_under, begins_with, goes_beyond}
-use Rattle.csp_model.specs.DecideEquality.{same_host, same_hash}
+use Rattle.csp_model.specs.DecideEquality.{same_host}
 use Rattle.csp_model.specs.Matching.{IsDomainHost, IsHostUnder, PathMatches}
 use Rattle.csp_model.specs.declared.check.Digest.TheVariants.{Sha256, Sha384, Sha512}
 use Rattle.csp_model.specs.declared.source.PathPart.TheVariants.{Prefix}
-use Rattle.csp_model.specs.declared.url.Host.{Host}
-use Rattle.csp_atom.specs.Follows.{lies_within, same_path, true_where, false_where, nested, follows_true, follows_false, follows, Refutes}
+use Rattle.csp_atom.specs.Follows.{lies_within, same_path, true_where, false_where, nested, follows_true, follows}
 use Rattle.csp_atom.specs.declared.atom.Atom.{Atom}
 use Rattle.csp_atom.specs.declared.atom.Atom.TheVariants.{HostIs, HostUnder, HostDomain, PortIs, PathIs, PathUnder, SchemeIs, NonceIs, IntegrityHas, IntegrityOutside, DigestIs}
 use Rattle.csp_atom.specs.declared.atom.Literal.{Literal}

@@ -5,19 +5,21 @@ ghost use Rattle.csp_atom.specs.Follows.{follows};
 ghost use Rattle.csp_atom.specs.declared.atom.Atom.{Atom as AtomValue};
 ghost use Rattle.csp_cell.specs.Cells.{IsCell, IsOf, Meets, StandTogether, Takes, decided, places};
 ghost use Rattle.csp_cell.specs.Inside.{Adds};
+ghost use Rattle.csp_cell.specs.Lookup.{Rises};
 ghost use Rattle.csp_model.specs.declared.check.Check.{Check as CheckValue};
 ghost use Rattle.csp_model.specs.declared.source.Hash.{Hash as HashValue};
 ghost use Rattle.csp_shape.specs.Shapes.{looks_at};
 
 use crate::implies::{first_decided, needed_beside};
+use crate::lookup::{look_up, place_for};
 use csp_atom::{Atom, Literal};
 use csp_model::{Duplicate, Memory};
 use csp_shape::Shape;
 use std::alloc::Global;
 use std::marker::Model;
 
-/// The checks of one shape of which each of some literals is true. No literal refutes another, and none decides
-/// all that another decides.
+/// The checks of one shape of which each of some literals is true. No literal refutes another, and none
+/// decides all that another decides.
 #[derive(Debug, Drop)]
 pub struct Cell {
     alloc: Global,
@@ -59,8 +61,9 @@ impl Cell {
         self.shape
     }
 
-    /// The positive literals, but for those on integrity metadata. There is at most one on the host, on the port, on
-    /// the path, on the scheme of a URL without a host, on the nonce and on the digest of each algorithm.
+    /// The positive literals, but for those on integrity metadata. There is at most one on the host, on the
+    /// port, on the path, on the scheme of a URL without a host, on the nonce and on the digest of each
+    /// algorithm.
     pub fn placing(&self) -> &[Literal]
         ensures { result.now ≡ filter places self.now.literals }
     {
@@ -83,17 +86,18 @@ impl Cell {
     {
         match first_decided(&self.placing, atom) {
             Some(value) => Some(value),
-            None => first_decided(&self.others, atom),
+            None => look_up(&self.others, atom),
         }
     }
 
-    /// The cell of its checks that have the fact, and that of those that don't. Of the cell's literals each has
-    /// those that its new one doesn't make needless.
+    /// The cell of its checks that have the fact, and that of those that don't. Of the old literals each new
+    /// cell has those that its own new one doesn't make needless.
     pub fn split(&self, atom: &Atom) -> Result<(Cell, Cell), Memory>
         requires undecided { decided self.now.literals atom.now ≡ None }
         requires valid { IsValidAtom atom.now }
         requires belongs { BelongsTo (looks_at self.now.shape) atom.now }
-        ensures shape { IfOk result (λ cells. (cells.0.shape ≡ self.now.shape) × (cells.1.shape ≡ self.now.shape)) }
+        ensures shape { IfOk result (λ cells.
+            (cells.0.shape ≡ self.now.shape) × (cells.1.shape ≡ self.now.shape)) }
         ensures first { IfOk result (λ cells.
             Takes self.now.literals (record { atom = atom.now; positive = true }) cells.0.literals) }
         ensures second { IfOk result (λ cells.
@@ -147,12 +151,15 @@ fn add(
     others: &mut Vec<Literal>,
     literal: Literal,
 ) -> Result<(), Memory>
-    ensures { OnOk result (Adds placing.old.items others.old.items literal placing.new.items others.new.items) }
+    requires { Rises others.old.items }
+    ensures { OnOk result
+        (Adds placing.old.items others.old.items literal placing.new.items others.new.items) }
 {
     if is_placing(&literal) {
         placing.push(literal)?;
     } else {
-        others.push(literal)?;
+        let place = place_for(others, &literal.atom);
+        others.insert(place, literal)?;
     }
     Ok(())
 }

@@ -10,8 +10,8 @@ pub fn a_literal_covers_what_it_implies()
     ensures { (literal other : LiteralValue) → (Covers literal other ↔ (implies literal other ≡ true)) }
 {}
 
-/// A cell has at most one positive literal on the host, on the port, on the path, on the scheme of a URL without
-/// a host, on the nonce and on the digest of each algorithm.
+/// A cell has at most one positive literal on the host, on the port, on the path, on the scheme of a URL
+/// without a host, on the nonce and on the digest of each algorithm.
 pub fn a_part_is_placed_once()
     ensures { (region : Region) → IsCell region → AllPairs
         (λ (literal other : LiteralValue). IsPlacing literal → IsPlacing other

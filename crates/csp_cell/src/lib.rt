@@ -4,5 +4,8 @@
 mod cell;
 mod implies;
 pub mod laws;
+mod lookup;
+mod order;
+mod wanted;
 
 pub use cell::Cell;

@@ -1,8 +1,9 @@
-use Rattle.std.proofs.Common.{◌≡◌, ◌∙◌, ◌++◌, List, None}
+use Rattle.std.proofs.Common.{◌≡◌, ◌++◌, None}
 use Rattle.csp_atom.specs.declared.atom.Literal.{Literal}
 use Rattle.csp_cell.specs.Cells.{decided, needed_beside, IsOf}
 use Rattle.csp_cell.specs.Inside.{Adds}
-use Rattle.csp_cell.proofs.Making.{made_cell, made_placing, made_others, made_decides}
+use Rattle.csp_cell.proofs.Inserting.{needed_rises}
+use Rattle.csp_cell.proofs.Making.{made_cell, made_placing, made_others, made_rises, made_decides}
 use Rattle.csp_cell.proofs.cell.Cell.with.Goals as goal
 
 pub invariant_of-result : goal.invariant_of-result
@@ -24,6 +25,7 @@ invariant_of-result c =
       cell = made_cell c.self.inside.shape p o kept_p kept_o new_p new_o l first second adds undecided c.self.invariant.cell here;
       placing = made_placing c.self.inside.shape p o kept_p kept_o new_p new_o l first second adds undecided c.self.invariant.cell c.self.invariant.placing;
       others = made_others c.self.inside.shape p o kept_p kept_o new_p new_o l first second adds undecided c.self.invariant.cell c.self.invariant.others;
+      rises = made_rises c.self.inside.shape p o kept_p kept_o new_p new_o l first second adds undecided c.self.invariant.cell c.self.invariant.rises;
     }
 
 pub returns-clause-decides : goal.returns-clause-decides
@@ -41,3 +43,10 @@ returns-clause-decides c asked =
     let undecided : decided (p ++ o) l.atom ≡ None = rw (← c.self.view_is) at c.requires.undecided in
     rw (← c.self.view_is)
     (made_decides c.self.inside.shape p o kept_p kept_o new_p new_o l first second adds undecided c.self.invariant.cell asked)
+
+pub add-requires : goal.add-requires
+add-requires c =
+    let l : Literal = record { atom = c.args.atom.now; positive = c.args.positive } in
+    let o = c.self.inside.others.items in
+    let second : c.in_ok-others.others.items ≡ needed_beside l o = rw (c.in_ok-copy.ensures, c.deref-2.ensures.value) at c.in_ok-others.ensures in
+    rw second (needed_rises l o c.self.invariant.rises)
