@@ -1,6 +1,6 @@
 -- What reading a proof answers, where it ends.
 use Rattle.std.proofs.Common.{arith, ◌≡◌, ◌∙◌, sym, ap, subst, refl, ℕ, ◌+◌, ◌==◌, List, [], ◌∷◌, ◌++◌, length, map, append_assoc, Result}
-use Rattle.std.specs.Prelude.{IfOk, IfErr, None}
+use Rattle.std.specs.Prelude.{IfOk, IfErr, None, Ok, Err}
 use Rattle.std.proofs.lemmas.List.{map_push}
 use Rattle.std.proofs.lemmas.List.Splits.{length-slice_split}
 use Rattle.csp_model.specs.Ascii.{split_at}
@@ -13,7 +13,8 @@ use Rattle.csp_proof.specs.declared.line.Line.{Line}
 use Rattle.csp_proof.specs.declared.place.Place.{Place}
 use Rattle.csp_proof.specs.declared.place.Place.TheVariants.{Start, Between, Within, Done}
 use Rattle.csp_proof.specs.declared.proof.Proof.{Proof}
-use Rattle.csp_proof.proofs.Refused.{bad_line, ends_early, whole_text}
+use Rattle.csp_proof.proofs.Refused.{bad_line, ends_early, whole_text, one_proof}
+use Rattle.csp_model.specs.Answers.{Gives}
 
 -- the lines that lead to a place, and what is left, are the text
 abbrev IsSoFar : List ℕ → Place → List ℕ → Type 0
@@ -61,3 +62,10 @@ bad_ended text rest place number result reached counted so_far last is = subst (
   by (Between format trees) rest reached counted parts = subst (IsRefused text) (sym counted) (ends_early text (Between format trees) rest reached parts (λ p same none. cc same))
   by (Within format trees opened nodes more) rest reached counted parts =
       subst (IsRefused text) (sym counted) (ends_early text (Within format trees opened nodes more) rest reached parts (λ p same none. cc same))
+
+-- the text of a proof is read as that proof
+pub only_proof : (text : List ℕ) (result : Result Proof ProofError) → IfOk result (λ proof. IsTextOf proof text) → IfErr result (IsRefusal text)
+    → (proof : Proof) → IsTextOf proof text → Gives Memory result (Ok proof)
+only_proof text (Ok read) is refused proof also = ap Ok (one_proof proof read text also is)
+only_proof text (Err (BadProof line)) is refused proof also = λ other. absurd (refused.none proof also)
+only_proof text (Err Memory) is refused proof also = λ other. absurd (other refl)

@@ -12,5 +12,6 @@ pub mod Refused
 pub mod Ends
 pub mod ShapesListed
 pub mod CasesRead
+mod Examples
 pub mod Included
 pub mod ReadableSaid

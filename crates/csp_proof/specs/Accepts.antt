@@ -1,5 +1,5 @@
--- The rules that a proof keeps which shows that the second list allows what the first allows, and the line of the
--- first failure. `surely` says what literals decide of the sentence that a policy is at a shape.
+-- The rules that a proof keeps which shows that the second list allows what the first allows, and the line of
+-- the first failure. `surely` says what literals decide of the sentence that a policy is at a shape.
 use Rattle.std.specs.Prelude.{◌≡◌, ℕ, ◌+◌, ◌&&◌, nat_eq, Bool, true, false, not, List, [], ◌∷◌, ◌++◌, length, Option, Some, None, slice_get, All}
 use Rattle.csp_model.specs.DecideVerdict.{allows}
 use Rattle.csp_model.specs.Validity.{IsValidCheck}
@@ -83,8 +83,8 @@ first_of None rest = rest
 abbrev pub literal : Atom → Bool → Literal
 literal atom positive = record { atom = atom; positive = positive }
 
--- the line of the first node that breaks a rule, where the first of all stands in this line. Below a split the
--- literals grow at their end, so that the root's comes first.
+-- the line of the first node that breaks a rule, where the first of all stands in this line. Below a split
+-- the literals grow at their end, so that the root's comes first.
 abbrev pub bad_case : Lists → Pair → List Literal → ℕ → Cases → Option ℕ
 bad_case lists pair literals line (Splits atom holds fails) =
     first_of (bad_case lists pair (literals ++ literal atom true ∷ []) (line + 1) holds)
@@ -104,7 +104,8 @@ at_line line (Some other) = Some line
 
 -- the trees are those of the whole proof, among which a tree may share nodes
 abbrev pub bad_shared : Lists → Pair → ℕ → Option Body → Option ℕ
-bad_shared lists pair line (Some (body.Nodes nodes)) = at_line line (bad_tree lists pair line (cases_in nodes))
+bad_shared lists pair line (Some (body.Nodes nodes)) =
+    at_line line (bad_tree lists pair line (cases_in nodes))
 bad_shared lists pair line other = Some line
 
 abbrev pub bad_body : Lists → List Tree → Pair → ℕ → Body → Option ℕ
@@ -131,15 +132,16 @@ bad_from lists all last (pair ∷ ps) (tree ∷ trees) = first_of
 -- the line of the first failure of a proof that the second list allows what the first allows
 abbrev pub first_bad_node : PolicyList → PolicyList → Proof → Option ℕ
 first_bad_node first second proof =
-    bad_from (record { first = first; second = second }) proof.trees proof.last_line (pairs second) proof.trees
+    bad_from (record { first = first; second = second })
+    proof.trees proof.last_line (pairs second) proof.trees
 
 abbrev pub IsAccepted : PolicyList → PolicyList → Proof → Type 0
 IsAccepted first second proof = first_bad_node first second proof ≡ None
 
 -- What acceptance shows
 
--- the sentence that the policy is at a shape has, on each valid check of the shape, the value of what the policy
--- allows
+-- the sentence that the policy is at a shape has, on each valid check of the shape, the value of what the
+-- policy allows
 abbrev pub IsSaid : List Hash → Policy → Type 0
 IsSaid hashes policy = (kind : Shape) (asked : Check) → HasShape asked kind → IsValidCheck asked
     → is_true_for hashes asked (policy_sentence policy kind hashes) ≡ allows policy asked

@@ -2,7 +2,9 @@
 ghost use Rattle.std.specs.Prelude.{◌≡◌, ◌<◌, ◌≤◌, ◌-◌, ◌^◌, ◌∷◌, [], length, position, IfOk, IfErr, MatchOption, IfSome, ◌==◌, ◌+◌};
 ghost use Rattle.csp_model.specs.Ascii.{code, split_at};
 ghost use Rattle.csp_proof.specs.Places as places;
+ghost use Rattle.csp_model.specs.Answers.{Gives};
 ghost use Rattle.csp_proof.specs.Texts as spec;
+ghost use Rattle.csp_proof.specs.declared.proof.Proof.{Proof as ProofValue};
 
 use crate::error::ProofError;
 use crate::line::read_line;
@@ -66,6 +68,8 @@ pub fn read_proof(alloc: Global, bytes: &[u8]) -> Result<Proof, ProofError>
     requires { length bytes.now < 2 ^ 32 - 1 }
     ensures proof { IfOk result (λ proof. spec.IsTextOf proof bytes.now) }
     ensures bad { IfErr result (spec.IsRefusal bytes.now) }
+    ensures only { (proof : ProofValue) → spec.IsTextOf proof bytes.now
+        → Gives ProofError.Memory result (Ok proof) }
 {
     let mut place = Place::Start;
     let mut number = 1;

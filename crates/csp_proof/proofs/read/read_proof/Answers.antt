@@ -2,7 +2,7 @@ use Rattle.std.proofs.Common.{arith, ap, length}
 use Rattle.std.proofs.lemmas.List.{length_push}
 use Rattle.std.proofs.lemmas.Result.{err_from_is_err_and}
 use Rattle.csp_proof.specs.Places.{place_lines}
-use Rattle.csp_proof.proofs.Ends.{stuck_refused, so_far_more, proof_ended, bad_ended}
+use Rattle.csp_proof.proofs.Ends.{stuck_refused, so_far_more, proof_ended, bad_ended, only_proof}
 use Rattle.csp_proof.proofs.Steps.{reached}
 use Rattle.csp_proof.proofs.read.read_proof.Goals as goal
 
@@ -34,3 +34,11 @@ pub returns-clause-bad : goal.returns-clause-bad
 returns-clause-bad c =
     bad_ended c.args.bytes.now c.loop-text.rest.now c.loop-text.place c.loop-text.number c.whole_proof.result c.loop-text.invariant.reached c.loop-text.invariant.number c.loop-text.invariant.text
     c.in_default.ensures.parts c.whole_proof.ensures
+
+pub returns-in_err-place-clause-only : goal.returns-in_err-place-clause-only
+returns-in_err-place-clause-only c =
+    let p = err_from_is_err_and c.from_residual.result c.from_residual.ensures.1 in
+    only_proof c.args.bytes.now c.from_residual.result (rw p.1 tt) (returns-in_err-place-clause-bad c)
+
+pub returns-clause-only : goal.returns-clause-only
+returns-clause-only c = only_proof c.args.bytes.now c.whole_proof.result (returns-clause-proof c) (returns-clause-bad c)
