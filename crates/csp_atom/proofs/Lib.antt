@@ -1,6 +1,8 @@
 pub mod HoldingDecided
+pub mod OrderLaws
 pub mod Own
 pub mod Refutes
+pub mod SameAtom
 pub mod Sound
 pub mod SoundAnswers
 pub mod SoundNesting

@@ -1,6 +1,6 @@
--- What a literal says of an atom: the value that the atom then has, or none. And when one literal refutes
+-- What literals say of an atom: the value that the atom then has, or none. And when one literal refutes
 -- another.
-use Rattle.std.specs.Prelude.{◌≡◌, ℕ, ◌==◌, Bool, true, false, not, List, ◌∷◌, Option, Some, None, if◌then◌else◌}
+use Rattle.std.specs.Prelude.{◌≡◌, ℕ, ◌==◌, Bool, true, false, not, List, [], ◌∷◌, Option, Some, None, if◌then◌else◌}
 use Rattle.std.specs.Str.{bytes_eq}
 use Rattle.std.specs.Cmp.Lexicographic.{pointwise}
 use Rattle.csp_model.specs.Ascii.{code}
@@ -95,3 +95,13 @@ follows literal asked =
 -- what the first literal says makes the other false
 abbrev pub Refutes : Literal → Literal → Type 0
 Refutes literal other = follows literal other.atom ≡ Some (not other.positive)
+
+-- the first answer that there is
+abbrev pub or_else : Option Bool → Option Bool → Option Bool
+or_else (Some value) rest = Some value
+or_else None rest = rest
+
+-- what the first literal that decides the atom says
+abbrev pub decided : List Literal → Atom → Option Bool
+decided [] atom = None
+decided (literal ∷ literals) atom = or_else (follows literal atom) (decided literals atom)

@@ -1,5 +1,5 @@
 -- The hashes that two lists of policies speak of, each once.
-use Rattle.std.specs.Prelude.{not, List, [], ◌∷◌, ◌++◌, filter, Option, Some, None}
+use Rattle.std.specs.Prelude.{not, List, [], ◌∷◌, ◌++◌, filter, Option, Some, None, Contains, ⊤}
 use Rattle.std.specs.List.{filter_map, flat_map}
 use Rattle.csp_model.specs.DecideEquality.{same_hash}
 use Rattle.csp_model.specs.declared.policy.Directive.{Directive}
@@ -8,6 +8,8 @@ use Rattle.csp_model.specs.declared.policy.PolicyList.{PolicyList}
 use Rattle.csp_model.specs.declared.source.Hash.{Hash}
 use Rattle.csp_model.specs.declared.source.Source.{Source}
 use Rattle.csp_model.specs.declared.source.Source.TheVariants as source
+use Rattle.csp_atom.specs.declared.atom.Atom.{Atom}
+use Rattle.csp_atom.specs.declared.atom.Atom.TheVariants.{IntegrityHas}
 
 -- of a hash-source its hash
 abbrev pub hash_of_source : Source → Option Hash
@@ -27,3 +29,8 @@ distinct (h ∷ hs) = h ∷ filter (λ g. not (same_hash g h)) (distinct hs)
 
 abbrev pub vocabulary_hashes : PolicyList → PolicyList → List Hash
 vocabulary_hashes first second = distinct (hashes_of first ++ hashes_of second)
+
+-- an atom on a pair of integrity metadata is on one of the vocabulary
+abbrev pub IsOfVocabulary : List Hash → Atom → Type 0
+IsOfVocabulary hashes (IntegrityHas hash) = Contains hashes hash
+IsOfVocabulary hashes other = ⊤

@@ -8,7 +8,9 @@ mod copies;
 mod holding;
 mod hosts;
 pub mod laws;
+pub mod order;
 mod table;
+mod valid;
 mod vocabulary;
 
 pub use atom::{Atom, Literal, Vocabulary};

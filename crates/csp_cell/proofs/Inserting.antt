@@ -12,8 +12,8 @@ use Rattle.csp_atom.specs.declared.atom.Literal.{Literal}
 use Rattle.csp_cell.specs.Cells.{implies, needed_beside, places}
 use Rattle.csp_cell.specs.Inside.{IsOther, Adds}
 use Rattle.csp_cell.specs.Lookup.{Rises, is_below}
-use Rattle.csp_cell.specs.Order.{atom_cmp}
-use Rattle.csp_cell.proofs.OrderLaws.{atom_total}
+use Rattle.csp_atom.specs.Order.{atom_cmp}
+use Rattle.csp_atom.proofs.OrderLaws.{atom_total}
 use Rattle.csp_cell.proofs.Taking.{all_insert, pairs_head, pairs_tail}
 
 abbrev IsUpTo : Literal → Literal → Type 0

@@ -5,9 +5,7 @@ pub mod LookupLaws
 pub mod LookupPaths
 pub mod Making
 pub mod Once
-pub mod OrderLaws
 pub mod Parts
-pub mod SameAtom
 pub mod Searching
 pub mod Splitting
 pub mod Taking

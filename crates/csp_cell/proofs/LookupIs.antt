@@ -13,17 +13,17 @@ use Rattle.csp_model.specs.declared.check.Digest.{Digest}
 use Rattle.csp_model.specs.declared.source.Hash.{Hash}
 use Rattle.csp_model.specs.declared.url.Host.TheVariants.{Domain, Address}
 use Rattle.csp_atom.proofs.Own.{own}
-use Rattle.csp_atom.specs.Follows.{true_where, false_where, follows_true, follows_false, follows}
+use Rattle.csp_atom.specs.Follows.{true_where, false_where, follows_true, follows_false, follows, decided, or_else}
 use Rattle.csp_atom.specs.declared.atom.Atom.{Atom}
 use Rattle.csp_atom.specs.declared.atom.Atom.TheVariants.{HostIs, HostUnder, HostDomain, PortIs, PathIs, PathUnder, SchemeIs, NonceIs, IntegrityHas, IntegrityOutside, DigestIs}
 use Rattle.csp_atom.specs.declared.atom.Literal.{Literal}
-use Rattle.csp_cell.specs.Cells.{or_else, decided, is_integrity}
+use Rattle.csp_cell.specs.Cells.{is_integrity}
 use Rattle.csp_cell.specs.Inside.{IsOther}
 use Rattle.csp_cell.specs.Lookup.{sign_of, kept, has, looked_up}
-use Rattle.csp_cell.specs.Order.{atom_cmp}
+use Rattle.csp_atom.specs.Order.{atom_cmp}
 use Rattle.csp_cell.proofs.LookupLaws.{at, above_hit, above_any, any_or, decided_any, says_host, says_suffix}
 use Rattle.csp_cell.proofs.LookupPaths.{front_hit, front_any, says_path, says_front}
-use Rattle.csp_cell.proofs.SameAtom.{level_decides}
+use Rattle.csp_atom.proofs.SameAtom.{level_decides}
 
 -- Atoms that are decided by their own literals alone
 

@@ -13,14 +13,13 @@ use Rattle.csp_model.specs.DecideEnds.{is_subdomain}
 use Rattle.csp_model.specs.DecideEquality.{same_host}
 use Rattle.csp_model.specs.declared.url.Host.{Host}
 use Rattle.csp_model.specs.declared.url.Host.TheVariants.{Domain}
-use Rattle.csp_atom.specs.Follows.{false_where, follows_false, follows}
+use Rattle.csp_atom.specs.Follows.{false_where, follows_false, follows, decided, or_else}
 use Rattle.csp_atom.specs.declared.atom.Atom.{Atom}
 use Rattle.csp_atom.specs.declared.atom.Atom.TheVariants.{HostIs, HostUnder, HostDomain, PortIs, PathIs, PathUnder, SchemeIs, NonceIs, IntegrityHas, IntegrityOutside, DigestIs}
 use Rattle.csp_atom.specs.declared.atom.Literal.{Literal}
-use Rattle.csp_cell.specs.Cells.{or_else, decided}
 use Rattle.csp_cell.specs.Lookup.{has_above}
-use Rattle.csp_cell.specs.Order.{atom_cmp}
-use Rattle.csp_cell.proofs.SameAtom.{level_decides}
+use Rattle.csp_atom.specs.Order.{atom_cmp}
+use Rattle.csp_atom.proofs.SameAtom.{level_decides}
 
 -- Tests
 

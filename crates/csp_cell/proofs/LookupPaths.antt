@@ -13,7 +13,7 @@ use Rattle.csp_atom.specs.declared.atom.Atom.TheVariants.{HostIs, HostUnder, Hos
 use Rattle.csp_atom.specs.declared.atom.Literal.{Literal}
 use Rattle.csp_cell.specs.Lookup.{has_front}
 use Rattle.csp_cell.proofs.LookupLaws.{at, tests_same, not_so, or_either, or_true, or_false, any_or, any_none}
-use Rattle.csp_cell.proofs.SameAtom.{level_decides}
+use Rattle.csp_atom.proofs.SameAtom.{level_decides}
 
 abbrev pub front_hit : List (List ℕ) → ℕ → Atom → Bool
 front_hit path zero b = false

@@ -4,7 +4,8 @@ use Rattle.std.proofs.lemmas.List.Elements.{All-filter}
 use Rattle.csp_atom.specs.declared.atom.Atom.{Atom}
 use Rattle.csp_atom.specs.declared.atom.Literal.{Literal}
 use Rattle.csp_shape.specs.declared.shape.Shape.{Shape}
-use Rattle.csp_cell.specs.Cells.{decided, implies, needed_beside, Takes, IsCell, IsOf}
+use Rattle.csp_cell.specs.Cells.{implies, needed_beside, Takes, IsCell, IsOf}
+use Rattle.csp_atom.specs.Follows.{decided}
 use Rattle.csp_cell.specs.Inside.{IsPlacing, IsOther, Adds}
 use Rattle.csp_cell.specs.Lookup.{Rises}
 use Rattle.csp_cell.proofs.Inserting.{needed_rises}

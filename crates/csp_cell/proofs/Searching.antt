@@ -13,8 +13,8 @@ use Rattle.csp_atom.specs.declared.atom.Atom.{Atom}
 use Rattle.csp_atom.specs.declared.atom.Atom.TheVariants.{PathUnder}
 use Rattle.csp_atom.specs.declared.atom.Literal.{Literal}
 use Rattle.csp_cell.specs.Lookup.{Rises, is_below, sign_of, kept, has, has_front}
-use Rattle.csp_cell.specs.Order.{atom_cmp}
-use Rattle.csp_cell.proofs.SameAtom.{level_decides, less_down}
+use Rattle.csp_atom.specs.Order.{atom_cmp}
+use Rattle.csp_atom.proofs.SameAtom.{level_decides, less_down}
 use Rattle.csp_cell.proofs.Taking.{pairs_head, pairs_tail}
 
 pub parted : (ls : List Literal) (wanted : Atom) → Rises ls → IsPartitionedBy (is_below wanted) ls

@@ -16,16 +16,6 @@ pub record Region : Type 0 where
   pub shape : Shape
   pub literals : List Literal
 
--- the first answer that there is
-abbrev pub or_else : Option Bool → Option Bool → Option Bool
-or_else (Some value) rest = Some value
-or_else None rest = rest
-
--- what the first literal that decides the atom says
-abbrev pub decided : List Literal → Atom → Option Bool
-decided [] atom = None
-decided (literal ∷ literals) atom = or_else (follows literal atom) (decided literals atom)
-
 -- each literal is true of the check
 abbrev pub Meets : List Hash → Check → List Literal → Type 0
 Meets hashes asked literals = All (λ literal. IsTrue (is_true_of hashes asked literal)) literals

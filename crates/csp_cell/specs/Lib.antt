@@ -1,5 +1,3 @@
 pub mod Cells
 pub mod Inside
-pub mod Kinds
 pub mod Lookup
-pub mod Order

@@ -8,7 +8,7 @@ use Rattle.csp_atom.specs.Follows.{false_where}
 use Rattle.csp_atom.specs.declared.atom.Atom.{Atom}
 use Rattle.csp_atom.specs.declared.atom.Atom.TheVariants.{HostIs, HostUnder, HostDomain, PathIs, PathUnder}
 use Rattle.csp_atom.specs.declared.atom.Literal.{Literal}
-use Rattle.csp_cell.specs.Order.{atom_cmp}
+use Rattle.csp_atom.specs.Order.{atom_cmp}
 use Rattle.csp_cell.specs.declared.wanted.Wanted.{Wanted}
 use Rattle.csp_cell.specs.declared.wanted.Wanted.TheVariants as wanted
 

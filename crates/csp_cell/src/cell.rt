@@ -1,9 +1,9 @@
 //! A cell, and the two that an atom splits it into.
 ghost use Rattle.std.specs.Prelude.{◌≡◌, ◌↔◌, [], ◌∷◌, ◌++◌, All, Any, AllPairs, IfOk, OnOk, MatchOption, List as Items, None, Some, true, false, not, filter};
 ghost use Rattle.csp_atom.specs.Atoms.{BelongsTo, Holds, IsValidAtom};
-ghost use Rattle.csp_atom.specs.Follows.{follows};
+ghost use Rattle.csp_atom.specs.Follows.{follows, decided};
 ghost use Rattle.csp_atom.specs.declared.atom.Atom.{Atom as AtomValue};
-ghost use Rattle.csp_cell.specs.Cells.{IsCell, IsOf, Meets, StandTogether, Takes, decided, places};
+ghost use Rattle.csp_cell.specs.Cells.{IsCell, IsOf, Meets, StandTogether, Takes, places};
 ghost use Rattle.csp_cell.specs.Inside.{Adds};
 ghost use Rattle.csp_cell.specs.Lookup.{Rises};
 ghost use Rattle.csp_model.specs.declared.check.Check.{Check as CheckValue};

@@ -1,5 +1,6 @@
 //! Which literals another one makes needless.
 ghost use Rattle.std.specs.Prelude.{◌≡◌, IfOk};
+ghost use Rattle.csp_atom.specs.Follows.{decided};
 ghost use Rattle.csp_cell.specs.Cells as spec;
 
 use csp_atom::{Atom, Literal, follows};
@@ -35,7 +36,7 @@ pub(crate) fn needed_beside(
 
 // What the first literal that decides the atom says.
 pub(crate) fn first_decided(literals: &[Literal], atom: &Atom) -> Option<bool>
-    ensures { result ≡ spec.decided literals.now atom.now }
+    ensures { result ≡ decided literals.now atom.now }
 {
     for literal in literals {
         if let Some(value) = follows(literal, atom) {

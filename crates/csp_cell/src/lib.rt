@@ -5,7 +5,6 @@ mod cell;
 mod implies;
 pub mod laws;
 mod lookup;
-mod order;
 mod wanted;
 
 pub use cell::Cell;

@@ -4,8 +4,8 @@ ghost use Rattle.std.specs.List.Sorted.{IsPartitionPoint};
 ghost use Rattle.csp_atom.specs.Follows as answers;
 ghost use Rattle.csp_cell.specs.Lookup as spec;
 
-use crate::order::compare;
 use crate::wanted::{Wanted, compare_wanted};
+use csp_atom::order::compare;
 use csp_atom::{Atom, Literal};
 use csp_model::{Bytes, Host};
 

@@ -1,11 +1,11 @@
 //! What is looked for in an ordered list of literals.
 ghost use Rattle.std.specs.Prelude.{◌≡◌};
 ghost use Rattle.csp_cell.specs.Lookup as spec;
-ghost use Rattle.csp_cell.specs.Order.{atom_cmp};
+ghost use Rattle.csp_atom.specs.Order.{atom_cmp};
 ghost use Rattle.csp_atom.specs.declared.atom.Atom.TheVariants.{HostUnder, PathUnder};
 
-use crate::order::{compare, compare_paths, rank};
 use csp_atom::Atom;
+use csp_atom::order::{compare, compare_paths, rank};
 use csp_model::Bytes;
 use std::cmp::Ordering;
 

@@ -3,7 +3,8 @@ use Rattle.std.proofs.Common.{◌≢◌, ◌≡◌, Bool, true, false, Option, S
 use Rattle.std.proofs.lemmas.List.Elements.{All-nil, All-cons, All-head, All-tail}
 use Rattle.csp_atom.specs.declared.atom.Literal.{Literal}
 use Rattle.csp_formula.specs.Sentences.{Sentence, Known, Fact, Not, Both, Either}
-use Rattle.csp_formula.specs.Surely.{decided, maybe_not, maybe_and, maybe_or, surely}
+use Rattle.csp_formula.specs.Surely.{maybe_not, maybe_and, maybe_or, surely}
+use Rattle.csp_atom.specs.Follows.{decided}
 use Rattle.csp_formula.specs.Values.{atoms_in}
 
 module _ {X : Type 0} (P : X → Type 0) where

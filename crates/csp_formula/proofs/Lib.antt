@@ -2,7 +2,6 @@ pub mod Maybe
 pub mod SurelySound
 pub mod AllDecided
 pub mod Examples
-pub mod Labels
 pub mod SuffixDomain
 pub mod UrlPartsSaid
 pub mod SourcesSaid

@@ -1,7 +1,7 @@
 -- A decided value is the value on each check of which the literals are true.
 use Rattle.std.proofs.Common.{◌≡◌, Bool, true, false, not, ◌&&◌, ◌||◌, Option, Some, None, List, [], ◌∷◌, IfSome, IsTrue, refl, ap}
 use Rattle.std.proofs.lemmas.List.Elements.{All-head, All-tail}
-use Rattle.csp_atom.specs.Follows.{follows}
+use Rattle.csp_atom.specs.Follows.{follows, decided, or_else}
 use Rattle.csp_atom.specs.Holding.{holds, is_true_of}
 use Rattle.csp_atom.specs.declared.atom.Atom.{Atom}
 use Rattle.csp_atom.specs.declared.atom.Literal.{Literal}
@@ -9,7 +9,7 @@ use Rattle.csp_atom.proofs.Sound.{sound}
 use Rattle.csp_model.specs.declared.check.Check.{Check}
 use Rattle.csp_model.specs.declared.source.Hash.{Hash}
 use Rattle.csp_formula.specs.Sentences.{Sentence, Known, Fact, Not, Both, Either}
-use Rattle.csp_formula.specs.Surely.{or_else, decided, maybe_not, maybe_and, maybe_or, surely}
+use Rattle.csp_formula.specs.Surely.{maybe_not, maybe_and, maybe_or, surely}
 use Rattle.csp_formula.specs.Values.{is_true_for, AreTrueOf}
 
 abbrev Agrees : Option Bool → Bool → Type 0

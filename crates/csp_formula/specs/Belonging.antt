@@ -1,21 +1,16 @@
 -- Which atoms may stand in what a policy says of a shape.
-use Rattle.std.specs.Prelude.{List, All, Contains, IsTrue, ⊤}
+use Rattle.std.specs.Prelude.{List, All, IsTrue}
 use Rattle.csp_model.specs.Grammar.{is_base64_value}
 use Rattle.csp_model.specs.declared.source.Hash.{Hash}
 use Rattle.csp_atom.specs.Atoms.{BelongsTo, IsValidAtom}
+use Rattle.csp_atom.specs.Vocabulary.{IsOfVocabulary}
 use Rattle.csp_atom.specs.declared.atom.Atom.{Atom}
-use Rattle.csp_atom.specs.declared.atom.Atom.TheVariants.{IntegrityHas}
 use Rattle.csp_shape.specs.Shapes.{looks_at}
 use Rattle.csp_shape.specs.declared.shape.Shape.{Shape}
 
 -- each value of the vocabulary is a base64-value
 abbrev pub HasBase64Values : List Hash → Type 0
 HasBase64Values hashes = All (λ (h : Hash). IsTrue (is_base64_value h.value)) hashes
-
--- an atom on a pair of integrity metadata is on one of the vocabulary
-abbrev pub IsOfVocabulary : List Hash → Atom → Type 0
-IsOfVocabulary hashes (IntegrityHas hash) = Contains hashes hash
-IsOfVocabulary hashes other = ⊤
 
 -- the atom is on a part that the shape looks at; it is valid, as the vocabulary's values are; and it is of
 -- the vocabulary

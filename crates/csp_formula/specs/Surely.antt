@@ -1,19 +1,8 @@
 -- What literals decide of an atom and of a sentence.
 use Rattle.std.specs.Prelude.{Bool, true, false, not, List, [], ◌∷◌, Option, Some, None}
-use Rattle.csp_atom.specs.Follows.{follows}
-use Rattle.csp_atom.specs.declared.atom.Atom.{Atom}
+use Rattle.csp_atom.specs.Follows.{decided}
 use Rattle.csp_atom.specs.declared.atom.Literal.{Literal}
 use Rattle.csp_formula.specs.Sentences.{Sentence, Known, Fact, Not, Both, Either}
-
--- the first answer that there is
-abbrev pub or_else : Option Bool → Option Bool → Option Bool
-or_else (Some b) rest = Some b
-or_else None rest = rest
-
--- what the first literal that decides the atom says
-abbrev pub decided : List Literal → Atom → Option Bool
-decided [] a = None
-decided (l ∷ ls) a = or_else (follows l a) (decided ls a)
 
 abbrev pub maybe_not : Option Bool → Option Bool
 maybe_not (Some b) = Some (not b)

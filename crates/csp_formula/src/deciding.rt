@@ -2,6 +2,7 @@
 ghost use Rattle.std.specs.Prelude.{◌≡◌, IfSome, List as Items};
 ghost use Rattle.csp_model.specs.declared.check.Check.{Check as CheckValue};
 ghost use Rattle.csp_model.specs.declared.source.Hash.{Hash as HashValue};
+ghost use Rattle.csp_atom.specs.Follows as literals_say;
 ghost use Rattle.csp_formula.specs.Sentences.{sentence_of};
 ghost use Rattle.csp_formula.specs.Surely as spec;
 ghost use Rattle.csp_formula.specs.Values.{AreTrueOf, is_true_for};
@@ -56,7 +57,7 @@ fn value_by(formula: &Formula, literals: &[Literal]) -> Option<bool>
 
 // What the first literal that decides the atom says.
 fn decided(literals: &[Literal], atom: &Atom) -> Option<bool>
-    ensures { result ≡ spec.decided literals.now atom.now }
+    ensures { result ≡ literals_say.decided literals.now atom.now }
 {
     for literal in literals {
         let answer = follows(literal, atom);

@@ -13,7 +13,8 @@ ghost use Rattle.csp_atom.specs.declared.atom.Literal.{Literal as LiteralValue};
 ghost use Rattle.csp_model.specs.declared.check.Check.{Check as CheckValue};
 ghost use Rattle.csp_model.specs.declared.source.Hash.{Hash as HashValue};
 ghost use Rattle.csp_formula.specs.Sentences.{Sentence};
-ghost use Rattle.csp_formula.specs.Surely.{decided, surely};
+ghost use Rattle.csp_formula.specs.Surely.{surely};
+ghost use Rattle.csp_atom.specs.Follows.{decided};
 ghost use Rattle.csp_formula.specs.Values.{AreTrueOf, atoms_in, is_true_for};
 
 use csp_source::laws::each_token_has_one_source;

@@ -1,10 +1,8 @@
 //! Formulas over atoms: what a policy says of every check of a shape.
 #![tactic(auto)]
 
-mod address;
 mod compiling;
 mod deciding;
-mod domain;
 mod formula;
 mod inline;
 pub mod laws;

@@ -3,11 +3,10 @@ ghost use Rattle.std.specs.Prelude.{◌≡◌, IfOk};
 ghost use Rattle.csp_formula.specs.Sentences.{sentence_of};
 ghost use Rattle.csp_formula.specs.Sources as spec;
 
-use crate::address::is_four_numbers;
-use crate::domain::is_domain;
 use crate::formula::Formula;
 use crate::shapes::{after_redirect, is_ancestor};
 use csp_atom::Atom;
+use csp_grammar::{is_domain, is_four_numbers};
 use csp_model::{Bytes, Duplicate, Host, HostPart, List, Memory, PathPart, PortPart, Scheme, Text};
 use csp_shape::Shape;
 use std::alloc::Global;

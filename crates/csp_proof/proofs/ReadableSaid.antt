@@ -19,19 +19,19 @@ use Rattle.csp_formula.specs.Compiled.{HasHashesOf, policy_sentence}
 use Rattle.csp_formula.specs.Values.{is_true_for}
 use Rattle.csp_proof.specs.Accepts.{IsSaid, AreSaid}
 
-within_flat : {A B : Type 0} (f : A → List B) (xs : List A) (k : ℕ) (d : A) (b : B) → k < length xs → Contains (f (get_or xs k d)) b → Contains (flat_map f xs) b
+pub within_flat : {A B : Type 0} (f : A → List B) (xs : List A) (k : ℕ) (d : A) (b : B) → k < length xs → Contains (f (get_or xs k d)) b → Contains (flat_map f xs) b
 within_flat f [] k d b within has = absurd (omega arith)
 within_flat f (x ∷ xs) zero d b within has = Contains-append_left (f x) (flat_map f xs) b has
 within_flat f (x ∷ xs) (suc k) d b within has = Contains-append_right (f x) (flat_map f xs) b (within_flat f xs k d b (omega arith) has)
 
-abbrev hashes_in_directive : Directive → List Hash
+abbrev pub hashes_in_directive : Directive → List Hash
 hashes_in_directive d = filter_map hash_of_source d.sources
 
-abbrev hashes_in_policy : Policy → List Hash
+abbrev pub hashes_in_policy : Policy → List Hash
 hashes_in_policy p = flat_map hashes_in_directive p.directives
 
 -- the hashes of a policy of the list are among these
-listed : (hashes : List Hash) (list : PolicyList) → ((h : Hash) → Contains (hashes_of list) h → Contains hashes h) → (k : ℕ) (d : Policy) → k < length list.policies → HasHashesOf hashes (get_or list.policies k d)
+pub listed : (hashes : List Hash) (list : PolicyList) → ((h : Hash) → Contains (hashes_of list) h → Contains hashes h) → (k : ℕ) (d : Policy) → k < length list.policies → HasHashesOf hashes (get_or list.policies k d)
 listed hashes list among k d within = λ j e inside.
     let policy = get_or list.policies k d in
     let directive = get_or policy.directives j e in

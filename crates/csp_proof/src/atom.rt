@@ -1,9 +1,6 @@
 //! Reads atoms.
 ghost use Rattle.std.specs.Prelude.{◌≡◌, IfOk, Some, None, codes};
-ghost use Rattle.std.specs.List.{list_all};
 ghost use Rattle.std.specs.Str.{bytes_eq};
-ghost use Rattle.csp_model.specs.Ascii.{code, without_final};
-ghost use Rattle.csp_model.specs.Grammar as grammar;
 ghost use Rattle.csp_proof.specs.Reading as spec;
 ghost use Rattle.csp_proof.specs.Spelling.{atom_text};
 ghost use Rattle.csp_url.specs.Parts.{url_of_parts};
@@ -12,6 +9,7 @@ ghost use Rattle.csp_url.specs.Reading as url_spec;
 use crate::print::push_atom;
 use crate::words::{cut, number_below};
 use csp_atom::Atom;
+use csp_grammar::is_base64_value;
 use csp_model::{Algorithm, Bytes, Digest, Hash, Host, List, Memory, Text, Url};
 use csp_url::{PartsError, url_from_parts};
 use hex::FromHex;
@@ -68,35 +66,6 @@ fn plain_scheme(alloc: Global, text: &str) -> Result<Option<Text>, Memory>
         Ok(Url::Hosted { .. }) | Err(PartsError::Bad { .. }) => Ok(None),
         Err(PartsError::Memory) => Err(Memory),
     }
-}
-
-#[tactic(auto, unfolding(csp_model::specs::Grammar::is_base64_char))]
-fn is_base64_char(b: u8) -> bool
-    ensures { result ≡ grammar.is_base64_char b }
-{
-    b.is_ascii_alphanumeric() || b"+/-_".contains(&b)
-}
-
-fn all_base64_chars(text: &[u8]) -> bool
-    ensures { result ≡ list_all grammar.is_base64_char text.now }
-{
-    text.iter().all(|b| is_base64_char(*b))
-}
-
-// The text without one `=` at its end.
-#[tactic(auto, using(csp_model::proofs::FinalBytes::byte_turned))]
-fn without_padding(text: &[u8]) -> &[u8]
-    ensures { result.now ≡ without_final (code "=") text.now }
-{
-    text.strip_suffix(b"=").unwrap_or(text)
-}
-
-#[tactic(auto, unfolding(csp_model::specs::Grammar::is_base64_value))]
-fn is_base64_value(text: &[u8]) -> bool
-    ensures { result ≡ grammar.is_base64_value text.now }
-{
-    let digits = without_padding(without_padding(text));
-    !digits.is_empty() && all_base64_chars(digits)
 }
 
 fn base64_text(alloc: Global, text: &str) -> Result<Option<Text>, Memory>

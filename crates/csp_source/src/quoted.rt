@@ -1,13 +1,13 @@
 //! Keywords, nonces and hashes, which stand between apostrophes (Content Security Policy Level 3,
 //! section 2.3.1).
 ghost use Rattle.std.specs.Prelude.{◌≡◌, ◌++◌, ◌∷◌, ◌&&◌, if◌then◌else◌, IfOk, IfSome, IsTrue, Some, None, option_copied, codes};
-ghost use Rattle.std.specs.List.{list_all, find};
+ghost use Rattle.std.specs.List.{find};
 ghost use Rattle.std.specs.Str.{bytes_eq};
 ghost use Rattle.csp_model.specs.Ascii.{code, is_ascii_text, lower, ends_in, without_last};
 ghost use Rattle.csp_model.specs.Grammar as grammar;
 ghost use Rattle.csp_model.specs.Reading as spec;
 
-use crate::texts::without_final;
+use csp_grammar::is_base64_value;
 use csp_model::{Algorithm, Hash, Keyword, Memory, Source, Text};
 use std::alloc::Global;
 
@@ -57,27 +57,6 @@ pub(crate) fn keyword_source(token: &[u8]) -> Option<Source>
         None => None,
         Some(word) => Some(Source::Word { word }),
     }
-}
-
-#[tactic(auto, unfolding(csp_model::specs::Grammar::is_base64_char))]
-fn is_base64_char(b: u8) -> bool
-    ensures { result ≡ grammar.is_base64_char b }
-{
-    b.is_ascii_alphanumeric() || b"+/-_".contains(&b)
-}
-
-fn all_base64_chars(text: &[u8]) -> bool
-    ensures { result ≡ list_all grammar.is_base64_char text.now }
-{
-    text.iter().all(|b| is_base64_char(*b))
-}
-
-#[tactic(auto, unfolding(csp_model::specs::Grammar::is_base64_value))]
-fn is_base64_value(text: &[u8]) -> bool
-    ensures { result ≡ grammar.is_base64_value text.now }
-{
-    let digits = without_final(without_final(text, b'='), b'=');
-    !digits.is_empty() && all_base64_chars(digits)
 }
 
 // The letters are the word in letters of either case, where the word is in lower case.

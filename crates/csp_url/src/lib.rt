@@ -1,8 +1,6 @@
 //! URLs and origins: reads them, makes them of parts, and writes them (URL Standard).
 #![tactic(auto)]
 
-mod address;
-mod domain;
 mod error;
 mod host;
 pub mod laws;
@@ -10,7 +8,6 @@ mod origin;
 mod parts;
 mod path;
 mod read;
-mod scheme;
 mod strip;
 mod text;
 

@@ -1,24 +1,12 @@
 //! Paths (URL Standard, section 4.1).
-ghost use Rattle.std.specs.Prelude.{◌≡◌, ◌||◌, codes, IfOk};
+ghost use Rattle.std.specs.Prelude.{◌≡◌, IfOk};
 ghost use Rattle.std.specs.List.{list_all};
-ghost use Rattle.std.specs.Str.{bytes_eq};
 ghost use Rattle.csp_model.specs.Validity as validity;
 ghost use Rattle.csp_url.specs.Reading as spec;
 
+use csp_grammar::is_piece;
 use csp_model::{Bytes, List, Memory, pieces_of};
 use std::alloc::Global;
-
-fn is_dots(piece: &[u8]) -> bool
-    ensures { result ≡ (bytes_eq piece.now (codes ".") || bytes_eq piece.now (codes "..")) }
-{
-    matches!(piece, [b'.'] | [b'.', b'.'])
-}
-
-fn is_piece(piece: &[u8]) -> bool
-    ensures { result ≡ validity.is_piece piece.now }
-{
-    !is_dots(piece)
-}
 
 fn are_pieces(pieces: &[Bytes]) -> bool
     ensures { result ≡ list_all validity.is_piece pieces.now }

@@ -11,9 +11,10 @@ use Rattle.std.specs.declared.cmp.Ordering.TheVariants.{Less, Equal, Greater}
 use Rattle.csp_atom.specs.declared.atom.Atom.{Atom}
 use Rattle.csp_atom.specs.declared.atom.Atom.TheVariants.{HostIs, HostUnder, HostDomain, PortIs, PathIs, PathUnder, SchemeIs, NonceIs, IntegrityHas, IntegrityOutside, DigestIs}
 use Rattle.csp_atom.specs.declared.atom.Literal.{Literal}
-use Rattle.csp_valuation.specs.Order.{rank, atom_cmp}
+use Rattle.csp_atom.specs.Order.{rank, atom_cmp}
 use Rattle.csp_valuation.specs.Reach.{Ascends, Covers, decides_itself_alone, first_rank, last_rank, is_before, is_after}
-use Rattle.csp_valuation.proofs.OrderLaws.{atom_total}
+use Rattle.csp_atom.proofs.OrderLaws.{atom_total}
+use Rattle.csp_atom.proofs.SameAtom.{less_down}
 use Rattle.csp_valuation.proofs.ReachLaws.{none_before, none_after}
 
 -- One place more
@@ -54,16 +55,6 @@ next_at atoms n x y h p q low d =
     rw (first, second) low
 
 -- What goes down with the order
-
-pub less_down : (a b x : Atom) (r : Ordering) → atom_cmp a b ≡ r → is_gt r ≡ false → is_lt (atom_cmp b x) ≡ true → is_lt (atom_cmp a x) ≡ true
-less_down a b x Less is low less = let e = less_is (atom_cmp b x) refl less in ap is_lt (atom_total.trans a b x is e)
-  where
-    less_is : (s : Ordering) → atom_cmp b x ≡ s → is_lt (atom_cmp b x) ≡ true → atom_cmp b x ≡ Less
-    less_is Less e h = e
-    less_is Equal e h = let g : is_lt Equal ≡ true = rw e at h in cc
-    less_is Greater e h = let g : is_lt Greater ≡ true = rw e at h in cc
-less_down a b x Equal is low less = ap is_lt (atom_total.congr a b x is) ∙ less
-less_down a b x Greater is low less = cc
 
 rank_up : (m n : ℕ) (r : Ordering) → is_gt (ordering_then (ordering_then (nat_cmp m n) Equal) r) ≡ false → m ≤ n
 rank_up m n r e = grind (arith, nat_tests)

@@ -12,8 +12,9 @@ use Rattle.csp_formula.specs.declared.formula.Formula.{Formula}
 use Rattle.csp_formula.specs.declared.formula.Formula.TheVariants.{Fact, Every, OneOf, rolls-Fact, rolls-Every, rolls-OneOf}
 use Rattle.csp_formula.specs.declared.formula.Formula.TheOpen.{Formula-F}
 use Rattle.csp_formula.specs.declared.formula.Formula.TheFolds.{fold-roll-Formula}
-use Rattle.csp_valuation.specs.Facts.{atoms_in, facts_of, has_atom, is_seen, Gains, atom_of}
-use Rattle.csp_valuation.specs.Order.{atom_cmp}
+use Rattle.csp_formula.specs.Values.{atoms_in}
+use Rattle.csp_valuation.specs.Facts.{facts_of, has_atom, is_seen, Gains, atom_of}
+use Rattle.csp_atom.specs.Order.{atom_cmp}
 use Rattle.csp_valuation.specs.declared.key.Key.{Key}
 
 -- One layer of a formula

@@ -5,7 +5,8 @@ use Rattle.std.specs.List.{Contains}
 use Rattle.csp_atom.specs.declared.atom.Atom.{Atom}
 use Rattle.csp_formula.specs.Sentences.{Sentence, all_of, any_of, sentence_of}
 use Rattle.csp_formula.specs.declared.formula.Formula.{Formula}
-use Rattle.csp_valuation.specs.Facts.{IsListOf, atoms_in, facts_of}
+use Rattle.csp_formula.specs.Values.{atoms_in}
+use Rattle.csp_valuation.specs.Facts.{IsListOf, facts_of}
 use Rattle.csp_valuation.specs.Placed.{placed_step, sentence_at}
 use Rattle.csp_valuation.specs.declared.placed.PlacedFormula.{PlacedFormula}
 use Rattle.csp_valuation.specs.declared.placed.PlacedFormula.TheVariants.{Every, OneOf, rolls-Every, rolls-OneOf}

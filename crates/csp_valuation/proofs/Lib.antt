@@ -5,7 +5,6 @@ pub mod Kept
 pub mod Layers
 pub mod Listed
 pub mod Marking
-pub mod OrderLaws
 pub mod ReachLaws
 pub mod Values
 pub mod Within

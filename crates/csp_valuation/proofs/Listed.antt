@@ -6,7 +6,7 @@ use Rattle.std.specs.List.{Contains}
 use Rattle.std.specs.List.Sorted.{IsStrictlySortedBy}
 use Rattle.csp_atom.specs.declared.atom.Atom.{Atom}
 use Rattle.csp_valuation.specs.Facts.{IsListOf, has_atom, is_seen, Gains, atom_of}
-use Rattle.csp_valuation.specs.Order.{atom_cmp}
+use Rattle.csp_atom.specs.Order.{atom_cmp}
 use Rattle.csp_valuation.specs.declared.key.Key.{Key}
 use Rattle.csp_valuation.proofs.Finding.{has_Contains, Contains_has, seen_Contains, Contains_seen, ascends_rising}
 use Rattle.csp_valuation.proofs.Gaining.{has_append}

@@ -6,8 +6,7 @@ use Rattle.std.specs.Option.{option_map}
 use Rattle.std.proofs.Math.ListN.{set}
 use Rattle.std.proofs.lemmas.List.{take_more_set, drop-set-lt}
 use Rattle.std.proofs.Math.Seq.{take-append_seam}
-use Rattle.csp_atom.specs.Follows.{follows}
-use Rattle.csp_formula.specs.Surely.{decided, or_else}
+use Rattle.csp_atom.specs.Follows.{follows, decided, or_else}
 use Rattle.csp_atom.specs.declared.atom.Atom.{Atom}
 use Rattle.csp_atom.specs.declared.atom.Literal.{Literal}
 use Rattle.csp_valuation.specs.declared.marks.Decision.{Decision}

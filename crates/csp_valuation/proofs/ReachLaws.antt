@@ -14,9 +14,9 @@ use Rattle.csp_atom.specs.Follows.{follows, follows_true, follows_false, true_wh
 use Rattle.csp_atom.specs.declared.atom.Atom.{Atom}
 use Rattle.csp_atom.specs.declared.atom.Atom.TheVariants.{HostIs, HostUnder, HostDomain, PortIs, PathIs, PathUnder, SchemeIs, NonceIs, IntegrityHas, IntegrityOutside, DigestIs}
 use Rattle.csp_atom.specs.declared.atom.Literal.{Literal}
-use Rattle.csp_valuation.specs.Order.{rank, atom_cmp}
+use Rattle.csp_atom.specs.Order.{rank, atom_cmp}
 use Rattle.csp_valuation.specs.Reach.{decides_itself_alone, first_rank, last_rank, is_before, is_after}
-use Rattle.csp_valuation.proofs.OrderLaws.{atom_total}
+use Rattle.csp_atom.proofs.OrderLaws.{atom_total}
 
 -- A literal that decides its own atom alone
 

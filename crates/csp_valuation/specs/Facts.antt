@@ -1,21 +1,15 @@
--- The atoms that stand in a sentence, and sets of atoms that gain some.
+-- The atoms that stand in formulas, and sets of atoms that gain some.
 use Rattle.std.specs.Prelude.{◌≡◌, ◌++◌, ◌||◌, Bool, List, [], ◌∷◌}
 use Rattle.std.specs.BTreeSet.{BTreeSet, contains_by}
 use Rattle.std.specs.List.{Contains, flat_map, list_any}
 use Rattle.std.specs.Ordering.{is_eq}
 use Rattle.csp_atom.specs.declared.atom.Atom.{Atom}
-use Rattle.csp_formula.specs.Sentences.{Sentence, Known, Fact, Not, Both, Either, sentence_of}
+use Rattle.csp_formula.specs.Sentences.{sentence_of}
+use Rattle.csp_formula.specs.Values.{atoms_in}
 use Rattle.csp_formula.specs.declared.formula.Formula.{Formula}
-use Rattle.csp_valuation.specs.Order.{atom_cmp}
+use Rattle.csp_atom.specs.Order.{atom_cmp}
 use Rattle.csp_valuation.specs.Reach.{Ascends}
 use Rattle.csp_valuation.specs.declared.key.Key.{Key}
-
-abbrev pub atoms_in : Sentence → List Atom
-atoms_in (Known b) = []
-atoms_in (Fact atom) = atom ∷ []
-atoms_in (Not x) = atoms_in x
-atoms_in (Both x y) = atoms_in x ++ atoms_in y
-atoms_in (Either x y) = atoms_in x ++ atoms_in y
 
 -- the atoms that stand in some of the formulas
 abbrev pub facts_of : List Formula → List Atom

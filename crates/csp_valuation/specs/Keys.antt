@@ -1,6 +1,6 @@
 -- A word of a private type's impls, which stands here since they cite only specs/.
 use Rattle.std.specs.Prelude.{ℕ, List}
-use Rattle.csp_valuation.specs.Order.{key}
+use Rattle.csp_atom.specs.Order.{key}
 use Rattle.csp_valuation.specs.declared.key.Key.{Key}
 
 -- the key of the atom itself

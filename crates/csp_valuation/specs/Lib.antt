@@ -1,8 +1,6 @@
 pub mod Facts
 pub mod Keys
-pub mod Kinds
 pub mod Marks
-pub mod Order
 pub mod Paths
 pub mod Placed
 pub mod Reach

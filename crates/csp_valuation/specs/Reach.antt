@@ -7,7 +7,7 @@ use Rattle.csp_atom.specs.declared.atom.Atom.{Atom}
 use Rattle.csp_atom.specs.declared.atom.Atom.TheVariants.{HostIs, HostUnder, HostDomain, PortIs, PathIs, PathUnder, SchemeIs, NonceIs, IntegrityHas, IntegrityOutside, DigestIs}
 use Rattle.csp_atom.specs.declared.atom.Literal.{Literal}
 use Rattle.csp_valuation.specs.Marks.{cleared}
-use Rattle.csp_valuation.specs.Order.{rank, atom_cmp}
+use Rattle.csp_atom.specs.Order.{rank, atom_cmp}
 use Rattle.csp_valuation.specs.declared.marks.Decision.{Decision}
 
 -- no atom is above a later one

@@ -2,7 +2,7 @@
 use Rattle.std.specs.Prelude.{ℕ, Bool, false, List, Option, Some, None, slice_get}
 use Rattle.csp_atom.specs.declared.atom.Atom.{Atom}
 use Rattle.csp_atom.specs.declared.atom.Literal.{Literal}
-use Rattle.csp_formula.specs.Surely.{decided}
+use Rattle.csp_atom.specs.Follows.{decided}
 
 -- the atoms, the literals of the path, the root's first, and how many literals there is room for
 pub record Assignment : Type 0 where

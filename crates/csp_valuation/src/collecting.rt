@@ -2,8 +2,9 @@
 ghost use Rattle.std.specs.Prelude.{◌≡◌, IfOk, OnOk, map};
 ghost use Rattle.std.specs.List.Sorted.{IsStrictlySortedBy};
 ghost use Rattle.csp_formula.specs.Sentences.{sentence_of};
+ghost use Rattle.csp_formula.specs.Values.{atoms_in};
 ghost use Rattle.csp_valuation.specs.Facts as spec;
-ghost use Rattle.csp_valuation.specs.Order.{atom_cmp};
+ghost use Rattle.csp_atom.specs.Order.{atom_cmp};
 
 use crate::key::Key;
 use csp_atom::Atom;
@@ -15,7 +16,7 @@ use std::collections::BTreeSet;
 // Adds the atoms of a formula to those that were seen.
 #[cycle(collect)]
 fn collect<'f>(formula: &'f Formula, seen: &mut BTreeSet<Key<'f>>) -> Result<(), Memory>
-    ensures { OnOk result (spec.Gains seen.old seen.new (spec.atoms_in (sentence_of formula.now))) }
+    ensures { OnOk result (spec.Gains seen.old seen.new (atoms_in (sentence_of formula.now))) }
 {
     match formula {
         Formula::Constant(_) => Ok(()),

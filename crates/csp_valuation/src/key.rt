@@ -5,8 +5,8 @@ ghost use Rattle.std.specs.Cmp.Lexicographic.{pointwise, slice_cmp, lists_equiv,
 ghost use Rattle.std.specs.Cmp.Lexicographic.{nat_list_eq_equiv, nat_list_cmp_total, texts_ties};
 ghost use Rattle.std.specs.Ordering.{nat_cmp};
 
-use crate::order::compare;
 use csp_atom::Atom;
+use csp_atom::order::compare;
 use std::cmp::Ordering;
 
 // An atom as a key of a set.

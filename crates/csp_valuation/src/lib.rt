@@ -7,7 +7,6 @@
 mod collecting;
 mod key;
 mod marks;
-mod order;
 mod placed;
 mod placing;
 mod reach;

@@ -3,14 +3,15 @@ ghost use Rattle.std.specs.Prelude.{◌≡◌, ◌≢◌, ◌↔◌, ◌++◌, I
 ghost use Rattle.std.specs.List.{AllPairs, Contains};
 ghost use Rattle.csp_atom.specs.declared.atom.Atom.{Atom as AtomValue};
 ghost use Rattle.csp_formula.specs.Sentences.{sentence_of};
-ghost use Rattle.csp_valuation.specs.Facts.{IsListOf, atoms_in, facts_of};
+ghost use Rattle.csp_formula.specs.Values.{atoms_in};
+ghost use Rattle.csp_valuation.specs.Facts.{IsListOf, facts_of};
 ghost use Rattle.csp_valuation.specs.Placed.{sentence_at};
 ghost use Rattle.csp_valuation.specs.Reach.{Ascends};
 
 use crate::collecting::{atoms_of, collect_all};
-use crate::order::compare;
 use crate::placed::PlacedFormula;
 use csp_atom::Atom;
+use csp_atom::order::compare;
 use csp_formula::Formula;
 use csp_model::{List, Memory};
 use std::alloc::Global;

@@ -3,9 +3,9 @@ ghost use Rattle.std.specs.Prelude.{◌≡◌, true};
 ghost use Rattle.csp_valuation.specs.Paths.{literal_of};
 ghost use Rattle.csp_valuation.specs.Reach as spec;
 
-use crate::order::{compare, rank};
 use crate::taken::Taken;
 use csp_atom::Atom;
+use csp_atom::order::{compare, rank};
 
 // The places from `start` on, up to `end` and without it.
 #[derive(Clone, Copy, Debug)]

@@ -2,7 +2,8 @@ use Rattle.std.proofs.Common.{◌∙◌, ap, sym, subst, List, OnOk}
 use Rattle.csp_atom.specs.declared.atom.Atom.{Atom}
 use Rattle.csp_formula.specs.Sentences.{sentence_of}
 use Rattle.csp_formula.specs.declared.formula.Formula.{Formula}
-use Rattle.csp_valuation.specs.Facts.{atoms_in, facts_of, Gains}
+use Rattle.csp_formula.specs.Values.{atoms_in}
+use Rattle.csp_valuation.specs.Facts.{facts_of, Gains}
 use Rattle.csp_valuation.proofs.Gaining.{says_Fact, says_Every, says_OneOf, all_facts, any_facts, gains_one, gains_more, gains_all}
 use Rattle.csp_valuation.proofs.collecting.+collect.Goals as goal
 

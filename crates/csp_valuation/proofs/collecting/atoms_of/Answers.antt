@@ -1,7 +1,7 @@
 use Rattle.std.proofs.Common.{◌≡◌, ◌∙◌, ◌++◌, ap, sym, subst, map, append-nil}
 use Rattle.std.specs.List.Sorted.{IsStrictlySortedBy}
 use Rattle.csp_valuation.specs.Facts.{atom_of}
-use Rattle.csp_valuation.specs.Order.{atom_cmp}
+use Rattle.csp_atom.specs.Order.{atom_cmp}
 use Rattle.csp_valuation.proofs.Gaining.{rises}
 use Rattle.csp_valuation.proofs.collecting.atoms_of.Goals as goal
 

@@ -1,7 +1,8 @@
 use Rattle.std.proofs.Common.{◌∙◌, ap, sym, subst, map}
 use Rattle.csp_formula.specs.Sentences.{all_of, any_of, sentence_of}
 use Rattle.csp_formula.specs.declared.formula.Formula.{Formula}
-use Rattle.csp_valuation.specs.Facts.{IsListOf, atoms_in, facts_of}
+use Rattle.csp_formula.specs.Values.{atoms_in}
+use Rattle.csp_valuation.specs.Facts.{IsListOf, facts_of}
 use Rattle.csp_valuation.proofs.Gaining.{says_Every, says_OneOf, all_facts, any_facts}
 use Rattle.csp_valuation.proofs.Layers.{placed_Every, placed_OneOf, says_more, is_list_of_part}
 use Rattle.csp_valuation.proofs.placing.+place.Goals as goal

@@ -2,7 +2,7 @@ use Rattle.std.proofs.Common.{rules, of_calls}
 use Rattle.std.proofs.lemmas.Fn.{always_returns_same}
 use Rattle.std.specs.Ordering.{is_lt}
 use Rattle.csp_atom.specs.declared.atom.Atom.{Atom}
-use Rattle.csp_valuation.specs.Order.{atom_cmp}
+use Rattle.csp_atom.specs.Order.{atom_cmp}
 use Rattle.csp_valuation.proofs.Finding.{parted_lower, found}
 use Rattle.csp_valuation.proofs.placing.place_of.Goals as goal
 

@@ -1,6 +1,7 @@
 use Rattle.std.proofs.Common.{◌≡◌, ◌++◌, None}
 use Rattle.csp_atom.specs.declared.atom.Literal.{Literal}
-use Rattle.csp_cell.specs.Cells.{decided, needed_beside, IsOf}
+use Rattle.csp_cell.specs.Cells.{needed_beside, IsOf}
+use Rattle.csp_atom.specs.Follows.{decided}
 use Rattle.csp_cell.specs.Inside.{Adds}
 use Rattle.csp_cell.proofs.Inserting.{needed_rises}
 use Rattle.csp_cell.proofs.Making.{made_cell, made_placing, made_others, made_rises, made_decides}
