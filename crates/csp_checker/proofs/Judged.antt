@@ -1,0 +1,218 @@
+-- The answers about one tree: of its own nodes, and of nodes that it shares.
+use Rattle.std.proofs.Common.{arith, refl, ◌≡◌, ◌∙◌, sym, ap, subst, ℕ, ◌+◌, ◌<◌, ◌≤◌, ◌^◌, suc, Bool, true, false, List, [], ◌∷◌, length, map, take, get_or, ◌⊎◌, inl, inr, zero}
+use Rattle.std.specs.Prelude.{Option, Some, None, IsTrue, slice_get}
+use Rattle.std.specs.Option.{option_map}
+use Rattle.std.proofs.lemmas.List.{length-map}
+use Rattle.std.proofs.lemmas.Option.{slice_get-map, slice_get-get_or, same_Some}
+use Rattle.csp_atom.specs.declared.atom.Atom.{Atom}
+use Rattle.csp_shape.specs.Shapes.{is_shape}
+use Rattle.csp_proof.specs.Accepts.{Lists, cases_in, bad_tree, at_line, bad_body, bad_shared, for_pair, first_bad_node}
+use Rattle.csp_proof.specs.Pairs.{Pair}
+use Rattle.csp_proof.specs.Spelling.{tree_lines, body_lines}
+use Rattle.csp_proof.specs.WellFormed.{IsPreorder, IsBody, IsTree, body_at}
+use Rattle.csp_proof.specs.declared.proof.Body.{Body}
+use Rattle.csp_proof.specs.declared.proof.Body.TheVariants as body
+use Rattle.csp_proof.specs.declared.proof.Format.{Format}
+use Rattle.csp_proof.specs.declared.proof.Node.{Node}
+use Rattle.csp_proof.specs.declared.proof.Tree.{Tree}
+use Rattle.csp_table.specs.declared.table.FormulaTable.{FormulaTable}
+use Rattle.csp_valuation.specs.Placed.{sentence_at}
+use Rattle.csp_valuation.specs.declared.placing.PlacedFormulas.{PlacedFormulas}
+use Rattle.csp_checker.specs.Asked.{IsTableOf, IsAsked, IsFor, IsReached, AreKept, bad_in, bad_line, due, numbered, numbers_fit, lists_of, trees_of}
+use Rattle.csp_checker.specs.Checked.{Claim}
+use Rattle.csp_checker.specs.Walk.{walk, splits, splits_below}
+use Rattle.csp_checker.specs.declared.asked.Asked.{Asked}
+use Rattle.csp_checker.specs.declared.asked.NumberedPair.{NumberedPair}
+use Rattle.csp_checker.proofs.Formed.{all_at, stands, lines_fit, shared_before}
+use Rattle.csp_checker.proofs.Law.{tree_walk}
+use Rattle.csp_checker.proofs.Lines.{said_alike, none_from, none_at, from_line}
+use Rattle.csp_checker.proofs.PairsMade.{all_listed}
+use Rattle.csp_checker.proofs.Tables.{says, said_at, said_the_same}
+use Rattle.csp_checker.proofs.Whole.{kept_by, parts_of, for_it}
+
+-- the walk by formulas of the tree's shape answers for each pair that the tree is for
+pub judged : (lists : Lists) (table : FormulaTable) → IsTableOf lists table → (pair : Pair) (tree : Tree) → IsFor pair tree
+    → (place : ℕ) (formulas : PlacedFormulas) (atoms : List Atom) (nodes : List Node) → slice_get table.places tree.shape ≡ Some place → slice_get table.kinds place ≡ Some formulas
+    → atoms ≡ formulas.atoms → IsPreorder nodes
+    → walk (says lists tree.policy (map (sentence_at atoms) formulas.first) (map (sentence_at atoms) formulas.second)) 0 ([] ∷ []) nodes ≡ bad_tree lists pair 0 (cases_in nodes)
+judged lists table is pair tree for place formulas atoms nodes placed there same pre =
+    ap (λ (by : List Atom). walk (says lists tree.policy (map (sentence_at by) formulas.first) (map (sentence_at by) formulas.second)) 0 ([] ∷ []) nodes) same
+    ∙ ap (λ (n : ℕ). walk (says lists n (map (sentence_at formulas.atoms) formulas.first) (map (sentence_at formulas.atoms) formulas.second)) 0 ([] ∷ []) nodes) (sym for.policy)
+    ∙ ap (λ s. walk s 0 ([] ∷ []) nodes) (said_at lists table is pair for.listed place formulas (ap (slice_get table.places) for.shape ∙ placed) there)
+    ∙ tree_walk lists pair 0 nodes pre
+
+-- the tree of a number may stand there
+pub tree_stands : (asked : Asked) → IsAsked asked → (n : ℕ) (tree : Tree) → slice_get (trees_of asked) n ≡ Some tree → IsTree asked.proof.now.format (take n (trees_of asked)) tree
+tree_stands asked is n tree there = stands asked.proof.now.format (trees_of asked) is.formed.trees n tree there
+
+-- its last line has a number
+pub lines_within : (asked : Asked) → IsAsked asked → (n : ℕ) (tree : Tree) → slice_get (trees_of asked) n ≡ Some tree → tree.line + length (tree_lines tree) < 2 ^ 128
+lines_within asked is n tree there =
+    let own = (tree_stands asked is n tree there).line in
+    let fit = lines_fit (trees_of asked) n tree there in
+    omega (arith, own, fit, is.lines, is.formed.last_line)
+
+body_count : (nodes : List Node) → length (body_lines (body.Nodes nodes)) ≡ length nodes
+body_count [] = refl
+body_count (n ∷ nodes) = ap suc (body_count nodes)
+
+nodes_fit : (tree : Tree) (nodes : List Node) → tree.body ≡ body.Nodes nodes → length (tree_lines tree) ≡ length nodes + 1
+nodes_fit tree nodes has =
+    let e = ap (λ (b : Body). length (tree_lines (record tree { body = b }))) has in
+    e ∙ (let l = body_count nodes in omega arith)
+
+pub preorder_of : (format : Format) (before : List Tree) (b : Body) (nodes : List Node) → b ≡ body.Nodes nodes → IsBody format before b → IsPreorder nodes
+preorder_of format before b nodes has is = (subst (IsBody format before) has is).0
+
+-- every pair's shape is one
+pub pair_listed : (asked : Asked) (n : ℕ) (pair : Pair) → slice_get (due asked.second.now) n ≡ Some pair → IsTrue (is_shape pair.shape)
+pair_listed asked n pair there = all_at (λ (p : Pair). IsTrue (is_shape p.shape)) (due asked.second.now) n pair (all_listed asked.second.now) there
+
+-- nodes of a tree before this one, for the same policy and the same formulas, keep the rules of this one's pair
+pub shared_good : (asked : Asked) → IsAsked asked → (count : ℕ) (tree : Tree) → IsReached asked count tree → (n : ℕ) (other : Tree) (nodes : List Node)
+    → n < count → slice_get (trees_of asked) n ≡ Some other → other.body ≡ body.Nodes nodes
+    → tree.policy ≡ other.policy → slice_get asked.table.places tree.shape ≡ slice_get asked.table.places other.shape
+    → (pair : Pair) → IsFor pair tree → bad_tree (lists_of asked) pair 0 (cases_in nodes) ≡ None
+shared_good asked is count tree reached n other nodes before there has policies places pair for =
+    let lists = lists_of asked in
+    let format = asked.proof.now.format in
+    let own = kept_by lists (trees_of asked) (slice_get (due asked.second.now) n) other nodes (pair_listed asked n) has (reached.before n other before there) in
+    let pre = preorder_of format (take n (trees_of asked)) other.body nodes has (tree_stands asked is n other there).body in
+    let same = said_the_same lists asked.table is.table own.pair pair own.is.listed for.listed (own.is.policy ∙ sym policies ∙ sym for.policy)
+    (ap (slice_get asked.table.places) own.is.shape ∙ sym places ∙ sym (ap (slice_get asked.table.places) for.shape)) in
+    sym (said_alike lists own.pair pair nodes pre same) ∙ own.keeps
+
+-- nodes that are shared stand before the tree
+pub stands_before : (asked : Asked) → IsAsked asked → (count : ℕ) (tree : Tree) → IsReached asked count tree → (n : ℕ) → tree.body ≡ body.Same n → n < count
+stands_before asked is count tree reached n shares =
+    let format = asked.proof.now.format in
+    let own = subst (IsBody format (take count (trees_of asked))) shares (tree_stands asked is count tree reached.there).body in
+    shared_before (trees_of asked) count n own.2
+
+pub room_for : (asked : Asked) → IsAsked asked → (n : ℕ) (tree : Tree) (nodes : List Node) → slice_get (trees_of asked) n ≡ Some tree → tree.body ≡ body.Nodes nodes → splits nodes ≤ asked.room
+room_for asked is n tree nodes there has =
+    subst (λ (b : Body). splits_below b ≤ asked.room) has (all_at (λ (t : Tree). splits_below t.body ≤ asked.room) (trees_of asked) n tree is.room there)
+
+-- what a shared body comes to
+
+pub shares_none : (lists : Lists) (trees : List Tree) (pair : Pair) (line n : ℕ) → slice_get trees n ≡ None → bad_shared lists pair line (body_at trees n) ≡ Some line
+shares_none lists trees pair line n none = ap (λ (o : Option Tree). bad_shared lists pair line (option_map (λ (t : Tree). t.body) o)) none
+
+pub shares_same : (lists : Lists) (trees : List Tree) (pair : Pair) (line n : ℕ) (other : Tree) (m : ℕ) → slice_get trees n ≡ Some other → other.body ≡ body.Same m → bad_shared lists pair line (body_at trees n) ≡ Some line
+shares_same lists trees pair line n other m there has =
+    ap (λ (o : Option Tree). bad_shared lists pair line (option_map (λ (t : Tree). t.body) o)) there ∙ ap (λ (b : Body). bad_shared lists pair line (Some b)) has
+
+shares_nodes : (lists : Lists) (trees : List Tree) (pair : Pair) (line n : ℕ) (other : Tree) (nodes : List Node) → slice_get trees n ≡ Some other → other.body ≡ body.Nodes nodes
+    → bad_shared lists pair line (body_at trees n) ≡ at_line line (bad_tree lists pair line (cases_in nodes))
+shares_nodes lists trees pair line n other nodes there has =
+    ap (λ (o : Option Tree). bad_shared lists pair line (option_map (λ (t : Tree). t.body) o)) there ∙ ap (λ (b : Body). bad_shared lists pair line (Some b)) has
+
+pub shares_good : (lists : Lists) (trees : List Tree) (pair : Pair) (line n : ℕ) (other : Tree) (nodes : List Node) → slice_get trees n ≡ Some other → other.body ≡ body.Nodes nodes
+    → bad_tree lists pair 0 (cases_in nodes) ≡ None → bad_shared lists pair line (body_at trees n) ≡ None
+shares_good lists trees pair line n other nodes there has good =
+    shares_nodes lists trees pair line n other nodes there has ∙ none_at line (bad_tree lists pair line (cases_in nodes)) (none_from lists pair line (cases_in nodes) good)
+
+at_some : (line : ℕ) (o : Option ℕ) (n : ℕ) → o ≡ Some n → at_line line o ≡ Some line
+at_some line o n is = ap (at_line line) is
+
+pub shares_bad : (lists : Lists) (trees : List Tree) (pair : Pair) (line n : ℕ) (other : Tree) (nodes : List Node) (place : ℕ) → slice_get trees n ≡ Some other → other.body ≡ body.Nodes nodes
+    → bad_tree lists pair 0 (cases_in nodes) ≡ Some place → bad_shared lists pair line (body_at trees n) ≡ Some line
+shares_bad lists trees pair line n other nodes place there has bad =
+    shares_nodes lists trees pair line n other nodes there has
+    ∙ at_some line (bad_tree lists pair line (cases_in nodes)) (line + place) (from_line lists pair line (cases_in nodes) ∙ ap (option_map (λ (m : ℕ). line + m)) bad)
+
+-- what a tree's own nodes come to
+
+pub pre_for : (asked : Asked) → IsAsked asked → (n : ℕ) (tree : Tree) (nodes : List Node) → slice_get (trees_of asked) n ≡ Some tree → tree.body ≡ body.Nodes nodes → IsPreorder nodes
+pre_for asked is n tree nodes there has = preorder_of asked.proof.now.format (take n (trees_of asked)) tree.body nodes has (tree_stands asked is n tree there).body
+
+pub own_bad : (lists : Lists) (trees : List Tree) (pair : Pair) (tree : Tree) (nodes : List Node) (place : ℕ) → tree.body ≡ body.Nodes nodes
+    → Some place ≡ bad_tree lists pair 0 (cases_in nodes) → Some (tree.line + 1 + place) ≡ bad_body lists trees pair (tree.line + 1) tree.body
+own_bad lists trees pair tree nodes place has bad =
+    ap (option_map (λ (n : ℕ). tree.line + 1 + n)) bad
+    ∙ sym (ap (bad_body lists trees pair (tree.line + 1)) has ∙ from_line lists pair (tree.line + 1) (cases_in nodes))
+
+pub own_good : (lists : Lists) (trees : List Tree) (pair : Pair) (tree : Tree) (nodes : List Node) → tree.body ≡ body.Nodes nodes
+    → None ≡ bad_tree lists pair 0 (cases_in nodes) → None ≡ bad_body lists trees pair (tree.line + 1) tree.body
+own_good lists trees pair tree nodes has good =
+    sym (ap (bad_body lists trees pair (tree.line + 1)) has ∙ none_from lists pair (tree.line + 1) (cases_in nodes) (sym good))
+
+-- the lines of a tree have numbers
+
+pub nodes_within : (asked : Asked) → IsAsked asked → (n : ℕ) (tree : Tree) (nodes : List Node) → slice_get (trees_of asked) n ≡ Some tree → tree.body ≡ body.Nodes nodes → tree.line + 1 + length nodes < 2 ^ 128
+nodes_within asked is n tree nodes there has = omega (arith, lines_within asked is n tree there, nodes_fit tree nodes has)
+
+pub shares_within : (asked : Asked) → IsAsked asked → (n : ℕ) (tree : Tree) → slice_get (trees_of asked) n ≡ Some tree → tree.line + 1 < 2 ^ 128
+shares_within asked is n tree there = by tree.body refl where
+  by : (b : Body) → tree.body ≡ b → tree.line + 1 < 2 ^ 128
+  by (body.Nodes nodes) has = omega (arith, nodes_within asked is n tree nodes there has)
+  by (body.Same m) has =
+      let count = ap (λ (b : Body). length (tree_lines (record tree { body = b }))) has in
+      omega (arith, lines_within asked is n tree there, count)
+
+-- the pair that a tree has to be for
+
+pub due_at : (asked : Asked) → IsAsked asked → (n : ℕ) (found : NumberedPair) → Some found ≡ slice_get asked.pairs.items n
+    → (pair : Pair) × (slice_get (due asked.second.now) n ≡ Some pair) × (numbered pair ≡ found)
+due_at asked is n found there = by (slice_get (due asked.second.now) n) refl (there ∙ ap (λ (ps : List NumberedPair). slice_get ps n) is.pairs ∙ slice_get-map numbered (due asked.second.now) n) where
+  by : (o : Option Pair) → slice_get (due asked.second.now) n ≡ o → Some found ≡ option_map numbered o → (pair : Pair) × (slice_get (due asked.second.now) n ≡ Some pair) × (numbered pair ≡ found)
+  by None at e = cc e
+  by (Some pair) at e = (pair, at, sym (same_Some found (numbered pair) e))
+
+pub none_pair : (asked : Asked) → IsAsked asked → (n : ℕ) → None ≡ slice_get asked.pairs.items n → slice_get (due asked.second.now) n ≡ None
+none_pair asked is n there = by (slice_get (due asked.second.now) n) (there ∙ ap (λ (ps : List NumberedPair). slice_get ps n) is.pairs ∙ slice_get-map numbered (due asked.second.now) n) where
+  by : (o : Option Pair) → None ≡ option_map numbered o → o ≡ None
+  by None e = refl
+  by (Some pair) e = cc e
+
+pub as_many_pairs : (asked : Asked) → IsAsked asked → length asked.pairs.items ≡ length (due asked.second.now)
+as_many_pairs asked is = ap length is.pairs ∙ length-map (due asked.second.now) numbered
+
+pub due_for : (asked : Asked) → IsAsked asked → (n : ℕ) (found : NumberedPair) (pair : Pair) (tree : Tree) → slice_get (due asked.second.now) n ≡ Some pair → numbered pair ≡ found
+    → true ≡ numbers_fit found tree → IsFor pair tree
+due_for asked is n found pair tree there same fits =
+    let parts = parts_of pair tree (ap (λ (np : NumberedPair). numbers_fit np tree) same ∙ sym fits) in
+    record { listed = pair_listed asked n pair there; shape = parts.0; policy = parts.1 }
+
+pub good_in : (asked : Asked) (n : ℕ) (pair : Pair) (tree : Tree) (answer : Option ℕ) → slice_get (due asked.second.now) n ≡ Some pair → IsFor pair tree
+    → answer ≡ bad_body (lists_of asked) (trees_of asked) pair (tree.line + 1) tree.body → answer ≡ bad_in (lists_of asked) (trees_of asked) (slice_get (due asked.second.now) n) tree
+good_in asked n pair tree answer there for is =
+    is ∙ sym (ap (λ (o : Option Pair). bad_in (lists_of asked) (trees_of asked) o tree) there ∙ for_it pair tree (bad_body (lists_of asked) (trees_of asked) pair (tree.line + 1) tree.body) for.shape for.policy)
+
+pub not_for : (asked : Asked) (n : ℕ) (found : NumberedPair) (pair : Pair) (tree : Tree) → slice_get (due asked.second.now) n ≡ Some pair → numbered pair ≡ found → false ≡ numbers_fit found tree
+    → Some tree.line ≡ bad_in (lists_of asked) (trees_of asked) (slice_get (due asked.second.now) n) tree
+not_for asked n found pair tree there same fits =
+    sym (ap (λ (o : Option Pair). bad_in (lists_of asked) (trees_of asked) o tree) there
+    ∙ ap (λ (b : Bool). for_pair b tree (bad_body (lists_of asked) (trees_of asked) pair (tree.line + 1) tree.body)) (ap (λ (np : NumberedPair). numbers_fit np tree) same ∙ sym fits))
+
+pub none_for : (asked : Asked) (n : ℕ) (tree : Tree) → slice_get (due asked.second.now) n ≡ None → Some tree.line ≡ bad_in (lists_of asked) (trees_of asked) (slice_get (due asked.second.now) n) tree
+none_for asked n tree none = sym (ap (λ (o : Option Pair). bad_in (lists_of asked) (trees_of asked) o tree) none)
+
+lt_or_same : (k n : ℕ) → k < n + 1 → (k < n) ⊎ (k ≡ n)
+lt_or_same zero zero below = inr refl
+lt_or_same zero (suc n) below = inl (omega arith)
+lt_or_same (suc k) zero below = absurd (omega arith)
+lt_or_same (suc k) (suc n) below = elim (lt_or_same k n (omega arith)) [ inl less ↦ inl (omega (arith, less)) | inr same ↦ inr (ap suc same) ]
+
+pub kept_more : (asked : Asked) (n : ℕ) (tree : Tree) → AreKept asked n → slice_get (trees_of asked) n ≡ Some tree
+    → bad_in (lists_of asked) (trees_of asked) (slice_get (due asked.second.now) n) tree ≡ None → AreKept asked (n + 1)
+kept_more asked n tree kept there good k own below here =
+    elim (lt_or_same k n below) [
+      | inl less ↦ kept k own less here
+      | inr same ↦
+          let e : own ≡ tree = same_Some own tree (sym here ∙ ap (slice_get (trees_of asked)) same ∙ there) in
+          subst (λ (t : Tree). bad_in (lists_of asked) (trees_of asked) (slice_get (due asked.second.now) k) t ≡ None) (sym e)
+          (subst (λ (m : ℕ). bad_in (lists_of asked) (trees_of asked) (slice_get (due asked.second.now) m) tree ≡ None) (sym same) good)
+    ]
+
+pub first_bad_is : (asked : Asked) → bad_line asked ≡ first_bad_node asked.first.now asked.second.now asked.proof.now
+unfolding due
+first_bad_is asked = refl
+
+pub first_bad_claim : (asked : Asked) (claim : Claim) → record { first = asked.first.now; second = asked.second.now; proof = asked.proof.now } ≡ claim
+    → bad_line asked ≡ first_bad_node claim.first claim.second claim.proof
+first_bad_claim asked claim same = first_bad_is asked ∙ ap (λ (told : Claim). first_bad_node told.first told.second told.proof) same
+
+pub tree_here : (asked : Asked) (trees : List Tree) (n : ℕ) (tree : Tree) → trees ≡ trees_of asked → n < length trees → tree ≡ get_or trees n tree → slice_get (trees_of asked) n ≡ Some tree
+tree_here asked trees n tree same inside is =
+    ap (λ (ts : List Tree). slice_get ts n) (sym same) ∙ slice_get-get_or trees n tree inside ∙ ap Some (sym is)

@@ -1,0 +1,84 @@
+-- What a checker knows of its claim before it walks, and what it keeps on the way.
+use Rattle.std.specs.Prelude.{◌≡◌, ℕ, ◌+◌, ◌≤◌, ◌<◌, ◌^◌, ◌&&◌, nat_eq, Bool, List, [], map, Option, Some, None, MatchOption, IsTrue, All, slice_get}
+use Rattle.csp_model.specs.declared.policy.PolicyList.{PolicyList}
+use Rattle.csp_shape.specs.Numbers.{number}
+use Rattle.csp_shape.specs.Shapes.{is_shape}
+use Rattle.csp_shape.specs.declared.shape.Shape.{Shape}
+use Rattle.csp_proof.specs.Accepts.{Lists, hashes_in, is_for, for_pair, bad_body, bad_from}
+use Rattle.csp_proof.specs.Pairs.{Pair, pairs}
+use Rattle.csp_proof.specs.WellFormed.{IsWellFormed}
+use Rattle.csp_proof.specs.declared.proof.Tree.{Tree}
+use Rattle.csp_table.specs.Tables.{AreAt, formulas_at}
+use Rattle.csp_table.specs.declared.table.FormulaTable.{FormulaTable}
+use Rattle.csp_valuation.specs.Valuations.{Assignment}
+use Rattle.csp_valuation.specs.declared.placing.PlacedFormulas.{PlacedFormulas}
+use Rattle.csp_checker.specs.Walk.{splits_below, at_root}
+use Rattle.csp_checker.specs.declared.asked.Asked.{Asked}
+use Rattle.csp_checker.specs.declared.asked.NumberedPair.{NumberedPair}
+
+-- a pair, with its shape's number
+abbrev pub numbered : Pair → NumberedPair
+numbered pair = record { shape = number pair.shape; policy = pair.policy }
+
+-- the pairs that a proof has to show
+unfoldable pub due : PolicyList → List Pair
+due second = pairs second
+
+abbrev pub lists_of : Asked → Lists
+lists_of asked = record { first = asked.first.now; second = asked.second.now }
+
+abbrev pub trees_of : Asked → List Tree
+trees_of asked = asked.proof.now.trees
+
+-- the table has what the policies of both lists say of each shape
+abbrev pub IsTableOf : Lists → FormulaTable → Type 0
+IsTableOf lists table = (kind : Shape) → IsTrue (is_shape kind)
+    → MatchOption (formulas_at table kind) ⊥ (AreAt (hashes_in lists) lists.first lists.second kind)
+
+-- everything that is kept beside the claim belongs to it
+pub record IsAsked (asked : Asked) : Type 0 where
+  pub formed : IsWellFormed asked.proof.now
+  pub lines : asked.proof.now.last_line < 2 ^ 128
+  pub table : IsTableOf (lists_of asked) asked.table
+  pub pairs : asked.pairs.items ≡ map numbered (due asked.second.now)
+  pub room : All (λ (tree : Tree). splits_below tree.body ≤ asked.room) (trees_of asked)
+
+-- the valuation of the atoms of these formulas, at the root
+abbrev pub unused : ℕ → PlacedFormulas → Assignment
+unused room formulas = record { atoms = formulas.atoms; literals = []; room = room }
+
+-- one valuation for each kind of formulas, wherever its path has come to
+abbrev pub AreFor : Asked → List Assignment → Type 0
+AreFor asked valuations = map at_root valuations ≡ map (unused asked.room) asked.table.kinds
+
+-- the tree is for the pair of these numbers
+abbrev pub numbers_fit : NumberedPair → Tree → Bool
+numbers_fit pair tree = nat_eq pair.shape tree.shape && nat_eq pair.policy tree.policy
+
+-- the tree is for the pair, by the numbers of both
+pub record IsFor (pair : Pair) (tree : Tree) : Type 0 where
+  pub listed : IsTrue (is_shape pair.shape)
+  pub shape : number pair.shape ≡ tree.shape
+  pub policy : pair.policy ≡ tree.policy
+
+-- the line of the first failure in a tree that has to be for this pair
+abbrev pub bad_in : Lists → List Tree → Option Pair → Tree → Option ℕ
+bad_in lists all None tree = Some tree.line
+bad_in lists all (Some pair) tree =
+    for_pair (is_for pair tree) tree (bad_body lists all pair (tree.line + 1) tree.body)
+
+-- the line of the first failure of the whole proof
+abbrev pub bad_line : Asked → Option ℕ
+bad_line asked =
+    bad_from (lists_of asked) (trees_of asked) asked.proof.now.last_line (due asked.second.now)
+    (trees_of asked)
+
+-- nothing is bad in the trees before this number
+abbrev pub AreKept : Asked → ℕ → Type 0
+AreKept asked count = (n : ℕ) (tree : Tree) → n < count → slice_get (trees_of asked) n ≡ Some tree
+    → bad_in (lists_of asked) (trees_of asked) (slice_get (due asked.second.now) n) tree ≡ None
+
+-- the tree of this number, once nothing is bad before it
+pub record IsReached (asked : Asked) (count : ℕ) (tree : Tree) : Type 0 where
+  pub there : slice_get (trees_of asked) count ≡ Some tree
+  pub before : AreKept asked count

@@ -1,0 +1,4 @@
+pub mod Asked
+pub mod Checked
+pub mod Leaves
+pub mod Walk

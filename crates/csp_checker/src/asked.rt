@@ -1,0 +1,25 @@
+//! What a checker knows of its claim before it walks.
+use csp_model::PolicyList;
+use csp_proof::Proof;
+use csp_table::FormulaTable;
+
+// A shape, and an enforced policy of the second list, by their numbers.
+#[derive(Clone, Copy, Debug)]
+pub(crate) struct NumberedPair {
+    pub shape: u8,
+    pub policy: u32,
+}
+
+// A claim, with all that is made of it once.
+#[derive(Debug, Drop)]
+pub(crate) struct Asked<'a> {
+    pub first: &'a PolicyList,
+    pub second: &'a PolicyList,
+    pub proof: &'a Proof,
+    // The formulas of both lists at each shape.
+    pub table: FormulaTable,
+    // The pairs that the trees have to be for, in order.
+    pub pairs: Vec<NumberedPair>,
+    // No tree has more splits.
+    pub room: usize,
+}

@@ -1,0 +1,101 @@
+//! The checker.
+ghost use Rattle.std.specs.Prelude.{◌≡◌, IfOk, IsOk, MatchResult, Some, None};
+ghost use Rattle.csp_model.specs.Inclusion.{Subsumes};
+ghost use Rattle.csp_model.specs.Policies.{IsReadable};
+ghost use Rattle.csp_proof.specs.Accepts.{first_bad_node};
+ghost use Rattle.csp_proof.specs.WellFormed.{IsWellFormed};
+ghost use Rattle.csp_checker.specs.Checked.{Claim};
+
+use crate::asked::Asked;
+use crate::making::{most_splits, pairs_of, valuations_of};
+use crate::trees::first_bad_line;
+use csp_atom::vocabulary_of;
+use csp_model::{Memory, PolicyList};
+use csp_proof::Proof;
+use csp_proof::laws::what_is_accepted_is_so;
+use csp_table::FormulaTable;
+use csp_valuation::Valuation;
+use std::alloc::Global;
+use std::marker::Model;
+
+/// A proof breaks a rule.
+#[derive(Clone, Copy, Debug, PartialEq, Eq)]
+pub struct Rejected {
+    /// The first line of the proof's text that breaks one, counted from 1.
+    pub line: u128,
+}
+
+/// A checker of one proof that a list of policies is at least as strict as another.
+#[derive(Debug, Drop)]
+pub struct Checker<'a> {
+    asked: Asked<'a>,
+    // For each kind of formulas in the table.
+    valuations: Vec<Valuation<'a>>,
+}
+
+impl<'a> Model for Checker<'a> {
+    ghost use Rattle.csp_model.specs.Policies.{IsReadable};
+    ghost use Rattle.csp_checker.specs.Asked.{AreFor, IsAsked};
+    ghost use Rattle.csp_checker.specs.Checked.{Claim};
+
+    ghost Value = { Claim };
+
+    ghost view = { λ c. record {
+      first = c.asked.first.now;
+      second = c.asked.second.now;
+      proof = c.asked.proof.now;
+    } };
+
+    ghost invariant = { λ c. IsReadable c.asked.first.now × IsReadable c.asked.second.now
+        × IsAsked c.asked × AreFor c.asked c.valuations.items };
+}
+
+impl<'a> Checker<'a> {
+    /// A checker of this proof, with all the memory that it needs.
+    pub fn new(
+        alloc: Global,
+        first: &'a PolicyList,
+        second: &'a PolicyList,
+        proof: &'a Proof,
+    ) -> Result<Checker<'a>, Memory>
+        requires first { IsReadable first.now }
+        requires second { IsReadable second.now }
+        requires formed { IsWellFormed proof.now }
+        ensures { IfOk result (λ checker. checker
+            ≡ record { first = first.now; second = second.now; proof = proof.now }) }
+    {
+        let vocabulary = vocabulary_of(alloc, first, second)?;
+        let table = FormulaTable::new(alloc, first, second, &vocabulary)?;
+        let pairs = pairs_of(alloc, second)?;
+        let _last_line = proof.last_line;
+        let room = most_splits(proof.trees.as_slice());
+        let valuations = valuations_of(alloc, table.kinds.as_slice(), room)?;
+        let asked = Asked {
+            first,
+            second,
+            proof,
+            table,
+            pairs,
+            room,
+        };
+        Ok(Checker { asked, valuations })
+    }
+
+    /// Whether the proof keeps all rules. Then every valid check that the first list allows the second
+    /// allows.
+    ///
+    /// Takes no memory, and gives the same answer each time.
+    pub fn accepts(&mut self) -> Result<(), Rejected>
+        ensures verdict { MatchResult result
+            (λ _. first_bad_node self.old.first self.old.second self.old.proof ≡ None)
+            (λ rejected. first_bad_node self.old.first self.old.second self.old.proof ≡ Some rejected.line) }
+        ensures subsumes { IsOk result → Subsumes self.old.first self.old.second }
+        ensures unchanged { self.new ≡ self.old }
+    {
+        what_is_accepted_is_so();
+        match first_bad_line(&self.asked, &mut self.valuations) {
+            Some(line) => Err(Rejected { line }),
+            None => Ok(()),
+        }
+    }
+}

@@ -1,0 +1,13 @@
+//! An independent checker of proofs that one list of policies is at least as strict as another.
+//!
+//! It knows nothing of how a proof was found. Once a checker is made, no call takes memory.
+#![tactic(auto)]
+
+mod asked;
+mod checker;
+mod leaf;
+mod making;
+mod trees;
+mod walk;
+
+pub use checker::{Checker, Rejected};

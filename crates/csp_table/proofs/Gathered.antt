@@ -1,0 +1,39 @@
+-- Formulas that were compiled and placed are what the policies say of the shape.
+use Rattle.std.proofs.Common.{◌≡◌, ◌≢◌, ◌∙◌, refl, ap, ap₂, subst, List, [], ◌∷◌, ◌++◌, map, Result, Ok, Err}
+use Rattle.std.specs.Prelude.{◌↔◌, IfOk, AllPairs, Contains}
+use Rattle.std.specs.List.{flat_map}
+use Rattle.csp_model.specs.declared.policy.PolicyList.{PolicyList}
+use Rattle.csp_model.specs.declared.source.Hash.{Hash}
+use Rattle.csp_atom.specs.declared.atom.Atom.{Atom}
+use Rattle.csp_shape.specs.declared.shape.Shape.{Shape}
+use Rattle.csp_formula.specs.Sentences.{sentence_of}
+use Rattle.csp_formula.specs.Values.{atoms_in}
+use Rattle.csp_formula.specs.declared.formula.Formula.{Formula}
+use Rattle.csp_valuation.specs.Facts.{facts_of}
+use Rattle.csp_valuation.specs.Placed.{sentence_at}
+use Rattle.csp_valuation.specs.declared.placing.PlacedFormulas.{PlacedFormulas}
+use Rattle.csp_table.specs.Tables.{AreAt, said_of, atoms_of}
+
+facts_are : (formulas : List Formula) → facts_of formulas ≡ flat_map atoms_in (map sentence_of formulas)
+facts_are [] = refl
+facts_are (f ∷ formulas) = ap (λ (atoms : List Atom). atoms_in (sentence_of f) ++ atoms) (facts_are formulas)
+
+module _ (hashes : List Hash) (first second : PolicyList) (kind : Shape) (ours theirs : List Formula)
+    (one : map sentence_of ours ≡ said_of hashes kind first) (other : map sentence_of theirs ≡ said_of hashes kind second) where
+  all_atoms : facts_of ours ++ facts_of theirs ≡ atoms_of hashes kind first ++ atoms_of hashes kind second
+  all_atoms =
+      ap₂ (λ (xs ys : List Atom). xs ++ ys) (facts_are ours ∙ ap (flat_map atoms_in) one) (facts_are theirs ∙ ap (flat_map atoms_in) other)
+
+  pub gathered : {E : Type 0} (r : Result PlacedFormulas E)
+      → IfOk r (λ made. map (sentence_at made.atoms) made.first ≡ map sentence_of ours)
+      → IfOk r (λ made. map (sentence_at made.atoms) made.second ≡ map sentence_of theirs)
+      → IfOk r (λ made. AllPairs (λ (a b : Atom). a ≢ b) made.atoms)
+      → IfOk r (λ made. (atom : Atom) → Contains made.atoms atom ↔ Contains (facts_of ours ++ facts_of theirs) atom)
+      → IfOk r (AreAt hashes first second kind)
+  gathered (Ok made) says_first says_second once atoms = record {
+    first = says_first ∙ one;
+    second = says_second ∙ other;
+    once = once;
+    atoms = λ atom. subst (λ (all : List Atom). Contains made.atoms atom ↔ Contains all atom) all_atoms (atoms atom);
+  }
+  gathered (Err e) says_first says_second once atoms = tt

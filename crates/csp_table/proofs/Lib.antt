@@ -1,0 +1,6 @@
+pub mod Alike
+pub mod SameAtoms
+pub mod Gathered
+pub mod SoFar
+pub mod Ports
+pub mod FewPorts

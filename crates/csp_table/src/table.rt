@@ -1,0 +1,50 @@
+//! A table of the formulas of two lists at each shape.
+ghost use Rattle.std.specs.Prelude.{IfOk, MatchOption, IsTrue};
+ghost use Rattle.csp_shape.specs.Shapes.{is_shape};
+ghost use Rattle.csp_shape.specs.declared.shape.Shape.{Shape as ShapeValue};
+ghost use Rattle.csp_table.specs.Tables.{AreAt, formulas_at};
+
+use crate::formulas::formulas_of;
+use crate::kinds::keep;
+use csp_atom::Vocabulary;
+use csp_model::{List, Memory, PolicyList};
+use csp_shape::laws::each_number_is_one_shape;
+use csp_shape::shape_at;
+use csp_valuation::PlacedFormulas;
+use std::alloc::Global;
+
+/// The formulas of two lists of policies at each shape. Shapes at which all formulas are equal share them.
+#[derive(Debug, Drop)]
+pub struct FormulaTable {
+    /// The different formulas that there are, each of all policies of both lists.
+    pub kinds: List<PlacedFormulas>,
+    /// For each shape, by its number, the place of its formulas among these.
+    pub places: List<usize>,
+}
+
+impl FormulaTable {
+    /// The formulas of all policies of both lists, where the vocabulary has their hash-sources. Beside the
+    /// different formulas there is memory for those of one shape at a time.
+    pub fn new(
+        alloc: Global,
+        first: &PolicyList,
+        second: &PolicyList,
+        vocabulary: &Vocabulary,
+    ) -> Result<FormulaTable, Memory>
+        ensures { IfOk result (λ table. (kind : ShapeValue) → IsTrue (is_shape kind)
+            → MatchOption (formulas_at table kind) ⊥
+            (AreAt vocabulary.now.hashes first.now second.now kind)) }
+    {
+        each_number_is_one_shape();
+        let mut kinds = List::new(alloc);
+        let mut places = List::new(alloc);
+        let mut number = 0;
+        while let Some(shape) = shape_at(number) {
+            let formulas = formulas_of(alloc, first, second, shape, vocabulary)?;
+            let place = keep(&mut kinds, formulas)?;
+            places.push(place)?;
+            number += 1;
+        }
+        Ok(FormulaTable { kinds, places })
+    }
+}
