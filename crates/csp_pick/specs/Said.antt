@@ -1,0 +1,33 @@
+-- What atoms say of ports, paths, schemes and nonces.
+use Rattle.std.specs.Prelude.{ℕ, ◌-◌, Bool, List, length, slice_get, Option, Some, None, is_some}
+use Rattle.csp_atom.specs.declared.atom.Atom.{Atom}
+use Rattle.csp_atom.specs.declared.atom.Atom.TheVariants.{PortIs, PathIs, PathUnder, SchemeIs, NonceIs}
+use Rattle.csp_atom.specs.declared.atom.Literal.{Literal}
+
+abbrev pub port_of : Atom → Option ℕ
+port_of (PortIs n) = Some n
+port_of other = None
+
+abbrev pub path_of : Atom → Option (List (List ℕ))
+path_of (PathIs pieces) = Some pieces
+path_of other = None
+
+abbrev pub last_piece_of : Atom → Option (List ℕ)
+last_piece_of (PathIs pieces) = slice_get pieces (length pieces - 1)
+last_piece_of other = None
+
+abbrev pub front_of : Atom → Option (List (List ℕ))
+front_of (PathUnder pieces) = Some pieces
+front_of other = None
+
+abbrev pub scheme_of : Atom → Option (List ℕ)
+scheme_of (SchemeIs scheme) = Some scheme
+scheme_of other = None
+
+abbrev pub nonce_of : Atom → Option (List ℕ)
+nonce_of (NonceIs value) = Some value
+nonce_of other = None
+
+-- the literal names a port
+abbrev pub names_port : Literal → Bool
+names_port literal = is_some (port_of literal.atom)

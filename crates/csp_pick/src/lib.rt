@@ -1,0 +1,21 @@
+//! One check for each cell: a valid check of the cell's shape of which each literal of the cell is true.
+#![tactic(auto)]
+
+mod address;
+mod asked;
+mod digest;
+mod fresh;
+mod host;
+mod integrity;
+mod label;
+mod lead;
+mod named;
+mod nonce;
+mod path;
+mod pick;
+mod port;
+mod scheme;
+mod url;
+
+pub use asked::can_pick;
+pub use pick::representative;
