@@ -1,0 +1,10 @@
+pub mod Adding
+pub mod Ending
+pub mod EnforcedPolicies
+pub mod Known
+pub mod LeftOver
+pub mod LeftParts
+pub mod NodesSame
+pub mod Refuting
+pub mod SameSentences
+pub mod Sharing

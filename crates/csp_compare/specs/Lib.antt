@@ -1,0 +1,4 @@
+pub mod Answers
+pub mod Drafts
+pub mod Residuals
+pub mod Tasks

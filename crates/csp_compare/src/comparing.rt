@@ -1,0 +1,78 @@
+//! The comparison of two lists.
+ghost use Rattle.std.specs.Prelude.{IfOk, IsTrue, MatchOption};
+ghost use Rattle.csp_compare.specs.Answers.{IsAnswer};
+ghost use Rattle.csp_compare.specs.Tasks.{IsTask};
+ghost use Rattle.csp_model.specs.Policies.{IsReadable};
+ghost use Rattle.csp_shape.specs.Shapes.{is_shape};
+ghost use Rattle.csp_shape.specs.declared.shape.Shape.{Shape as ShapeValue};
+ghost use Rattle.csp_table.specs.Tables.{AreAt, formulas_at};
+
+use crate::draft::Draft;
+use crate::enforced::enforced_of;
+use crate::kinds::show_shape;
+use crate::task::Task;
+use csp_atom::vocabulary_of;
+use csp_model::{Check, Memory, PolicyList};
+use csp_proof::Proof;
+use csp_proof::laws::what_is_accepted_is_so;
+use csp_shape::shape_at;
+use csp_table::FormulaTable;
+use std::alloc::Global;
+use std::collections::BTreeMap;
+
+// How many shapes there are.
+const SHAPE_COUNT: u8 = 189;
+
+/// Whether the second of two lists allows every valid check that the first allows.
+#[derive(Debug, Drop)]
+pub enum Answer {
+    /// It does: a proof of the second format, in which no two trees have equal nodes of their own.
+    Subsumed { proof: Proof },
+    /// It doesn't: a valid check that the first list allows and the second doesn't.
+    Counterexample { check: Check },
+}
+
+/// Compares two lists of policies, as reading makes them.
+pub fn compare(alloc: Global, first: &PolicyList, second: &PolicyList) -> Result<Answer, Memory>
+    requires first { IsReadable first.now }
+    requires second { IsReadable second.now }
+    ensures { IfOk result (IsAnswer first.now second.now) }
+{
+    let vocabulary = vocabulary_of(alloc, first, second)?;
+    let table = FormulaTable::new(alloc, first, second, &vocabulary)?;
+    let policies = enforced_of(alloc, second)?;
+    let task = Task {
+        first,
+        second,
+        vocabulary: &vocabulary,
+        policies: policies.as_slice(),
+    };
+    compare_task(alloc, task, &table)
+}
+
+// Goes over the shapes in the order of their numbers.
+fn compare_task<'a>(
+    alloc: Global,
+    task: Task<'a>,
+    table: &'a FormulaTable,
+) -> Result<Answer, Memory>
+    requires task { IsTask task }
+    requires formulas { (kind : ShapeValue) → IsTrue (is_shape kind)
+        → MatchOption (formulas_at table.now kind) ⊥
+        (AreAt task.vocabulary.now.hashes task.first.now task.second.now kind) }
+    ensures { IfOk result (IsAnswer task.entry.first.now task.entry.second.now) }
+{
+    let mut draft = Draft::new(alloc);
+    let mut known = BTreeMap::new(alloc);
+    for number in 0..SHAPE_COUNT {
+        let Some(shape) = shape_at(number) else {
+            unreachable!()
+        };
+        if let Some(check) = show_shape(alloc, task, table, shape, &mut draft, &mut known)? {
+            return Ok(Answer::Counterexample { check });
+        }
+    }
+    what_is_accepted_is_so();
+    let proof = draft.into_proof();
+    Ok(Answer::Subsumed { proof })
+}

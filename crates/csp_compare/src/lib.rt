@@ -1,0 +1,15 @@
+//! Whether one list of policies is at least as strict as another: a proof of it, or one check that shows that
+//! it isn't. And what is left of a formula where some of its atoms are known.
+#![tactic(auto)]
+
+mod comparing;
+mod draft;
+mod enforced;
+mod kinds;
+mod numbers;
+mod residuals;
+mod task;
+mod trees;
+
+pub use comparing::{Answer, compare};
+pub use residuals::residual;

@@ -1,0 +1,9 @@
+pub mod Opens
+pub mod Steps
+pub mod Trees
+pub mod Saying
+pub mod Lists
+pub mod Asked
+pub mod Ports
+pub mod Narrowing
+pub mod Refused

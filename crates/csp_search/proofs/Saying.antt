@@ -1,0 +1,109 @@
+-- A policy's formula says what the policy's sentence says.
+use Rattle.std.proofs.Common.{◌≡◌, ℕ, zero, suc, Bool, true, false, not, ◌&&◌, refl, ap, sym, subst, List, [], ◌∷◌, map, Option, Some, None, IsSome, MatchOption, slice_get}
+use Rattle.std.specs.Prelude.{if◌then◌else◌, is_some}
+use Rattle.csp_model.specs.Verdict.{is_enforce}
+use Rattle.csp_model.specs.declared.policy.Policy.{Policy}
+use Rattle.csp_model.specs.declared.source.Hash.{Hash}
+use Rattle.csp_atom.specs.declared.atom.Atom.{Atom}
+use Rattle.csp_atom.specs.declared.atom.Literal.{Literal}
+use Rattle.csp_shape.specs.declared.shape.Shape.{Shape}
+use Rattle.csp_formula.specs.Compiled.{policy_sentence}
+use Rattle.csp_formula.specs.Sentences.{Sentence}
+use Rattle.csp_formula.specs.Surely.{surely}
+use Rattle.csp_valuation.specs.Placed.{sentence_at}
+use Rattle.csp_valuation.specs.declared.placed.PlacedFormula.{PlacedFormula}
+use Rattle.csp_proof.specs.Accepts.{hashes_in, is_surely, policy_is, Lists}
+use Rattle.csp_search.specs.Leaves.{enforced_at, is_surely_at, IsDecidedAt, IsDecided, IsSurely, HasNoLeaf, LeavesNothing, IsOpen}
+use Rattle.csp_search.specs.Questions.{IsPosed, lists_of}
+use Rattle.csp_search.specs.declared.searching.Question.{Question}
+use Rattle.csp_proof.specs.Pairs.{Pair}
+
+abbrev pub SaysThem : List Hash → Shape → List Atom → List Policy → List PlacedFormula → Type 0
+SaysThem hashes kind atoms policies formulas = map (sentence_at atoms) formulas ≡ map (λ (p : Policy). policy_sentence p kind hashes) policies
+
+module _ (hashes : List Hash) (kind : Shape) (literals : List Literal) (atoms : List Atom) where
+  value_where : (enforced expected : Bool) (f : PlacedFormula) (s : Sentence) → sentence_at atoms f ≡ s
+      → is_surely_at literals atoms expected (if enforced then Some f else None) ≡ (enforced && is_surely expected (surely literals s))
+  value_where true expected f s e = ap (λ (x : Sentence). is_surely expected (surely literals x)) e
+  value_where false expected f s e = refl
+
+  pub value_said : (expected : Bool) (policies : List Policy) (formulas : List PlacedFormula) (place : ℕ) → SaysThem hashes kind atoms policies formulas
+      → is_surely_at literals atoms expected (enforced_at policies formulas place) ≡ policy_is expected hashes kind literals (slice_get policies place)
+  value_said expected [] formulas place e = refl
+  value_said expected (p ∷ policies) [] place e = cc
+  value_said expected (p ∷ policies) (f ∷ formulas) zero e =
+      let same : sentence_at atoms f ≡ policy_sentence p kind hashes = cc in
+      value_where (is_enforce p.disposition) expected f (policy_sentence p kind hashes) same
+  value_said expected (p ∷ policies) (f ∷ formulas) (suc place) e =
+      let rest : map (sentence_at atoms) formulas ≡ map (λ (q : Policy). policy_sentence q kind hashes) policies = cc in
+      value_said expected policies formulas place rest
+
+  decided_where : (enforced : Bool) (f : PlacedFormula) (s : Sentence) → sentence_at atoms f ≡ s → IsDecidedAt literals atoms (if enforced then Some f else None)
+      → enforced ≡ true → IsSome (surely literals s)
+  decided_where true f s e known is = subst (λ (x : Sentence). IsSome (surely literals x)) e known
+  decided_where false f s e known is = cc
+
+  pub decided_said : (policies : List Policy) (formulas : List PlacedFormula) (place : ℕ) → SaysThem hashes kind atoms policies formulas
+      → IsDecidedAt literals atoms (enforced_at policies formulas place) → IsDecided hashes kind literals (slice_get policies place)
+  decided_said [] formulas place e known = tt
+  decided_said (p ∷ policies) [] place e known = cc
+  decided_said (p ∷ policies) (f ∷ formulas) zero e known =
+      let same : sentence_at atoms f ≡ policy_sentence p kind hashes = cc in
+      decided_where (is_enforce p.disposition) f (policy_sentence p kind hashes) same known
+  decided_said (p ∷ policies) (f ∷ formulas) (suc place) e known =
+      let rest : map (sentence_at atoms) formulas ≡ map (λ (q : Policy). policy_sentence q kind hashes) policies = cc in
+      decided_said policies formulas place rest known
+
+-- What is found
+
+pub some_stays : {A : Type 0} (P R : Type 0) (Q : A → Type 0) (o : Option A) → IsSome o → MatchOption o P Q → MatchOption o R Q
+some_stays P R Q None some h = cc
+some_stays P R Q (Some x) some h = h
+
+pub none_left : {A : Type 0} (P : Type 0) (Q : A → Type 0) (o : Option A) → is_some o ≡ false → MatchOption o P Q → P
+none_left P Q None none h = h
+none_left P Q (Some x) none h = cc
+
+-- The formulas of a question say what its policies say
+
+says_by : (known hashes : List Hash) (kind : Shape) (atoms placed : List Atom) (policies : List Policy) (formulas : List PlacedFormula) → known ≡ hashes → atoms ≡ placed
+    → SaysThem known kind placed policies formulas → SaysThem hashes kind atoms policies formulas
+says_by known hashes kind atoms placed policies formulas same there says =
+    subst (λ (hs : List Hash). SaysThem hs kind atoms policies formulas) same (subst (λ (xs : List Atom). SaysThem known kind xs policies formulas) (sym there) says)
+
+pub first_says : (q : Question) (atoms : List Atom) → IsPosed q → atoms ≡ q.formulas.now.atoms
+    → SaysThem (hashes_in (lists_of q)) q.shape atoms q.first.now.policies q.formulas.now.first
+first_says q atoms posed there =
+    says_by q.vocabulary.now.hashes (hashes_in (lists_of q)) q.shape atoms q.formulas.now.atoms q.first.now.policies q.formulas.now.first posed.hashes there posed.formulas.first
+
+pub second_says : (q : Question) (atoms : List Atom) → IsPosed q → atoms ≡ q.formulas.now.atoms
+    → SaysThem (hashes_in (lists_of q)) q.shape atoms q.second.now.policies q.formulas.now.second
+second_says q atoms posed there =
+    says_by q.vocabulary.now.hashes (hashes_in (lists_of q)) q.shape atoms q.formulas.now.atoms q.second.now.policies q.formulas.now.second posed.hashes there posed.formulas.second
+
+-- What is decided and hasn't the one value has the other
+
+other_value : (wanted : Bool) (o : Option Bool) → IsSome o → is_surely (not wanted) o ≡ false → o ≡ Some wanted
+other_value true (Some true) some other = refl
+other_value false (Some false) some other = refl
+other_value true (Some false) some other = cc
+other_value false (Some true) some other = cc
+other_value wanted None some other = cc
+
+second_false : (a b : Bool) → a ≡ true → (a && b) ≡ false → b ≡ false
+second_false true b is fails = fails
+second_false false b is fails = cc
+
+pub surely_other : (wanted : Bool) (hashes : List Hash) (kind : Shape) (literals : List Literal) (o : Option Policy)
+    → policy_is (not wanted) hashes kind literals o ≡ false → IsDecided hashes kind literals o → IsSurely wanted hashes kind literals o
+surely_other wanted hashes kind literals None fails known = tt
+surely_other wanted hashes kind literals (Some p) fails known = λ enforced.
+    let s = surely literals (policy_sentence p kind hashes) in
+    other_value wanted s (known enforced) (second_false (is_enforce p.disposition) (is_surely (not wanted) s) enforced fails)
+
+-- where no leaf may stand and nothing is left to split by
+pub leaves_open : (lists : Lists) (pair : Pair) (literals : List Literal) → HasNoLeaf lists pair literals → LeavesNothing lists pair literals → IsOpen lists pair literals
+leaves_open lists pair literals none nothing = record {
+  first = λ policy within. surely_other true (hashes_in lists) pair.shape literals (slice_get lists.first.policies policy) (none.first policy within) (nothing.first policy within);
+  second = surely_other false (hashes_in lists) pair.shape literals (slice_get lists.second.policies pair.policy) none.second nothing.second;
+}

@@ -1,0 +1,4 @@
+pub mod Answers
+pub mod Questions
+pub mod Leaves
+pub mod Branches

@@ -1,0 +1,10 @@
+//! The search for a proof about one shape and one policy of the second list, or for a check that shows that
+//! there is none.
+#![tactic(auto)]
+
+mod leaf;
+mod open;
+mod searching;
+mod tree;
+
+pub use searching::{Found, Question, search};
