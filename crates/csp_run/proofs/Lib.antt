@@ -11,3 +11,6 @@ pub mod Untouched
 pub mod Usage
 pub mod ToldFault
 pub mod ExitCodes
+pub mod DrillTexts
+pub mod DrillLists
+pub mod OneStatus

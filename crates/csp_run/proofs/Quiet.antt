@@ -11,7 +11,7 @@ use Rattle.csp_run.specs.declared.fault.Fault.TheVariants.{Memory}
 use Rattle.csp_run.specs.declared.fault.Fault.TheVariants as fault
 use Rattle.csp_run.specs.declared.files.Content.TheVariants as content
 use Rattle.csp_run.specs.declared.plan.Form.{Form}
-use Rattle.csp_run.specs.declared.plan.Form.TheVariants.{Judge, Report}
+use Rattle.csp_run.specs.declared.plan.Form.TheVariants.{Judge, Report, Compare, Check, Drill}
 use Rattle.csp_run.specs.declared.status.Status.{Status}
 use Rattle.csp_run.specs.declared.status.Status.TheVariants.{NoMemory}
 use Rattle.csp_run.specs.Desk.{Desk, NoneRefused, without_refusals}
@@ -68,6 +68,10 @@ output_calm form (Err f) desk end quiet is = is
 output_calm Judge (Ok (content.Policies list ∷ content.Requests bytes ∷ [])) desk end quiet is = is
 output_calm Report (Ok (content.Policies list ∷ content.Requests bytes ∷ [])) desk end quiet is =
     requests_calm (violations_in list (requests_of bytes)) desk end quiet is
+output_calm Compare (Ok (content.Policies first ∷ content.Policies second ∷ [])) desk end quiet is = is
+output_calm Check (Ok (content.Policies first ∷ content.Policies second ∷ content.Proof text ∷ [])) desk end quiet
+    is = is
+output_calm (Drill pairs) (Ok []) desk end quiet is = is
 output_calm form (Ok contents) desk end quiet is = is
 
 -- an end where no count rose is an answer

@@ -24,7 +24,7 @@ past_limit most None longer =
 past_limit most (Some bytes) longer = (bytes, λ whole is. cc, longer bytes refl)
 
 -- bytes past the limit are a fault
-refused : (o : Origin) (file : File) (bytes : List ℕ) → file_limit < length bytes
+refused : (o : Origin) (file : File) (bytes : List ℕ) → file_limit file.role < length bytes
     → Err (fault.TooLarge file.role limit.Bytes) ≡ read_as o file.role bytes
 refused o file bytes past = grind (arith, nat_tests)
 
@@ -33,35 +33,41 @@ all_given : (most n g : ℕ) → most < n → g ≡ most + 1 → g ≡ min n (mo
 all_given most n g past is = omega (arith, past, is)
 
 -- a file that is too long is read so
-pub too_long : (w : World) (o : Origin) (file : File)
-    → WhereTold (w.contents file.name) (λ whole. file_limit < length whole)
-    → w.current ≡ Some file.name → w.given ≡ file_limit + 1
+pub too_long : (w : World) (o : Origin) (file : File) (most : ℕ) → most ≡ file_limit file.role
+    → WhereTold (w.contents file.name) (λ whole. most < length whole)
+    → w.current ≡ Some file.name → w.given ≡ most + 1
     → IsRead w o true file (Err (fault.TooLarge file.role limit.Bytes))
-too_long w o file longer opened given =
-    let past = past_limit file_limit (w.contents file.name) longer in
+too_long w o file most is longer opened given =
+    let past = past_limit most (w.contents file.name) longer in
     inr (record {
       bytes = past.0;
       told = past.1;
       current = λ _. record {
         opened = opened;
-        given = all_given file_limit (length past.0) w.given past.2 given;
+        given = subst (λ (n : ℕ). w.given ≡ min (length past.0) (n + 1)) is
+            (all_given most (length past.0) w.given past.2 given);
       };
-      found_is = refused o file past.0 past.2;
+      found_is = refused o file past.0 (subst (λ (n : ℕ). n < length past.0) is past.2);
     })
 
 few_given : (most n g : ℕ) → n ≤ most → g ≡ n → g ≡ min n (most + 1)
 few_given most n g within is = omega (arith, within, is)
 
 -- and one within the limit by its bytes
-pub held : (w : World) (o : Origin) (file : File) (bytes : List ℕ) (found : Result Content Fault)
+pub held : (w : World) (o : Origin) (file : File) (bytes : List ℕ) (most : ℕ) (found : Result Content Fault)
+    → most ≡ file_limit file.role
     → WhereTold (w.contents file.name) (λ whole. bytes ≡ whole) → w.current ≡ Some file.name
-    → w.given ≡ length bytes → length bytes ≤ file_limit → found ≡ read_as o file.role bytes
+    → w.given ≡ length bytes → length bytes ≤ most → found ≡ read_as o file.role bytes
     → IsRead w o true file found
-held w o file bytes found told opened given within is = inr (record {
+held w o file bytes most found is told opened given within found_is = inr (record {
   bytes = bytes;
   told = told;
-  current = λ _. record { opened = opened; given = few_given file_limit (length bytes) w.given within given };
-  found_is = is;
+  current = λ _. record {
+    opened = opened;
+    given = subst (λ (n : ℕ). w.given ≡ min (length bytes) (n + 1)) is
+        (few_given most (length bytes) w.given within given);
+  };
+  found_is = found_is;
 })
 
 -- what was read asks for no counts of faults, and once others are started for none

@@ -1,5 +1,5 @@
 -- An output has one of two statuses.
-use Rattle.std.proofs.Common.{◌≡◌, Bool, true, false, List, [], ◌∷◌, Result, Ok, Err, refl, ap, sym, ◌∙◌}
+use Rattle.std.proofs.Common.{◌≡◌, ℕ, Bool, true, false, List, [], ◌∷◌, Option, Some, None, Result, Ok, Err, refl, ap, sym, ◌∙◌}
 use Rattle.std.proofs.Common.{cond, map}
 use Rattle.std.proofs.lemmas.Bool.{false≢true}
 use Rattle.csp_model.specs.declared.policy.PolicyList.{PolicyList}
@@ -11,9 +11,11 @@ use Rattle.csp_run.specs.declared.files.Content.{Content}
 use Rattle.csp_run.specs.declared.files.Content.TheVariants as content
 use Rattle.csp_run.specs.declared.output.Built.{Built}
 use Rattle.csp_run.specs.declared.plan.Form.{Form}
-use Rattle.csp_run.specs.declared.plan.Form.TheVariants.{Judge, Report}
+use Rattle.csp_run.specs.declared.plan.Form.TheVariants.{Judge, Report, Compare, Check, Drill}
 use Rattle.csp_run.specs.declared.status.Status.{Status}
 use Rattle.csp_run.specs.declared.status.Status.TheVariants.{Clean, Found}
+use Rattle.csp_run.specs.Checks.{checked}
+use Rattle.csp_run.specs.Comparisons.{IsAnswerWith}
 use Rattle.csp_run.specs.Desk.{Desk}
 use Rattle.csp_run.specs.Due.{IsEndOf}
 use Rattle.csp_run.specs.Files.{World}
@@ -43,6 +45,16 @@ reported_done : (found : Result (List Violation) RequestError) (desk : Desk) (bu
 reported_done (Ok all) desk built is = ap (λ (b : Built). is_done b.status) is.0
 reported_done (Err refused) desk built is = absurd (cc is.0)
 
+compared_done : (status : Status) (first second : PolicyList) (text : List ℕ)
+    → IsAnswerWith status first second text → is_done status ≡ true
+compared_done Clean first second text is = refl
+compared_done Found first second text is = refl
+compared_done status first second text is = absurd is
+
+checked_status : (bad : Option ℕ) → is_done (checked bad).status ≡ true
+checked_status None = refl
+checked_status (Some line) = refl
+
 printed_done : (form : Form) (found : Result (List Content) Fault) (desk : Desk) (built : Built)
     → IsOutput form found desk (Ok built)
     → is_done built.status ≡ true
@@ -51,6 +63,11 @@ printed_done Judge (Ok (content.Policies list ∷ content.Requests bytes ∷ [])
     judged_done list _ built is.0
 printed_done Report (Ok (content.Policies list ∷ content.Requests bytes ∷ [])) desk built is =
     reported_done _ desk built is
+printed_done Compare (Ok (content.Policies first ∷ content.Policies second ∷ [])) desk built is =
+    compared_done built.status first second built.text is.0
+printed_done Check (Ok (content.Policies first ∷ content.Policies second ∷ content.Proof text ∷ [])) desk built is =
+    ap (λ (b : Built). is_done b.status) is.0.output ∙ checked_status _
+printed_done (Drill pairs) (Ok []) desk built is = ap is_done is.0.status
 printed_done form (Ok contents) desk built is = absurd is
 
 ended_done : (w : World) (desk : Desk) (asked : Result Plan Fault) (built : Built)

@@ -10,7 +10,7 @@ use Rattle.csp_run.specs.declared.files.Content.{Content}
 use Rattle.csp_run.specs.declared.files.Content.TheVariants as content
 use Rattle.csp_run.specs.declared.output.Built.{Built}
 use Rattle.csp_run.specs.declared.plan.Form.{Form}
-use Rattle.csp_run.specs.declared.plan.Form.TheVariants.{Judge, Report}
+use Rattle.csp_run.specs.declared.plan.Form.TheVariants.{Judge, Report, Compare, Check, Drill}
 use Rattle.csp_run.specs.Desk.{Desk, IsUntouched}
 use Rattle.csp_run.specs.Due.{End, IsDue, IsEndOf, HasGrown, end_status}
 use Rattle.csp_run.specs.Files.{World}
@@ -25,6 +25,9 @@ not_grown : (form : Form) (contents : List Content) (desk : Desk) → hands_out 
     → GrewOn form contents desk → ⊥
 not_grown Report contents desk other grew = absurd (cc other)
 not_grown Judge contents desk other grew = grew
+not_grown Compare contents desk other grew = grew
+not_grown Check contents desk other grew = grew
+not_grown (Drill pairs) contents desk other grew = grew
 
 by_words : (w : World) (desk : Desk) (asked : Result Plan Fault) → HasGrown w desk asked → is_report asked ≡ false
     → IsUntouched desk
@@ -56,6 +59,10 @@ by_output form (Err f) desk end is other = is.1
 by_output Judge (Ok (content.Policies list ∷ content.Requests bytes ∷ [])) desk end is other = is.1
 by_output Report (Ok (content.Policies list ∷ content.Requests bytes ∷ [])) desk end is other =
     by_report (violations_in list (requests_of bytes)) desk end is other
+by_output Compare (Ok (content.Policies first ∷ content.Policies second ∷ [])) desk end is other = is.1
+by_output Check (Ok (content.Policies first ∷ content.Policies second ∷ content.Proof text ∷ [])) desk end is other =
+    is.1
+by_output (Drill pairs) (Ok []) desk end is other = is.1
 by_output form (Ok contents) desk end is other = absurd is
 
 by_status : (w : World) (desk : Desk) (asked : Result Plan Fault) (end : End) → IsEndOf w desk asked end

@@ -17,7 +17,7 @@ use Rattle.csp_run.specs.declared.fault.Role.TheVariants as role
 use Rattle.csp_run.specs.declared.files.Content.{Content}
 use Rattle.csp_run.specs.declared.files.Content.TheVariants as content
 use Rattle.csp_run.specs.declared.plan.Form.{Form}
-use Rattle.csp_run.specs.declared.plan.Form.TheVariants.{Judge, Report}
+use Rattle.csp_run.specs.declared.plan.Form.TheVariants.{Judge, Report, Compare, Check, Drill}
 use Rattle.csp_request.specs.declared.error.RequestError.{RequestError}
 use Rattle.csp_request.specs.declared.error.RequestError.TheVariants as request
 use Rattle.csp_run.specs.declared.status.Status.TheVariants as status
@@ -33,14 +33,14 @@ use Rattle.csp_run.proofs.Statuses.{no_output}
 
 -- Files give no usage
 
-policies_never : (refused : Option BlockError) (ps : List Policy)
-    → ◌≢◌ {A = Result Content Fault} (Err fault.Usage) (policies_or_fault role.Policy refused ps)
-policies_never None ps is = absurd (cc is)
-policies_never (Some (refusal.BadLine line)) ps is = absurd (cc is)
-policies_never (Some refusal.TooManyPolicies) ps is = absurd (cc is)
-policies_never (Some refusal.TooManySources) ps is = absurd (cc is)
-policies_never (Some refusal.LongToken) ps is = absurd (cc is)
-policies_never (Some refusal.Memory) ps is = absurd (cc is)
+policies_never : (file : Role) (refused : Option BlockError) (ps : List Policy)
+    → ◌≢◌ {A = Result Content Fault} (Err fault.Usage) (policies_or_fault file refused ps)
+policies_never file None ps is = absurd (cc is)
+policies_never file (Some (refusal.BadLine line)) ps is = absurd (cc is)
+policies_never file (Some refusal.TooManyPolicies) ps is = absurd (cc is)
+policies_never file (Some refusal.TooManySources) ps is = absurd (cc is)
+policies_never file (Some refusal.LongToken) ps is = absurd (cc is)
+policies_never file (Some refusal.Memory) ps is = absurd (cc is)
 
 refusal_never : (refused : RequestError) → fault.Usage ≢ request_fault refused
 refusal_never request.NotJson is = absurd (cc is)
@@ -51,8 +51,11 @@ refusal_never request.Memory is = absurd (cc is)
 
 within_never : (o : Origin) (file : Role) (bytes : List ℕ)
     → ◌≢◌ {A = Result Content Fault} (Err fault.Usage) (read_within o file bytes)
-within_never o role.Policy bytes is = policies_never _ _ is
+within_never o role.Policy bytes is = policies_never role.Policy _ _ is
 within_never o role.Requests bytes is = absurd (cc is)
+within_never o role.First bytes is = policies_never role.First _ _ is
+within_never o role.Second bytes is = policies_never role.Second _ _ is
+within_never o role.Proof bytes is = absurd (cc is)
 
 bytes_never : (o : Origin) (file : Role) (bytes : List ℕ)
     → ◌≢◌ {A = Result Content Fault} (Err fault.Usage) (read_as o file bytes)
@@ -60,7 +63,7 @@ bytes_never o file bytes is =
     let P : Bool → Type 0 = λ b.
     ◌≡◌ {A = Result Content Fault} (Err fault.Usage)
     (cond b (Err (fault.TooLarge file limit.Bytes)) (read_within o file bytes)) → ⊥ in
-    elim (nat_lt file_limit (length bytes)) as P [
+    elim (nat_lt (file_limit file) (length bytes)) as P [
       | true ↦ λ e. absurd (cc e)
       | false ↦ λ e. within_never o file bytes e
     ] is
@@ -97,6 +100,9 @@ no_usage : (form : Form) (contents : List Content) (desk : Desk)
     → IsOutput form (Ok contents) desk (Err fault.Usage) → ⊥
 no_usage Judge (content.Policies list ∷ content.Requests bytes ∷ []) desk is = judged_never list _ is.0
 no_usage Report (content.Policies list ∷ content.Requests bytes ∷ []) desk is = reported_never _ desk is
+no_usage Compare (content.Policies first ∷ content.Policies second ∷ []) desk is = is.0
+no_usage Check (content.Policies first ∷ content.Policies second ∷ content.Proof text ∷ []) desk is = is.0
+no_usage (Drill pairs) [] desk is = is.0
 no_usage form contents desk is = is
 
 after_files : (w : World) (desk : Desk) (plan : Plan) (found : Result (List Content) Fault)

@@ -20,8 +20,9 @@ use Rattle.csp_run.specs.declared.files.Content.TheVariants as content
 use Rattle.csp_run.specs.Words.{File}
 
 -- the bytes that a file may have
-abbrev pub file_limit : ℕ
-file_limit = 8388608
+abbrev pub file_limit : Role → ℕ
+file_limit role.Proof = 67108864
+file_limit file = 8388608
 
 -- the fault of what reading a policy file refuses
 abbrev pub refusal_fault : Role → BlockError → Fault
@@ -35,16 +36,21 @@ abbrev pub policies_or_fault : Role → Option BlockError → List Policy → Re
 policies_or_fault file None policies = Ok (content.Policies (record { policies = policies }))
 policies_or_fault file (Some refused) policies = Err (refusal_fault file refused)
 
--- what bytes within the limit hold; descriptions are read while they are judged
+abbrev pub read_policies : Origin → Role → List ℕ → Result Content Fault
+read_policies origin file bytes = policies_or_fault file (refusal_of bytes origin) (policies bytes origin)
+
+-- what bytes within the limit hold; descriptions are read while they are judged, a proof where it is checked
 abbrev pub read_within : Origin → Role → List ℕ → Result Content Fault
-read_within origin role.Policy bytes =
-    policies_or_fault role.Policy (refusal_of bytes origin) (policies bytes origin)
+read_within origin role.Policy bytes = read_policies origin role.Policy bytes
 read_within origin role.Requests bytes = Ok (content.Requests bytes)
+read_within origin role.First bytes = read_policies origin role.First bytes
+read_within origin role.Second bytes = read_policies origin role.Second bytes
+read_within origin role.Proof bytes = Ok (content.Proof bytes)
 
 -- what the bytes of a file hold, or their first fault
 abbrev pub read_as : Origin → Role → List ℕ → Result Content Fault
 read_as origin file bytes =
-    if nat_lt file_limit (length bytes) then Err (fault.TooLarge file limit.Bytes)
+    if nat_lt (file_limit file) (length bytes) then Err (fault.TooLarge file limit.Bytes)
     else read_within origin file bytes
 
 -- what a call knows of its inputs: the bytes that are told, its counts before the call and now, the file that
@@ -85,7 +91,7 @@ pub record IsFailed (w : World) (file : File) (found : Result Content Fault) : T
 -- the file was started last, and as many bytes of it were given as these, up to one past the limit
 pub record IsCurrent (w : World) (file : File) (bytes : List ℕ) : Type 0 where
   pub opened : w.current ≡ Some file.name
-  pub given : w.given ≡ min (length bytes) (file_limit + 1)
+  pub given : w.given ≡ min (length bytes) (file_limit file.role + 1)
 
 -- A file has these bytes, the told ones where they are told, and this is what they hold. Where no file was
 -- started after it, so many bytes were given.

@@ -1,4 +1,7 @@
+pub mod Checks
+pub mod Comparisons
 pub mod Desk
+pub mod Drills
 pub mod Due
 pub mod Files
 pub mod Laws

@@ -15,8 +15,11 @@ use Rattle.csp_run.specs.declared.files.Content.{Content}
 use Rattle.csp_run.specs.declared.files.Content.TheVariants as content
 use Rattle.csp_run.specs.declared.output.Built.{Built}
 use Rattle.csp_run.specs.declared.plan.Form.{Form}
-use Rattle.csp_run.specs.declared.plan.Form.TheVariants.{Judge, Report}
+use Rattle.csp_run.specs.declared.plan.Form.TheVariants.{Judge, Report, Compare, Check, Drill}
+use Rattle.csp_run.specs.Checks.{IsCheck}
+use Rattle.csp_run.specs.Comparisons.{IsComparison}
 use Rattle.csp_run.specs.Desk.{Desk, IsUntouched}
+use Rattle.csp_run.specs.Drills.{IsDrill}
 use Rattle.csp_run.specs.Lines.{judgment}
 use Rattle.csp_run.specs.Reports.{violations_in, IsReport}
 
@@ -38,6 +41,11 @@ abbrev pub IsReportOn : Result (List Violation) RequestError → Desk → Result
 IsReportOn (Ok all) desk end = IsReport all desk end
 IsReportOn (Err refused) desk end = (end ≡ Err (request_fault refused)) × IsUntouched desk
 
+-- there is an output, and it is so
+abbrev pub IsBuilt : (Built → Type 0) → Result Built Fault → Type 0
+IsBuilt is (Ok built) = is built
+IsBuilt is (Err f) = ⊥
+
 -- What ends a command after its files, and what it does to the desk: their fault, or its output on what they
 -- hold. Only `report` hands anything to the desk.
 abbrev pub IsOutput : Form → Result (List Content) Fault → Desk → Result Built Fault → Type 0
@@ -46,6 +54,11 @@ IsOutput Judge (Ok (content.Policies list ∷ content.Requests bytes ∷ [])) de
     (end ≡ judged list (requests_of bytes)) × IsUntouched desk
 IsOutput Report (Ok (content.Policies list ∷ content.Requests bytes ∷ [])) desk end =
     IsReportOn (violations_in list (requests_of bytes)) desk end
+IsOutput Compare (Ok (content.Policies first ∷ content.Policies second ∷ [])) desk end =
+    IsBuilt (IsComparison first second) end × IsUntouched desk
+IsOutput Check (Ok (content.Policies first ∷ content.Policies second ∷ content.Proof text ∷ [])) desk end =
+    IsCheck first second text end × IsUntouched desk
+IsOutput (Drill pairs) (Ok []) desk end = IsBuilt (IsDrill pairs) end × IsUntouched desk
 IsOutput form (Ok contents) desk end = ⊥
 
 -- Each reporter took a first part of the violations of the requests that the files have, if they have some.

@@ -1,6 +1,6 @@
 -- What clauses of private functions cite: plans as contracts see them, contents that fit a form, verdicts on
 -- single descriptions, requests described in part, and what is left where the handing out of violations stops.
-use Rattle.std.specs.Prelude.{ℕ, ⊤, Bool, true, false, List, [], ◌∷◌, Result, Ok, Err}
+use Rattle.std.specs.Prelude.{ℕ, ◌≤◌, ⊤, Bool, true, false, List, [], ◌∷◌, length, Result, Ok, Err}
 use Rattle.serde_json.specs.Data.{Data}
 use Rattle.csp_desk.specs.Growth.{GrewInPart, StopsAt}
 use Rattle.csp_desk.specs.declared.desk.DeskError.{DeskError}
@@ -8,10 +8,11 @@ use Rattle.csp_desk.specs.declared.desk.DeskError.TheVariants.{Refused, Memory}
 use Rattle.csp_model.specs.Policies.{IsReadable}
 use Rattle.csp_run.specs.declared.fault.Fault.{Fault}
 use Rattle.csp_run.specs.declared.fault.Fault.TheVariants as fault
+use Rattle.csp_run.specs.declared.fault.Role.TheVariants.{Proof}
 use Rattle.csp_run.specs.declared.files.Content.{Content}
 use Rattle.csp_run.specs.declared.files.Content.TheVariants as content
 use Rattle.csp_run.specs.declared.plan.Form.{Form}
-use Rattle.csp_run.specs.declared.plan.Form.TheVariants.{Judge, Report}
+use Rattle.csp_run.specs.declared.plan.Form.TheVariants.{Judge, Report, Compare, Check, Drill}
 use Rattle.csp_run.specs.declared.plan.Plan.{Plan as Held}
 use Rattle.csp_model.specs.Verdict.{verdict_of}
 use Rattle.csp_model.specs.declared.policy.PolicyList.{PolicyList}
@@ -24,6 +25,7 @@ use Rattle.csp_token.specs.Digests.{digests_for}
 use Rattle.csp_token.specs.declared.digest.Algorithms.{Algorithms}
 use Rattle.csp_model.specs.declared.verdict.Violation.{Violation}
 use Rattle.csp_run.specs.Desk.{Desk}
+use Rattle.csp_run.specs.Files.{file_limit}
 use Rattle.csp_run.specs.Outputs.{request_fault}
 use Rattle.csp_run.specs.Words.{Plan, File, files_from}
 
@@ -38,11 +40,15 @@ shown (Err f) = Err f
 abbrev pub IsSound : Content → Type 0
 IsSound (content.Policies list) = IsReadable list
 IsSound (content.Requests bytes) = ⊤
+IsSound (content.Proof bytes) = length bytes ≤ file_limit Proof
 
 -- what a form's files hold is of these kinds
 abbrev pub fits : Form → List Content → Bool
 fits Judge (content.Policies list ∷ content.Requests bytes ∷ []) = true
 fits Report (content.Policies list ∷ content.Requests bytes ∷ []) = true
+fits Compare (content.Policies first ∷ content.Policies second ∷ []) = true
+fits Check (content.Policies first ∷ content.Policies second ∷ content.Proof bytes ∷ []) = true
+fits (Drill pairs) [] = true
 fits form contents = false
 
 -- the verdict on the description of this number, or the fault of its refusal

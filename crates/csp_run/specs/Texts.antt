@@ -14,6 +14,9 @@ use Rattle.csp_run.specs.declared.status.Status.TheVariants as status
 unfoldable pub role_text : Role → List ℕ
 role_text role.Policy = codes "policy"
 role_text role.Requests = codes "requests"
+role_text role.First = codes "first"
+role_text role.Second = codes "second"
+role_text role.Proof = codes "proof"
 
 unfoldable pub limit_text : Limit → List ℕ
 limit_text limit.Bytes = codes "bytes"
@@ -30,7 +33,6 @@ fault_pieces fault.Usage =
     ∷ codes " | compare ORIGIN FIRST SECOND" ∷ codes " | check ORIGIN FIRST SECOND PROOF"
     ∷ codes " | drill N\n" ∷ []
 fault_pieces fault.BadOrigin = codes "bad origin" ∷ [] ∷ [] ∷ [] ∷ codes "\n" ∷ []
-fault_pieces fault.NotBuilt = codes "not built: command" ∷ [] ∷ [] ∷ [] ∷ codes "\n" ∷ []
 fault_pieces (fault.BadPolicy file line) =
     codes "bad policy: " ∷ role_text file ∷ codes " line " ∷ decimal line ∷ codes "\n" ∷ []
 fault_pieces (fault.TooLarge file limit) =
@@ -38,6 +40,7 @@ fault_pieces (fault.TooLarge file limit) =
 fault_pieces fault.NotJson = codes "bad requests: not a JSON array" ∷ [] ∷ [] ∷ [] ∷ codes "\n" ∷ []
 fault_pieces (fault.BadRequest request field) =
     codes "bad requests: request " ∷ decimal request ∷ codes " " ∷ field_text field ∷ codes "\n" ∷ []
+fault_pieces (fault.BadProof line) = codes "bad proof: line " ∷ decimal line ∷ [] ∷ [] ∷ codes "\n" ∷ []
 fault_pieces (fault.Read file) = codes "read fault: " ∷ role_text file ∷ [] ∷ [] ∷ codes "\n" ∷ []
 fault_pieces (fault.Refused reporter) =
     codes "reporter fault: " ∷ decimal reporter ∷ [] ∷ [] ∷ codes "\n" ∷ []
@@ -50,11 +53,11 @@ fault_text f = flat_map (λ piece. piece) (fault_pieces f)
 abbrev pub status_of : Fault → Status
 status_of fault.Usage = status.Usage
 status_of fault.BadOrigin = status.BadOrigin
-status_of fault.NotBuilt = status.NotBuilt
 status_of (fault.BadPolicy file line) = status.BadPolicy
 status_of (fault.TooLarge file limit) = status.TooLarge
 status_of fault.NotJson = status.BadRequests
 status_of (fault.BadRequest request field) = status.BadRequests
+status_of (fault.BadProof line) = status.BadProof
 status_of (fault.Read file) = status.ReadFault
 status_of fault.Memory = status.NoMemory
 status_of (fault.Refused reporter) = status.ReporterFault
@@ -68,8 +71,8 @@ exit_code status.BadOrigin = 3
 exit_code status.BadPolicy = 4
 exit_code status.TooLarge = 5
 exit_code status.BadRequests = 6
+exit_code status.BadProof = 7
 exit_code status.ReadFault = 8
 exit_code status.WriteFault = 9
 exit_code status.NoMemory = 10
 exit_code status.ReporterFault = 11
-exit_code status.NotBuilt = 12

@@ -1,17 +1,18 @@
 -- What the words ask for: the forms, and the files of each.
-use Rattle.std.specs.Prelude.{ℕ, Bool, false, ◌+◌, ◌==◌, ◌&&◌, not, nat_le, nat_lt, if◌then◌else◌}
-use Rattle.std.specs.Prelude.{List, [], ◌∷◌, length, slice_index, Option, Some, None, Result, Ok, Err, codes}
+use Rattle.std.specs.Prelude.{ℕ, Bool, ◌+◌, ◌==◌, ◌&&◌, not, nat_le, nat_lt, if◌then◌else◌}
+use Rattle.std.specs.Prelude.{List, [], ◌∷◌, length, slice_index, Option, Some, None, option_map, Result, Ok, Err, codes}
 use Rattle.std.specs.Str.{bytes_eq}
 use Rattle.csp_model.specs.Ascii.{code}
 use Rattle.csp_model.specs.Grammar.{are_digits, decimal_value}
 use Rattle.csp_model.specs.declared.url.Origin.{Origin}
+use Rattle.csp_model.specs.declared.url.Origin.TheVariants.{Opaque}
 use Rattle.csp_url.specs.Origins.{origin_of}
 use Rattle.csp_run.specs.declared.fault.Fault.{Fault}
-use Rattle.csp_run.specs.declared.fault.Fault.TheVariants.{Usage, BadOrigin, NotBuilt}
+use Rattle.csp_run.specs.declared.fault.Fault.TheVariants.{Usage, BadOrigin}
 use Rattle.csp_run.specs.declared.fault.Role.{Role}
 use Rattle.csp_run.specs.declared.fault.Role.TheVariants as role
 use Rattle.csp_run.specs.declared.plan.Form.{Form}
-use Rattle.csp_run.specs.declared.plan.Form.TheVariants.{Judge, Report}
+use Rattle.csp_run.specs.declared.plan.Form.TheVariants.{Judge, Report, Compare, Check, Drill}
 
 -- how many pairs of sources a drill has: a decimal number from 1 to 200, without leading zeros
 unfoldable pub is_drill_number : List ℕ → Bool
@@ -19,29 +20,49 @@ is_drill_number word =
     are_digits word && nat_lt (length word) 4 && not (slice_index word 0 == code "0")
     && nat_le (decimal_value word) 200
 
--- words of a form that isn't built yet
-abbrev pub is_unbuilt : List (List ℕ) → Bool
-is_unbuilt (verb ∷ count ∷ []) = bytes_eq verb (codes "drill") && is_drill_number count
-is_unbuilt (verb ∷ origin ∷ first ∷ second ∷ []) = bytes_eq verb (codes "compare")
-is_unbuilt (verb ∷ origin ∷ first ∷ second ∷ proof ∷ []) = bytes_eq verb (codes "check")
-is_unbuilt words = false
+-- the number that it is
+abbrev pub drill_pairs : List ℕ → Option ℕ
+drill_pairs word = if is_drill_number word then Some (decimal_value word) else None
 
--- the form that a verb names
-abbrev pub form_of : List ℕ → Option Form
-form_of verb =
+-- the form that a verb and the word behind it name
+abbrev pub form_of : List ℕ → List ℕ → Option Form
+form_of verb word =
     if bytes_eq verb (codes "judge") then Some Judge
     else if bytes_eq verb (codes "report") then Some Report
+    else if bytes_eq verb (codes "compare") then Some Compare
+    else if bytes_eq verb (codes "check") then Some Check
+    else if bytes_eq verb (codes "drill") then option_map (λ pairs. Drill pairs) (drill_pairs word)
     else None
+
+-- the origin of the policies of a form's files, which that word is; a drill reads no file, and has another
+-- word
+unfoldable pub origin_for : Form → List ℕ → Option Origin
+origin_for (Drill pairs) word = Some Opaque
+origin_for form word = origin_of word
 
 -- how many files it reads
 abbrev pub takes : Form → ℕ → Bool
 takes Judge files = files == 2
 takes Report files = files == 2
+takes Compare files = files == 2
+takes Check files = files == 3
+takes (Drill pairs) files = files == 0
 
--- what the file at a place, counted from 0, is to a command
+-- what the file at a place, counted from 0, is where requests are judged
+abbrev pub judged_role : ℕ → Role
+judged_role place = if place == 0 then role.Policy else role.Requests
+
+-- and where two lists are compared
+abbrev pub compared_role : ℕ → Role
+compared_role place = if place == 0 then role.First else if place == 1 then role.Second else role.Proof
+
+-- what the file at a place is to a command
 abbrev pub role_at : Form → ℕ → Role
-role_at Judge place = if place == 0 then role.Policy else role.Requests
-role_at Report place = if place == 0 then role.Policy else role.Requests
+role_at Judge place = judged_role place
+role_at Report place = judged_role place
+role_at Compare place = compared_role place
+role_at Check place = compared_role place
+role_at (Drill pairs) place = compared_role place
 
 -- a file that a command reads
 pub record File : Type 0 where
@@ -54,7 +75,7 @@ files_from form place [] = []
 files_from form place (name ∷ names) =
     record { role = role_at form place; name = name } ∷ files_from form (place + 1) names
 
--- a command, the origin of its policies, and its files in the order in which they are read
+-- a command, the origin of the policies of its files, and these in the order in which they are read
 pub record Plan : Type 0 where
   pub form : Form
   pub origin : Origin
@@ -66,18 +87,14 @@ with_origin form (Some origin) names =
     Ok (record { form = form; origin = origin; files = files_from form 0 names })
 
 abbrev pub with_form : Option Form → List ℕ → List (List ℕ) → Result Plan Fault
-with_form None origin names = Err Usage
-with_form (Some form) origin names =
-    if takes form (length names) then with_origin form (origin_of origin) names else Err Usage
+with_form None word names = Err Usage
+with_form (Some form) word names =
+    if takes form (length names) then with_origin form (origin_for form word) names else Err Usage
 
--- a verb, an origin and the names of files
-abbrev pub verb_plan : List (List ℕ) → Result Plan Fault
-verb_plan (verb ∷ origin ∷ names) = with_form (form_of verb) origin names
-verb_plan words = Err Usage
-
--- what these words ask for, or why it is nothing
+-- what these words ask for, or why it is nothing: a verb, an origin or a number, and the names of files
 abbrev pub plan_of : List (List ℕ) → Result Plan Fault
-plan_of words = if is_unbuilt words then Err NotBuilt else verb_plan words
+plan_of (verb ∷ word ∷ names) = with_form (form_of verb word) word names
+plan_of words = Err Usage
 
 -- the files that it reads
 abbrev pub files_asked : Result Plan Fault → List File

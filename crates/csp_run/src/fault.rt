@@ -14,12 +14,18 @@ pub enum Role {
     Policy,
     /// A request file.
     Requests,
+    /// The header block of the first of two lists.
+    First,
+    /// The header block of the second.
+    Second,
+    /// The text of a proof that the second includes the first.
+    Proof,
 }
 
 /// What is limited.
 #[derive(Clone, Copy, Debug, PartialEq, Eq)]
 pub enum Limit {
-    /// The bytes of a file: 8,388,608.
+    /// The bytes of a file: 8,388,608, or 67,108,864 of a proof.
     Bytes,
     /// The policies of a list: 64.
     Policies,
@@ -40,8 +46,6 @@ pub enum Fault {
     Usage,
     /// The word for the origin is none.
     BadOrigin,
-    /// The words ask for a command that isn't built yet.
-    NotBuilt,
     /// The line of this number, counted from 1, is the first bad one of a policy file.
     BadPolicy { file: Role, line: u32 },
     /// A count of a file passes its limit.
@@ -50,6 +54,8 @@ pub enum Fault {
     NotJson,
     /// A member of the description of this number, counted from 1, is missing or misused.
     BadRequest { request: u32, field: Field },
+    /// The line of this number, counted from 1, is the first that can't stand in a proof.
+    BadProof { line: u32 },
     /// A file couldn't be read.
     Read { file: Role },
     /// The reporter of this number, counted from 1, refused a violation.
@@ -65,10 +71,10 @@ pub fn status_of(fault: Fault) -> Status
     match fault {
         Fault::Usage => Status::Usage,
         Fault::BadOrigin => Status::BadOrigin,
-        Fault::NotBuilt => Status::NotBuilt,
         Fault::BadPolicy { .. } => Status::BadPolicy,
         Fault::TooLarge { .. } => Status::TooLarge,
         Fault::NotJson | Fault::BadRequest { .. } => Status::BadRequests,
+        Fault::BadProof { .. } => Status::BadProof,
         Fault::Read { .. } => Status::ReadFault,
         Fault::Refused { .. } => Status::ReporterFault,
         Fault::Memory => Status::NoMemory,

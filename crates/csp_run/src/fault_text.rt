@@ -17,6 +17,9 @@ fn role_text<'a>(role: Role) -> &'a str
     match role {
         Role::Policy => "policy",
         Role::Requests => "requests",
+        Role::First => "first",
+        Role::Second => "second",
+        Role::Proof => "proof",
     }
 }
 
@@ -72,7 +75,6 @@ fn pieces<'a>(fault: Fault, digits: &'a mut Buffer) -> [&'a str; 5]
             " | drill N\n",
         ],
         Fault::BadOrigin => ["bad origin", "", "", "", "\n"],
-        Fault::NotBuilt => ["not built: command", "", "", "", "\n"],
         Fault::BadPolicy { file, line } => {
             [
                 "bad policy: ",
@@ -93,6 +95,7 @@ fn pieces<'a>(fault: Fault, digits: &'a mut Buffer) -> [&'a str; 5]
             field_text(field),
             "\n",
         ],
+        Fault::BadProof { line } => ["bad proof: line ", digits.format(line), "", "", "\n"],
         Fault::Read { file } => ["read fault: ", role_text(file), "", "", "\n"],
         Fault::Refused { reporter } => {
             ["reporter fault: ", digits.format(reporter), "", "", "\n"]

@@ -20,10 +20,19 @@ pub enum Content {
     Policies(PolicyList),
     /// The bytes of a request file, whose descriptions are read while they are judged.
     Requests(Bytes),
+    /// The bytes of a proof file, which are read where the proof is checked.
+    Proof(Bytes),
 }
 
 // The bytes that a file may have.
-const FILE_LIMIT: usize = 8_388_608;
+fn file_limit(role: Role) -> usize
+    ensures { result ≡ spec.file_limit role }
+{
+    match role {
+        Role::Proof => 67_108_864,
+        _ => 8_388_608,
+    }
+}
 
 // What the files of a plan hold, each read before the next is touched, or the first fault.
 pub(crate) fn read_files<I: Inputs>(
@@ -68,7 +77,7 @@ fn read_file<I: Inputs>(
     ensures contents { (n : Items ℕ) → I.contents inputs.new n ≡ I.contents inputs.old n }
     ensures later { (n : Items ℕ) → I.faults inputs.old n ≤ I.faults inputs.new n }
 {
-    match read_all(alloc, inputs, name, FILE_LIMIT) {
+    match read_all(alloc, inputs, name, file_limit(role)) {
         Ok(bytes) => content_of(alloc, origin, role, bytes),
         Err(ReadError::TooLong) => Err(Fault::TooLarge {
             file: role,
@@ -82,16 +91,29 @@ fn read_file<I: Inputs>(
 // What the bytes of a file within the limit hold.
 fn content_of(alloc: Global, origin: &Origin, role: Role, bytes: Bytes) -> Result<Content, Fault>
     requires valid { IsValidOrigin origin.now }
-    requires short { length bytes ≤ FILE_LIMIT }
+    requires short { length bytes ≤ spec.file_limit role }
     ensures read { result ≢ Err Fault.Memory → result ≡ spec.read_as origin.now role bytes }
     ensures sound { IfOk result IsSound }
 {
     match role {
-        Role::Policy => match read_block(alloc, bytes.as_slice(), origin) {
-            Ok(list) => Ok(Content::Policies(list)),
-            Err(error) => Err(refusal_fault(role, error)),
-        },
+        Role::Policy => policies_of(alloc, origin, role, bytes.as_slice()),
         Role::Requests => Ok(Content::Requests(bytes)),
+        Role::First => policies_of(alloc, origin, role, bytes.as_slice()),
+        Role::Second => policies_of(alloc, origin, role, bytes.as_slice()),
+        Role::Proof => Ok(Content::Proof(bytes)),
+    }
+}
+
+// The policies of a header block.
+fn policies_of(alloc: Global, origin: &Origin, role: Role, bytes: &[u8]) -> Result<Content, Fault>
+    requires valid { IsValidOrigin origin.now }
+    requires short { length bytes.now < 2 ^ 32 - 1 }
+    ensures read { result ≢ Err Fault.Memory → result ≡ spec.read_policies origin.now role bytes.now }
+    ensures sound { IfOk result IsSound }
+{
+    match read_block(alloc, bytes, origin) {
+        Ok(list) => Ok(Content::Policies(list)),
+        Err(error) => Err(refusal_fault(role, error)),
     }
 }
 

@@ -1,6 +1,9 @@
 //! Laws of what `run` may answer, each the contract of a function with no body.
-ghost use Rattle.std.specs.Prelude.{◌≡◌, ℕ, ◌+◌, false, List, ◌∷◌, Result, Err};
+ghost use Rattle.std.specs.Prelude.{◌≡◌, ◌↔◌, ℕ, ◌+◌, false, List, ◌∷◌, Result, Err};
+ghost use Rattle.csp_model.specs.Inclusion.{Subsumes};
+ghost use Rattle.csp_model.specs.declared.policy.PolicyList.{PolicyList};
 ghost use Rattle.csp_model.specs.declared.url.Origin.{Origin};
+ghost use Rattle.csp_run.specs.Comparisons.{IsComparison};
 ghost use Rattle.csp_run.specs.Desk.{Desk, IsUntouched};
 ghost use Rattle.csp_run.specs.Due.{End, IsDue, end_status};
 ghost use Rattle.csp_run.specs.Files.{World, HasStarted, AreRead};
@@ -10,6 +13,7 @@ ghost use Rattle.csp_run.specs.Words.{File, plan_of};
 ghost use Rattle.csp_run.specs.declared.fault.Fault.{Fault};
 ghost use Rattle.csp_run.specs.declared.fault.Fault.TheVariants as fault;
 ghost use Rattle.csp_run.specs.declared.files.Content.{Content};
+ghost use Rattle.csp_run.specs.declared.output.Built.{Built};
 ghost use Rattle.csp_run.specs.declared.status.Status.{Status};
 ghost use Rattle.csp_run.specs.declared.status.Status.TheVariants as status;
 
@@ -34,6 +38,15 @@ pub fn reporters_keep_what_they_hold()
         → is_report (plan_of words) ≡ false → IsUntouched desk }
     ensures status { (w : World) (desk : Desk) (words : List (List ℕ)) (end : End) → IsDue w desk words end
         → may_follow_violations (end_status end) ≡ false → IsUntouched desk }
+{}
+
+/// An answer of a comparison has the status `Clean` exactly where the second list allows all that the first
+/// allows. So no two answers on the same lists have different statuses, and no text is one of both.
+pub fn a_comparison_has_one_status()
+    ensures status { (first second : PolicyList) (built : Built) → IsComparison first second built
+        → (built.status ≡ status.Clean) ↔ Subsumes first second }
+    ensures same { (first second : PolicyList) (one other : Built) → IsComparison first second one
+        → IsComparison first second other → one.status ≡ other.status }
 {}
 
 /// Each status has an exit code of its own.

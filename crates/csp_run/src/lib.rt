@@ -2,6 +2,9 @@
 #![tactic(auto)]
 
 mod answer;
+mod check;
+mod compare;
+mod drill;
 mod fault;
 mod fault_text;
 mod files;

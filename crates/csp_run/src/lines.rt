@@ -1,4 +1,4 @@
-//! The lines that `judge` prints.
+//! Lines of verdicts and of their items.
 ghost use Rattle.std.specs.Prelude.{◌≡◌, ◌++◌, OnOk};
 ghost use Rattle.std.specs.List.{flat_map};
 ghost use Rattle.csp_run.specs.Lines as lines;
@@ -6,7 +6,8 @@ ghost use Rattle.csp_run.specs.Lines as lines;
 use csp_model::{Item, Memory, Verdict, name_text};
 use itoa::Buffer;
 
-fn push_all(text: &mut Vec<u8>, pieces: &[&str]) -> Result<(), Memory>
+// Writes pieces one after the other.
+pub(crate) fn push_all(text: &mut Vec<u8>, pieces: &[&str]) -> Result<(), Memory>
     ensures { OnOk result (text.new.items ≡ text.old.items ++ flat_map (λ piece. piece.now) pieces.now) }
 {
     for piece in pieces {
@@ -39,7 +40,8 @@ fn push_item(text: &mut Vec<u8>, item: &Item) -> Result<(), Memory>
     )
 }
 
-fn push_items(text: &mut Vec<u8>, items: &[Item]) -> Result<(), Memory>
+// Writes the items of a verdict.
+pub(crate) fn push_items(text: &mut Vec<u8>, items: &[Item]) -> Result<(), Memory>
     ensures { OnOk result (text.new.items ≡ text.old.items ++ flat_map lines.item_text items.now) }
 {
     for item in items {

@@ -10,6 +10,9 @@ ghost use Rattle.csp_run.specs.Desk.{desk as lent, IsUntouched};
 ghost use Rattle.csp_run.specs.Outputs.{GrewOn, IsOutput, judged, request_fault};
 ghost use Rattle.csp_run.specs.Shown.{fits, IsSound, verdict_on};
 
+use crate::check::check;
+use crate::compare::compare;
+use crate::drill::drill;
 use crate::fault::{Fault, Limit, Role};
 use crate::files::Content;
 use crate::lines::push_verdict;
@@ -54,6 +57,18 @@ pub(crate) fn output(
         (Form::Report, [Content::Policies(list), Content::Requests(bytes)]) => {
             report(alloc, list, bytes.as_slice(), desk)
         }
+        (Form::Compare, [Content::Policies(first), Content::Policies(second)]) => {
+            Ok(compare(alloc, first, second)?)
+        }
+        (
+            Form::Check,
+            [
+                Content::Policies(first),
+                Content::Policies(second),
+                Content::Proof(text),
+            ],
+        ) => check(alloc, first, second, text.as_slice()),
+        (Form::Drill { pairs }, []) => Ok(drill(alloc, pairs)?),
         _ => unreachable!(),
     }
 }
@@ -91,8 +106,8 @@ fn judge_each(alloc: Global, list: &PolicyList, requests: &[Value]) -> Result<Bu
     })
 }
 
-// The verdict on the description of this number. Only digests that some policy names are computed, and no text
-// that only a report shows is made.
+// The verdict on the description of this number. Only digests that some policy names are computed, and no
+// text that only a report shows is made.
 fn judge_one(
     alloc: Global,
     list: &CompiledList<'_>,

@@ -1,5 +1,6 @@
 //! What the words ask for.
-ghost use Rattle.std.specs.Prelude.{◌≡◌, ◌≢◌, length, IfOk, IsTrue};
+ghost use Rattle.std.specs.Prelude.{◌≡◌, ◌≢◌, length, ok_or, IfOk, IsTrue};
+ghost use Rattle.csp_model.specs.Answers.{Gives};
 ghost use Rattle.csp_model.specs.Validity.{IsValidOrigin};
 ghost use Rattle.csp_run.specs.Shown.{shown};
 ghost use Rattle.csp_run.specs.Words as spec;
@@ -16,9 +17,15 @@ pub enum Form {
     Judge,
     /// What reporters tell of the violations of a policy file by the requests of a request file.
     Report,
+    /// Whether the second of two policy files allows all that the first allows: a proof, or a check.
+    Compare,
+    /// Whether a proof of that is accepted.
+    Check,
+    /// The comparison of two lists that are made for it, with so many pairs of sources.
+    Drill { pairs: u8 },
 }
 
-/// A command, the origin of its policies, and the names of the files that it reads, in order.
+/// A command, the origin of the policies of its files, and the names of these in order.
 #[derive(Drop)]
 pub struct Plan<'a> {
     pub form: Form,
@@ -31,30 +38,40 @@ pub(crate) fn role_at(form: Form, place: usize) -> Role
     ensures { result ≡ spec.role_at form place }
 {
     match form {
-        Form::Judge | Form::Report => {
-            if place == 0 {
-                Role::Policy
-            } else {
-                Role::Requests
-            }
-        }
+        Form::Judge | Form::Report => judged_role(place),
+        Form::Compare | Form::Check | Form::Drill { .. } => compared_role(place),
     }
 }
 
-// What these words ask for, or why it is nothing: `Usage`, `NotBuilt` or `BadOrigin`, tested in this order,
-// or `Memory`.
+fn judged_role(place: usize) -> Role
+    ensures { result ≡ spec.judged_role place }
+{
+    match place {
+        0 => Role::Policy,
+        _ => Role::Requests,
+    }
+}
+
+fn compared_role(place: usize) -> Role
+    ensures { result ≡ spec.compared_role place }
+{
+    match place {
+        0 => Role::First,
+        1 => Role::Second,
+        _ => Role::Proof,
+    }
+}
+
+// What these words ask for, or why it is nothing: `Usage` or `BadOrigin`, tested in this order, or `Memory`.
 pub(crate) fn plan_of(alloc: Global, words: &[Text]) -> Result<Plan<'_>, Fault>
     ensures plan { result ≢ Err Fault.Memory → shown result ≡ spec.plan_of words.now }
     ensures takes { IfOk result (λ plan. IsTrue (spec.takes plan.form (length plan.names.now))) }
     ensures valid { IfOk result (λ plan. IsValidOrigin plan.origin) }
 {
-    if is_unbuilt(words) {
-        return Err(Fault::NotBuilt);
-    }
     match words {
-        [verb, origin, names @ ..] => match form_of(verb.as_str()) {
+        [verb, word, names @ ..] => match form_of(verb.as_str(), word.as_str()) {
             Some(form) if takes(form, names.len()) => {
-                match read_origin(alloc, origin.as_str()) {
+                match origin_for(alloc, form, word.as_str()) {
                     Ok(origin) => Ok(Plan {
                         form,
                         origin,
@@ -70,33 +87,45 @@ pub(crate) fn plan_of(alloc: Global, words: &[Text]) -> Result<Plan<'_>, Fault>
     }
 }
 
-// Whether these are words of a form that isn't built yet.
-fn is_unbuilt(words: &[Text]) -> bool
-    ensures { result ≡ spec.is_unbuilt words.now }
+// The origin of the policies of a form's files, which the word behind the verb is. A drill reads no file, and
+// that word is no origin.
+#[tactic(auto, unfolding(crate::specs::Words::origin_for))]
+fn origin_for(alloc: Global, form: Form, word: &str) -> Result<Origin, OriginError>
+    ensures origin { Gives OriginError.Memory result
+        (ok_or (spec.origin_for form word.now) OriginError.BadOrigin) }
+    ensures valid { IfOk result IsValidOrigin }
 {
-    match words {
-        [verb, count] => verb.as_str() == "drill" && is_drill_number(count.as_str().as_bytes()),
-        [verb, _, _, _] => matches!(verb.as_str(), "compare"),
-        [verb, _, _, _, _] => matches!(verb.as_str(), "check"),
-        _ => false,
+    match form {
+        Form::Drill { .. } => Ok(Origin::Opaque),
+        _ => read_origin(alloc, word),
     }
 }
 
-// Whether it is a decimal number from 1 to 200 without leading zeros.
+// The number that a word is: a decimal one from 1 to 200 without leading zeros.
 #[tactic(auto, unfolding(crate::specs::Words::is_drill_number))]
-fn is_drill_number(word: &[u8]) -> bool
-    ensures { result ≡ spec.is_drill_number word.now }
+fn drill_pairs(word: &[u8]) -> Option<u8>
+    ensures { result ≡ spec.drill_pairs word.now }
 {
-    are_digits(word) && word.len() < 4 && word[0] != b'0' && decimal_value(word) <= 200
+    if are_digits(word) && word.len() < 4 && word[0] != b'0' && decimal_value(word) <= 200 {
+        Some(decimal_value(word) as u8)
+    } else {
+        None
+    }
 }
 
-// The form that a verb names.
-fn form_of(verb: &str) -> Option<Form>
-    ensures { result ≡ spec.form_of verb.now }
+// The form that a verb and the word behind it name.
+fn form_of(verb: &str, word: &str) -> Option<Form>
+    ensures { result ≡ spec.form_of verb.now word.now }
 {
     match verb {
         "judge" => Some(Form::Judge),
         "report" => Some(Form::Report),
+        "compare" => Some(Form::Compare),
+        "check" => Some(Form::Check),
+        "drill" => match drill_pairs(word.as_bytes()) {
+            Some(pairs) => Some(Form::Drill { pairs }),
+            None => None,
+        },
         _ => None,
     }
 }
@@ -106,6 +135,8 @@ fn takes(form: Form, files: usize) -> bool
     ensures { result ≡ spec.takes form files }
 {
     match form {
-        Form::Judge | Form::Report => files == 2,
+        Form::Judge | Form::Report | Form::Compare => files == 2,
+        Form::Check => files == 3,
+        Form::Drill { .. } => files == 0,
     }
 }

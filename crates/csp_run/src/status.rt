@@ -5,9 +5,10 @@ ghost use Rattle.csp_run.specs.Texts as texts;
 /// The status of a run.
 #[derive(Clone, Copy, Debug, PartialEq, Eq)]
 pub enum Status {
-    /// Nothing is blocked, or the report is done.
+    /// No request is blocked, the second list allows what the first allows, the proof is accepted, or the
+    /// report or the drill is done.
     Clean,
-    /// Some request is blocked.
+    /// Some request is blocked, the second list blocks what the first allows, or the proof is rejected.
     Found,
     /// The words have none of the forms.
     Usage,
@@ -19,6 +20,8 @@ pub enum Status {
     TooLarge,
     /// A request is malformed.
     BadRequests,
+    /// A proof is malformed.
+    BadProof,
     /// A file couldn't be read.
     ReadFault,
     /// The output couldn't be written.
@@ -27,8 +30,6 @@ pub enum Status {
     NoMemory,
     /// A reporter refused a violation.
     ReporterFault,
-    /// What the words or a file ask for isn't built yet.
-    NotBuilt,
 }
 
 /// The number of a status, with which the program ends.
@@ -43,10 +44,10 @@ pub fn exit_code(status: Status) -> u8
         Status::BadPolicy => 4,
         Status::TooLarge => 5,
         Status::BadRequests => 6,
+        Status::BadProof => 7,
         Status::ReadFault => 8,
         Status::WriteFault => 9,
         Status::NoMemory => 10,
         Status::ReporterFault => 11,
-        Status::NotBuilt => 12,
     }
 }

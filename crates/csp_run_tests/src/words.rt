@@ -6,8 +6,6 @@ use std::test::Fail;
 const USAGE: &str = "usage: judge ORIGIN POLICY REQUESTS | report ORIGIN POLICY REQUESTS | \
     compare ORIGIN FIRST SECOND | check ORIGIN FIRST SECOND PROOF | drill N\n";
 
-const UNBUILT: &str = "not built: command\n";
-
 const RUNS: [(&[&str], Status, &str); 14] = [
     (&[], Status::Usage, USAGE),
     (&["judge"], Status::Usage, USAGE),
@@ -19,15 +17,23 @@ const RUNS: [(&[&str], Status, &str); 14] = [
     (&["drill", "0"], Status::Usage, USAGE),
     (&["drill", "201"], Status::Usage, USAGE),
     (&["drill", "08"], Status::Usage, USAGE),
-    (&["drill", "200"], Status::NotBuilt, UNBUILT),
+    (&["drill", "8", "8"], Status::Usage, USAGE),
     (&["report"], Status::Usage, USAGE),
     (
         &["report", "o", "p", "r"],
         Status::BadOrigin,
         "bad origin\n",
     ),
-    (&["compare", "o", "p", "r"], Status::NotBuilt, UNBUILT),
-    (&["check", "o", "p", "r", "q"], Status::NotBuilt, UNBUILT),
+    (
+        &["compare", "o", "p", "r"],
+        Status::BadOrigin,
+        "bad origin\n",
+    ),
+    (
+        &["check", "o", "p", "r", "q"],
+        Status::BadOrigin,
+        "bad origin\n",
+    ),
     (
         &["judge", "https://a.example/x", "p", "r"],
         Status::BadOrigin,
@@ -59,11 +65,11 @@ const NUMBERS: [(Status, u8); 12] = [
     (Status::BadPolicy, 4),
     (Status::TooLarge, 5),
     (Status::BadRequests, 6),
+    (Status::BadProof, 7),
     (Status::ReadFault, 8),
     (Status::WriteFault, 9),
     (Status::NoMemory, 10),
     (Status::ReporterFault, 11),
-    (Status::NotBuilt, 12),
 ];
 
 #[test]
