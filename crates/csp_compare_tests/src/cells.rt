@@ -1,0 +1,131 @@
+//! Tests of csp_cell and csp_pick.
+use crate::values::literals;
+use csp_atom::{Literal, Vocabulary, holds};
+use csp_cell::Cell;
+use csp_model::{Algorithm, Bytes, Hash, List, Memory, Text};
+use csp_pick::{can_pick, representative};
+use csp_print::check_json;
+use csp_shape::{Shape, shape_at};
+use std::alloc::Global;
+use std::process::Abort;
+use std::test::Fail;
+
+// The cell that is left where the literals are taken one after the other.
+fn cell_of(
+    rt: &(impl Abort + AllocGlobal),
+    shape: Shape,
+    literals: &[Literal],
+) -> Result<Cell, Memory> {
+    let mut cell = Cell::new(rt.alloc(), shape);
+    for literal in literals {
+        let atom = &literal.atom;
+        assert!(rt; atom.is_valid());
+        assert!(rt; cell.shape().looks_at(atom.part()));
+        assert!(rt; cell.value(atom).is_none());
+        let (with, without) = cell.split(atom)?;
+        cell = if literal.positive { with } else { without };
+    }
+    Ok(cell)
+}
+
+// The vocabulary of one hash.
+fn vocabulary(alloc: Global) -> Result<Vocabulary, Memory> {
+    let mut hashes = List::new(alloc);
+    hashes.push(Hash {
+        algorithm: Algorithm::Sha256,
+        value: Text::new(alloc, "abc")?,
+    })?;
+    Ok(Vocabulary { hashes })
+}
+
+// The number of a shape, literals, and the check that stands for their cell, as it is printed.
+const PICKED: [(u8, &str, &str); 12] = [
+    (
+        38,
+        "",
+        r#"{"destination":"image","integrity":"","kind":"fetch","nonce":"","parser-inserted":false,"redirects":0,"url":{"host":"a","path":"/","port":null,"scheme":"https"}}"#,
+    ),
+    (
+        38,
+        "under a.example;-host a.a.example;-under b.a.example;",
+        r#"{"destination":"image","integrity":"","kind":"fetch","nonce":"","parser-inserted":false,"redirects":0,"url":{"host":"b.a.example","path":"/","port":null,"scheme":"https"}}"#,
+    ),
+    (
+        39,
+        "-domain;",
+        r#"{"destination":"image","integrity":"","kind":"fetch","nonce":"","parser-inserted":false,"redirects":1,"url":{"host":"10.0.0.1","path":"/","port":null,"scheme":"https"}}"#,
+    ),
+    (
+        38,
+        "-https;",
+        r#"{"destination":"image","integrity":"","kind":"fetch","nonce":"","parser-inserted":false,"redirects":0,"url":{"host":"a","path":"/","port":8080,"scheme":"https"}}"#,
+    ),
+    (
+        38,
+        "below x;-path x/y;",
+        r#"{"destination":"image","integrity":"","kind":"fetch","nonce":"","parser-inserted":false,"redirects":0,"url":{"host":"a","path":"/x/","port":null,"scheme":"https"}}"#,
+    ),
+    (
+        46,
+        "-scheme data;",
+        r#"{"destination":"image","integrity":"","kind":"fetch","nonce":"","parser-inserted":false,"redirects":0,"url":{"scheme":"blob"}}"#,
+    ),
+    (
+        98,
+        "nonce abc;has abc;",
+        r#"{"destination":"script","integrity":"sha256-abc","kind":"fetch","nonce":"abc","parser-inserted":false,"redirects":0,"url":{"host":"a","path":"/","port":null,"scheme":"https"}}"#,
+    ),
+    (
+        110,
+        "outside;",
+        r#"{"destination":"script","integrity":"sha256-a","kind":"fetch","nonce":"","parser-inserted":true,"redirects":0,"url":{"host":"a","path":"/","port":null,"scheme":"https"}}"#,
+    ),
+    (
+        169,
+        "-zeros;-nonce abc;",
+        r#"{"digests":{"sha256":"0100000000000000000000000000000000000000000000000000000000000000","sha384":"000000000000000000000000000000000000000000000000000000000000000000000000000000000000000000000000","sha512":"00000000000000000000000000000000000000000000000000000000000000000000000000000000000000000000000000000000000000000000000000000000"},"kind":"inline","nonce":"","type":"script"}"#,
+    ),
+    (
+        163,
+        "host a.example;",
+        r#"{"ancestors":[{"host":"a.example","path":"/","port":null,"scheme":"https"}],"kind":"ancestors"}"#,
+    ),
+    (168, "", r#"{"ancestors":["null"],"kind":"ancestors"}"#),
+    (176, "", r#"{"kind":"capability","name":"forms"}"#),
+];
+
+// The check that stands for the cell of these literals, of which each is true of it.
+fn picked(
+    rt: &(impl Abort + AllocGlobal),
+    number: u8,
+    spelling: &str,
+    vocabulary: &Vocabulary,
+) -> Result<Bytes, Fail> {
+    let shape = shape_at(number).ok_or("no shape")?;
+    let literals = literals(rt.alloc(), spelling)?;
+    let cell = cell_of(rt, shape, literals.as_slice())?;
+    assert!(rt; cell.shape() == shape);
+    assert!(rt; can_pick(&cell, vocabulary));
+    let check = representative(rt.alloc(), &cell, shape, vocabulary)?;
+    for literal in literals.as_slice() {
+        assert_eq!(rt;
+            holds(&literal.atom, &check, vocabulary),
+            literal.positive,
+            "{spelling}"
+        );
+    }
+    let text = check_json(rt.alloc(), &check);
+    drop(check);
+    Ok(text?)
+}
+
+// Each literal is true of the check, and the check is the simplest of its kind.
+#[test]
+fn checks_of_cells(rt: HostRuntime) -> Result<(), Fail> {
+    let vocabulary = vocabulary(rt.alloc())?;
+    for &(number, spelling, printed) in &PICKED {
+        let text = picked(&rt, number, spelling, &vocabulary)?;
+        assert_eq!(rt; text.as_slice(), printed.as_bytes(), "{spelling}");
+    }
+    Ok(())
+}

@@ -1,0 +1,133 @@
+//! Tests of csp_compare. Each proof that comes out is given to the checker, and each check is judged by both lists.
+use crate::values::{FIRST, SECOND, in_the_second_format, policies, proof};
+use csp_checker::Checker;
+use csp_compare::{Answer, compare};
+use csp_model::{Bytes, Check, Memory, PolicyList};
+use csp_print::check_json;
+use csp_proof::{Proof, proof_text};
+use csp_verdict::list_allows;
+use std::process::Abort;
+use std::test::Fail;
+
+// Whether the text of the proof reads as a proof that the checker accepts.
+fn is_accepted(
+    rt: &(impl Abort + AllocGlobal),
+    first: &PolicyList,
+    second: &PolicyList,
+    text: &str,
+) -> Result<bool, Fail> {
+    let read = proof(rt, text)?;
+    let mut checker = Checker::new(rt.alloc(), first, second, &read)?;
+    Ok(checker.accepts().is_ok())
+}
+
+// The text of the answer, a proof's or a check's, once it is confirmed.
+pub(crate) fn compared(
+    rt: &(impl Abort + AllocGlobal),
+    first: &str,
+    second: &str,
+) -> Result<(bool, Bytes), Fail> {
+    let first = policies(rt, first)?;
+    let second = policies(rt, second)?;
+    match compare(rt.alloc(), &first, &second)? {
+        Answer::Subsumed { proof } => {
+            let text = proof_text(rt.alloc(), &proof)?;
+            drop(proof);
+            let spelled = str::from_utf8(text.as_slice()).unwrap_or("");
+            assert!(rt; is_accepted(rt, &first, &second, spelled)?);
+            Ok((true, text))
+        }
+        Answer::Counterexample { check } => {
+            let is_shown = list_allows(&first, &check) && !list_allows(&second, &check);
+            let text = check_json(rt.alloc(), &check);
+            drop(check);
+            assert!(rt; is_shown);
+            Ok((false, text?))
+        }
+    }
+}
+
+// Two lists, and the check that the first allows and the second doesn't, as it is printed.
+const REFUSED: [(&str, &str, &str); 5] = [
+    (
+        "Content-Security-Policy: img-src https://*.a.example",
+        "Content-Security-Policy: img-src https://a.example",
+        r#"{"destination":"image","integrity":"","kind":"fetch","nonce":"","parser-inserted":false,"redirects":0,"url":{"host":"a.a.example","path":"/","port":null,"scheme":"https"}}"#,
+    ),
+    (
+        "Content-Security-Policy: img-src https://a.example",
+        "Content-Security-Policy: img-src https://*.a.example",
+        r#"{"destination":"image","integrity":"","kind":"fetch","nonce":"","parser-inserted":false,"redirects":0,"url":{"host":"a.example","path":"/","port":null,"scheme":"https"}}"#,
+    ),
+    (
+        "Content-Security-Policy: img-src https://10.0.0.1/",
+        "Content-Security-Policy: img-src 'none'",
+        r#"{"destination":"image","integrity":"","kind":"fetch","nonce":"","parser-inserted":false,"redirects":0,"url":{"host":"10.0.0.1","path":"/","port":null,"scheme":"https"}}"#,
+    ),
+    (
+        "Content-Security-Policy: script-src 'sha256-47DEQpj8HBSa-_TImW-5JCeuQeRkm5NMpJWZG3hSuFU='\n\
+         Content-Security-Policy: script-src 'sha384-AAAAAAAAAAAAAAAAAAAAAAAAAAAAAAAAAAAAAAAAAAAAAAAAAAAAAAAAAAAAAAAA'",
+        "Content-Security-Policy: script-src 'none'",
+        r#"{"digests":{"sha256":"e3b0c44298fc1c149afbf4c8996fb92427ae41e4649b934ca495991b7852b855","sha384":"000000000000000000000000000000000000000000000000000000000000000000000000000000000000000000000000","sha512":"00000000000000000000000000000000000000000000000000000000000000000000000000000000000000000000000000000000000000000000000000000000"},"kind":"inline","nonce":"","type":"script"}"#,
+    ),
+    (
+        "",
+        "Content-Security-Policy: sandbox allow-scripts",
+        r#"{"kind":"capability","name":"forms"}"#,
+    ),
+];
+
+#[test]
+fn checks_that_refute(rt: HostRuntime) -> Result<(), Fail> {
+    for &(first, second, printed) in &REFUSED {
+        let (is_subsumed, text) = compared(&rt, first, second)?;
+        assert!(rt; !is_subsumed, "{first}");
+        assert_eq!(rt; text.as_slice(), printed.as_bytes(), "{first}");
+    }
+    Ok(())
+}
+
+const STRICT: &str = "Content-Security-Policy: script-src 'strict-dynamic' 'nonce-abc' https:";
+
+// Two lists of which the second allows what the first allows.
+const SUBSUMED: [(&str, &str); 6] = [
+    (STRICT, STRICT),
+    (
+        "Content-Security-Policy: img-src https://10.0.0.1",
+        "Content-Security-Policy: img-src https://10.0.0.1:443",
+    ),
+    (
+        "Content-Security-Policy: img-src https://a.example",
+        "Content-Security-Policy: img-src https://a.example:443",
+    ),
+    ("", ""),
+    (
+        "",
+        "Content-Security-Policy-Report-Only: default-src 'none'",
+    ),
+    (
+        "Content-Security-Policy: default-src 'self'; sandbox",
+        "Content-Security-Policy: img-src *; sandbox allow-forms",
+    ),
+];
+
+#[test]
+fn proofs_that_are_accepted(rt: HostRuntime) -> Result<(), Fail> {
+    for &(first, second) in &SUBSUMED {
+        let (is_subsumed, _) = compared(&rt, first, second)?;
+        assert!(rt; is_subsumed, "{first}");
+    }
+    Ok(())
+}
+
+// The proof that is made by hand in the second format is the one that comes out.
+#[test]
+fn a_proof_as_by_hand(rt: HostRuntime) -> Result<(), Fail> {
+    let (is_subsumed, text) = compared(&rt, FIRST, SECOND)?;
+    assert!(rt; is_subsumed);
+    assert_eq!(rt;
+        text.as_slice(),
+        in_the_second_format(rt.alloc())?.as_bytes()
+    );
+    Ok(())
+}

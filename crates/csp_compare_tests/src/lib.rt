@@ -1,0 +1,24 @@
+//! Tests of the crates that compare two lists of policies: formulas, proofs, their checker, cells and the search, and
+//! of the commands of `run` that stand on them.
+//!
+//! Nothing stands on this crate. What a proved clause says of every input is not tested again.
+#![tactic(auto)]
+
+#[cfg(test)]
+mod broken;
+#[cfg(test)]
+mod cells;
+#[cfg(test)]
+mod checks;
+#[cfg(test)]
+mod comparing;
+#[cfg(test)]
+mod formulas;
+#[cfg(test)]
+mod generated;
+#[cfg(test)]
+mod proofs;
+#[cfg(test)]
+mod runs;
+#[cfg(test)]
+mod values;
