@@ -83,7 +83,7 @@ fn changed_lines(rt: HostRuntime) -> Result<(), Fail> {
 fn proofs_cut_short(rt: HostRuntime) -> Result<(), Fail> {
     let proof = in_the_first_format(rt.alloc())?;
     let mut cut = String::new(rt.alloc());
-    let mut next = 1;
+    let mut next = 1u32;
     for line in proof.as_str().split_terminator('\n') {
         let contents = [FIRST.as_bytes(), SECOND.as_bytes(), cut.as_bytes()];
         let (status, answer) = written(rt.alloc(), &CHECK, &contents)?;
@@ -92,7 +92,7 @@ fn proofs_cut_short(rt: HostRuntime) -> Result<(), Fail> {
         assert_eq!(rt; answer.as_slice(), text.as_bytes());
         cut.push_str(line)?;
         cut.push_str("\n")?;
-        next += 1;
+        next = next.saturating_add(1);
     }
     assert_eq!(rt; next, 389);
     Ok(())

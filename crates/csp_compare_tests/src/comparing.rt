@@ -1,4 +1,6 @@
 //! Tests of csp_compare. Each proof that comes out is given to the checker, and each check is judged by both lists.
+ghost use Rattle.csp_model.specs.Policies.{IsReadable};
+
 use crate::values::{FIRST, SECOND, in_the_second_format, policies, proof};
 use csp_checker::Checker;
 use csp_compare::{Answer, compare};
@@ -15,7 +17,10 @@ fn is_accepted(
     first: &PolicyList,
     second: &PolicyList,
     text: &str,
-) -> Result<bool, Fail> {
+) -> Result<bool, Fail>
+    requires first { IsReadable first.now }
+    requires second { IsReadable second.now }
+{
     let read = proof(rt, text)?;
     let mut checker = Checker::new(rt.alloc(), first, second, &read)?;
     Ok(checker.accepts().is_ok())

@@ -98,7 +98,14 @@ fn what_literals_decide(rt: HostRuntime) -> Result<(), Fail> {
     Ok(())
 }
 
-// The same by places, literal by literal, and taken back.
+fn taken(literal: &Literal) -> Taken<'_> {
+    Taken {
+        atom: &literal.atom,
+        positive: literal.positive,
+    }
+}
+
+// The same by places, literal by literal, and taken back. There are two at most.
 fn decided_by_places(
     rt: &(impl Abort + AllocGlobal),
     list: &PolicyList,
@@ -112,14 +119,15 @@ fn decided_by_places(
     formulas.push(compile(rt.alloc(), policy, shape, &vocabulary)?)?;
     let placed = place_formulas(rt.alloc(), &formulas, &[])?;
     let known = literals(rt.alloc(), known)?;
-    let mut valuation = Valuation::new(rt.alloc(), placed.atoms, 8)?;
+    let mut valuation = Valuation::new(rt.alloc(), placed.atoms, 2)?;
     let formula = placed.first.get(0).ok_or("no formula")?;
-    for literal in known.as_slice() {
-        assert!(rt; valuation.path().len() < 8);
-        valuation.take(Taken {
-            atom: &literal.atom,
-            positive: literal.positive,
-        });
+    match known.as_slice() {
+        [] => {}
+        [one] => valuation.take(taken(one)),
+        [one, other, ..] => {
+            valuation.take(taken(one));
+            valuation.take(taken(other));
+        }
     }
     let found = valuation.value_of(formula);
     while valuation.take_back().is_some() {}

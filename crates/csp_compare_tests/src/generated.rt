@@ -121,9 +121,9 @@ fn lists_of_all_kinds(rt: HostRuntime) -> Result<(), Fail> {
         let first = block(rt.alloc(), &mut words, before)?;
         let (is_subsumed, _) = compared(&rt, first.as_str(), second.as_str())?;
         if is_subsumed {
-            counts[0] += 1;
+            counts[0] = counts[0].saturating_add(1);
         } else {
-            counts[1] += 1;
+            counts[1] = counts[1].saturating_add(1);
         }
     }
     assert!(rt; counts[0] >= 150 && counts[1] >= 50, "{counts:?}");

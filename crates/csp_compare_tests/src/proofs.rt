@@ -57,7 +57,7 @@ fn lines_that_cannot_stand(rt: HostRuntime) -> Result<(), Fail> {
 fn proofs_that_end_early(rt: HostRuntime) -> Result<(), Fail> {
     let whole = in_the_first_format(rt.alloc())?;
     let mut cut = String::new(rt.alloc());
-    let mut next = 1;
+    let mut next = 1u32;
     for line in whole.as_str().split_terminator('\n') {
         let refused = proof(&rt, cut.as_str()).err();
         assert_eq!(rt; refused, Some(ProofError::BadProof { line: next }));
@@ -67,7 +67,7 @@ fn proofs_that_end_early(rt: HostRuntime) -> Result<(), Fail> {
             assert_eq!(rt; refused, Some(ProofError::BadProof { line: next }));
         }
         cut.push_str("\n")?;
-        next += 1;
+        next = next.saturating_add(1);
     }
     assert_eq!(rt; next, 389);
     Ok(())

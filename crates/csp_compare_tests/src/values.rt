@@ -1,4 +1,8 @@
 //! Builders of values, so that a row of a table is short.
+ghost use Rattle.std.specs.Prelude.{IfOk};
+ghost use Rattle.csp_model.specs.Policies.{IsReadable};
+ghost use Rattle.csp_proof.specs.WellFormed.{IsWellFormed};
+
 use csp_atom::{Atom, Literal};
 use csp_model::{Algorithm, Digest, Hash, Host, List, Memory, PolicyList, Text, pieces_of};
 use csp_policy::{BlockError, read_block};
@@ -11,7 +15,9 @@ use std::process::Abort;
 pub(crate) fn policies(
     rt: &(impl Abort + AllocGlobal),
     block: &str,
-) -> Result<PolicyList, BlockError> {
+) -> Result<PolicyList, BlockError>
+    ensures { IfOk result IsReadable }
+{
     let bytes = block.as_bytes();
     assert!(rt; bytes.len() < 4_000_000_000);
     match read_origin(rt.alloc(), "https://a.example") {
@@ -20,7 +26,9 @@ pub(crate) fn policies(
     }
 }
 
-pub(crate) fn proof(rt: &(impl Abort + AllocGlobal), text: &str) -> Result<Proof, ProofError> {
+pub(crate) fn proof(rt: &(impl Abort + AllocGlobal), text: &str) -> Result<Proof, ProofError>
+    ensures { IfOk result IsWellFormed }
+{
     let bytes = text.as_bytes();
     assert!(rt; bytes.len() < 4_000_000_000);
     read_proof(rt.alloc(), bytes)
@@ -79,7 +87,11 @@ pub(crate) fn with_line(
 ) -> Result<String, Memory> {
     let mut made = String::new(alloc);
     for (place, old) in text.split_terminator('\n').enumerate() {
-        made.push_str(if place + 1 == number { line } else { old })?;
+        made.push_str(if number.checked_sub(1) == Some(place) {
+            line
+        } else {
+            old
+        })?;
         made.push_str("\n")?;
     }
     Ok(made)
