@@ -1,13 +1,17 @@
 //! Tests of csp_formula and csp_valuation.
+ghost use Rattle.std.specs.Prelude.{IsTrue};
+ghost use Rattle.csp_shape.specs.Shapes.{is_shape};
+
 use crate::values::{literals, policies};
-use csp_atom::{Literal, Vocabulary, holds, vocabulary_of};
+use csp_atom::{Atom, Literal, Vocabulary, holds, vocabulary_of};
 use csp_cell::Cell;
-use csp_formula::{compile, surely};
-use csp_model::{Duplicate, List, Policy, PolicyList};
+use csp_formula::{Formula, compile, surely};
+use csp_model::{Check, Duplicate, List, Memory, Policy, PolicyList};
 use csp_pick::{can_pick, representative};
 use csp_shape::{Shape, shape_at};
-use csp_valuation::{Taken, Valuation, place_formulas};
+use csp_valuation::{PlacedFormula, Taken, Valuation, place_formulas};
 use csp_verdict::allows;
+use std::alloc::Global;
 use std::process::Abort;
 use std::test::Fail;
 
@@ -105,13 +109,30 @@ fn taken(literal: &Literal) -> Taken<'_> {
     }
 }
 
-// The same by places, literal by literal, and taken back. There are two at most.
+// What one literal or two decide of a formula over these atoms, taken one after the other.
+fn decided_along(
+    alloc: Global,
+    atoms: List<Atom>,
+    formula: &PlacedFormula,
+    known: &[Literal],
+) -> Result<Option<bool>, Memory> {
+    let mut valuation = Valuation::new(alloc, atoms, 2)?;
+    if let Some(first) = known.first() {
+        valuation.take(taken(first));
+        if let Some(second) = known.get(1) {
+            valuation.take(taken(second));
+        }
+    }
+    Ok(valuation.value_of(formula))
+}
+
+// The same by places.
 fn decided_by_places(
     rt: &(impl Abort + AllocGlobal),
     list: &PolicyList,
     number: u8,
     known: &str,
-) -> Result<(Option<bool>, Option<bool>), Fail> {
+) -> Result<Option<bool>, Fail> {
     let vocabulary: Vocabulary = vocabulary_of(rt.alloc(), list, list)?;
     let policy = list.policies.get(0).ok_or("no policy")?;
     let shape = shape_at(number).ok_or("no shape")?;
@@ -119,19 +140,9 @@ fn decided_by_places(
     formulas.push(compile(rt.alloc(), policy, shape, &vocabulary)?)?;
     let placed = place_formulas(rt.alloc(), &formulas, &[])?;
     let known = literals(rt.alloc(), known)?;
-    let mut valuation = Valuation::new(rt.alloc(), placed.atoms, 2)?;
     let formula = placed.first.get(0).ok_or("no formula")?;
-    match known.as_slice() {
-        [] => {}
-        [one] => valuation.take(taken(one)),
-        [one, other, ..] => {
-            valuation.take(taken(one));
-            valuation.take(taken(other));
-        }
-    }
-    let found = valuation.value_of(formula);
-    while valuation.take_back().is_some() {}
-    Ok((found, valuation.value_of(formula)))
+    let atoms = placed.atoms.copy(rt.alloc())?;
+    Ok(decided_along(rt.alloc(), atoms, formula, known.as_slice())?)
 }
 
 #[test]
@@ -139,13 +150,8 @@ fn what_a_path_decides(rt: HostRuntime) -> Result<(), Fail> {
     for &(policy, number, known, wanted) in &DECIDED {
         let block = format!(in rt.alloc(); "Content-Security-Policy: {policy}")?;
         let list = policies(&rt, block.as_str())?;
-        let before = decided(&rt, &list, number, "")?;
         let found = decided_by_places(&rt, &list, number, known)?;
-        assert_eq!(rt;
-            found,
-            (wanted, before),
-            "{policy} at {number} under {known}"
-        );
+        assert_eq!(rt; found, wanted, "{policy} at {number} under {known}");
     }
     Ok(())
 }
@@ -159,30 +165,52 @@ const EVERY_KIND: &str = "Content-Security-Policy: \
     form-action 'self' https://pay.example:65536; base-uri http://b.example:*; \
     frame-ancestors https:; worker-src 'nonce-d' a.example; sandbox allow-forms allow-scripts";
 
-// What the policy's formula comes to where each of its atoms is decided as it is for one check of the shape, and
-// whether the policy allows that check.
-fn both_values(
+// A check of the shape.
+fn check_at(
     rt: &(impl Abort + AllocGlobal),
+    vocabulary: &Vocabulary,
+    shape: Shape,
+) -> Result<Check, Memory>
+    requires { IsTrue (is_shape shape) }
+{
+    let cell = Cell::new(rt.alloc(), shape);
+    assert!(rt; can_pick(&cell, vocabulary));
+    representative(rt.alloc(), &cell, shape, vocabulary)
+}
+
+// Each atom of the formulas as it is for the check.
+fn facts_of(
+    alloc: Global,
+    formulas: &[Formula],
+    vocabulary: &Vocabulary,
+    check: &Check,
+) -> Result<List<Literal>, Memory> {
+    let placed = place_formulas(alloc, formulas, &[])?;
+    let mut known = List::new(alloc);
+    for atom in placed.atoms.as_slice() {
+        known.push(Literal {
+            atom: atom.copy(alloc)?,
+            positive: holds(atom, check, vocabulary),
+        })?;
+    }
+    Ok(known)
+}
+
+// What the policy's formula comes to where each of its atoms is decided as it is for the check.
+fn value_on(
+    alloc: Global,
     policy: &Policy,
     vocabulary: &Vocabulary,
     shape: Shape,
-) -> Result<(Option<bool>, bool), Fail> {
-    let cell = Cell::new(rt.alloc(), shape);
-    assert!(rt; can_pick(&cell, vocabulary));
-    let check = representative(rt.alloc(), &cell, shape, vocabulary)?;
-    let mut formulas = Vec::new(rt.alloc());
-    formulas.push(compile(rt.alloc(), policy, shape, vocabulary)?)?;
-    let mut known = List::new(rt.alloc());
-    for atom in place_formulas(rt.alloc(), &formulas, &[])?.atoms.as_slice() {
-        known.push(Literal {
-            atom: atom.copy(rt.alloc())?,
-            positive: holds(atom, &check, vocabulary),
-        })?;
+    check: &Check,
+) -> Result<Option<bool>, Memory> {
+    let mut formulas = Vec::new(alloc);
+    formulas.push(compile(alloc, policy, shape, vocabulary)?)?;
+    let known = facts_of(alloc, &formulas, vocabulary, check)?;
+    match formulas.first() {
+        Some(formula) => Ok(surely(formula, known.as_slice())),
+        None => Ok(None),
     }
-    let formula = formulas.first().ok_or("no formula")?;
-    let values = (surely(formula, known.as_slice()), allows(policy, &check));
-    drop(check);
-    Ok(values)
 }
 
 #[test]
@@ -192,8 +220,11 @@ fn formulas_are_what_the_policy_allows(rt: HostRuntime) -> Result<(), Fail> {
     let policy = list.policies.get(0).ok_or("no policy")?;
     for number in 0..189 {
         let shape = shape_at(number).ok_or("no shape")?;
-        let (value, is_allowed) = both_values(&rt, policy, &vocabulary, shape)?;
-        assert_eq!(rt; value, Some(is_allowed), "{number}");
+        let check = check_at(&rt, &vocabulary, shape)?;
+        let value = value_on(rt.alloc(), policy, &vocabulary, shape, &check);
+        let is_allowed = allows(policy, &check);
+        drop(check);
+        assert_eq!(rt; value?, Some(is_allowed), "{number}");
     }
     Ok(())
 }

@@ -50,6 +50,17 @@ pub(crate) fn written(
     done(alloc, words, files(alloc, contents, 4096, &[])?, 4_000_000)
 }
 
+// The same on two lists and a proof.
+fn checked<'a>(
+    alloc: Global,
+    words: &[&str],
+    first: &'a [u8],
+    second: &'a [u8],
+    proof: &'a [u8],
+) -> Result<(Status, Bytes), Memory> {
+    written(alloc, words, &[first, second, proof])
+}
+
 const COMPARE: [&str; 4] = ["compare", "https://a.example", "first", "second"];
 
 pub(crate) const CHECK: [&str; 5] = ["check", "https://a.example", "first", "second", "proof"];
@@ -125,10 +136,10 @@ fn proofs_that_come_out(rt: HostRuntime) -> Result<(), Fail> {
         let lists = [first.as_bytes(), second.as_bytes()];
         let (status, proof) = written(rt.alloc(), &COMPARE, &lists)?;
         assert_eq!(rt; status, Status::Clean, "{first}");
-        let files = [first.as_bytes(), second.as_bytes(), proof.as_slice()];
-        let (status, answer) = written(rt.alloc(), &CHECK, &files)?;
-        assert_eq!(rt; status, Status::Clean, "{first}");
-        assert_eq!(rt; answer.as_slice(), "accepted\n".as_bytes(), "{first}");
+        let (first, second) = (first.as_bytes(), second.as_bytes());
+        let (status, answer) = checked(rt.alloc(), &CHECK, first, second, proof.as_slice())?;
+        assert_eq!(rt; status, Status::Clean);
+        assert_eq!(rt; answer.as_slice(), "accepted\n".as_bytes());
     }
     Ok(())
 }
@@ -239,9 +250,10 @@ fn a_drill_with_a_proof(rt: HostRuntime) -> Result<(), Fail> {
         .as_slice()
         .strip_prefix(b"drill 4 subsumed\n")
         .unwrap_or(b"");
-    let files = [FOUR[0].as_bytes(), FOUR[1].as_bytes(), proof];
     let words = ["check", "https://drill.example", "first", "second", "proof"];
-    let (status, answer) = written(rt.alloc(), &words, &files)?;
+    let first = FOUR[0].as_bytes();
+    let second = FOUR[1].as_bytes();
+    let (status, answer) = checked(rt.alloc(), &words, first, second, proof)?;
     assert_eq!(rt; status, Status::Clean);
     assert_eq!(rt; answer.as_slice(), "accepted\n".as_bytes());
     Ok(())
