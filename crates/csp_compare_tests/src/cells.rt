@@ -71,9 +71,9 @@ const PICKED: [(u8, &str, &str); 12] = [
         r#"{"destination":"image","integrity":"","kind":"fetch","nonce":"","parser-inserted":false,"redirects":0,"url":{"host":"b.a.example","path":"/","port":null,"scheme":"https"}}"#,
     ),
     (
-        39,
+        38,
         "-domain;",
-        r#"{"destination":"image","integrity":"","kind":"fetch","nonce":"","parser-inserted":false,"redirects":1,"url":{"host":"10.0.0.1","path":"/","port":null,"scheme":"https"}}"#,
+        r#"{"destination":"image","integrity":"","kind":"fetch","nonce":"","parser-inserted":false,"redirects":0,"url":{"host":"10.0.0.1","path":"/","port":null,"scheme":"https"}}"#,
     ),
     (
         38,
@@ -96,9 +96,9 @@ const PICKED: [(u8, &str, &str); 12] = [
         r#"{"destination":"script","integrity":"sha256-abc","kind":"fetch","nonce":"abc","parser-inserted":false,"redirects":0,"url":{"host":"a","path":"/","port":null,"scheme":"https"}}"#,
     ),
     (
-        110,
+        98,
         "outside;",
-        r#"{"destination":"script","integrity":"sha256-AAAA","kind":"fetch","nonce":"","parser-inserted":true,"redirects":0,"url":{"host":"a","path":"/","port":null,"scheme":"https"}}"#,
+        r#"{"destination":"script","integrity":"sha256-AAAA","kind":"fetch","nonce":"","parser-inserted":false,"redirects":0,"url":{"host":"a","path":"/","port":null,"scheme":"https"}}"#,
     ),
     (
         169,
@@ -111,7 +111,11 @@ const PICKED: [(u8, &str, &str); 12] = [
         r#"{"ancestors":[{"host":"a.example","path":"/","port":null,"scheme":"https"}],"kind":"ancestors"}"#,
     ),
     (168, "", r#"{"ancestors":["null"],"kind":"ancestors"}"#),
-    (176, "", r#"{"kind":"capability","name":"forms"}"#),
+    (
+        38,
+        "under a.example;-host x.a.example;",
+        r#"{"destination":"image","integrity":"","kind":"fetch","nonce":"","parser-inserted":false,"redirects":0,"url":{"host":"a.a.example","path":"/","port":null,"scheme":"https"}}"#,
+    ),
 ];
 
 // The check that stands for the cell of these literals, of which each is true of it.
