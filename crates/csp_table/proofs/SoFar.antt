@@ -1,17 +1,17 @@
 -- The formulas of the shapes whose numbers were passed stand in the table.
-use Rattle.std.proofs.Common.{◌≡◌, ◌≢◌, ◌∙◌, refl, sym, ap, subst, ℕ, ◌+◌, ◌<◌, zero, suc, Bool, true, false, nat_lt, List, [], ◌∷◌, ◌++◌, length, Option, Some, None, arith, length-append}
-use Rattle.std.specs.Prelude.{◌↔◌, IsTrue, MatchOption, slice_get, AllPairs, Contains}
+use Rattle.std.proofs.Common.{◌≡◌, ◌∙◌, refl, sym, ap, subst, ℕ, ◌+◌, ◌<◌, zero, suc, Bool, true, false, nat_lt, List, [], ◌∷◌, ◌++◌, length, Option, Some, None, arith, length-append}
+use Rattle.std.specs.Prelude.{IsTrue, MatchOption, slice_get}
 use Rattle.std.specs.Option.{option_and_then}
 use Rattle.std.proofs.lemmas.Bool.Decides.{nat_tests}
 use Rattle.csp_model.specs.declared.policy.PolicyList.{PolicyList}
 use Rattle.csp_model.specs.declared.source.Hash.{Hash}
-use Rattle.csp_atom.specs.declared.atom.Atom.{Atom}
 use Rattle.csp_shape.specs.Numbers.{number}
 use Rattle.csp_shape.specs.Shapes.{is_shape}
 use Rattle.csp_shape.specs.declared.shape.Shape.{Shape}
 use Rattle.csp_valuation.specs.declared.placing.PlacedFormulas.{PlacedFormulas}
-use Rattle.csp_table.specs.Kinds.{SaysSame, StandsAt, Extends}
-use Rattle.csp_table.specs.Tables.{AreAt, atoms_of}
+use Rattle.csp_table.specs.Kinds.{Extends}
+use Rattle.csp_table.specs.Sharing.{HasFormulas}
+use Rattle.csp_table.specs.Tables.{AreAt}
 
 -- Places in lists that grow
 
@@ -24,19 +24,6 @@ pub get_last : {X : Type 0} (xs : List X) (x : X) → slice_get (xs ++ x ∷ [])
 get_last [] x = refl
 get_last (y ∷ xs) x = get_last xs x
 
--- Formulas that say the same are of the same shape
-
-pub are_at : (hashes : List Hash) (first second : PolicyList) (kind : Shape) (kept formulas : PlacedFormulas)
-    → SaysSame kept formulas → AreAt hashes first second kind formulas → AreAt hashes first second kind kept
-are_at hashes first second kind kept formulas same at = record {
-  first = same.first ∙ at.first;
-  second = same.second ∙ at.second;
-  once = subst (λ (atoms : List Atom). AllPairs (λ (one other : Atom). one ≢ other) atoms) (sym same.atoms) at.once;
-  atoms = λ atom. subst
-      (λ (atoms : List Atom). Contains atoms atom ↔ Contains (atoms_of hashes kind first ++ atoms_of hashes kind second) atom)
-      (sym same.atoms) (at.atoms atom);
-}
-
 -- What stands at a place of places
 
 abbrev At : List PlacedFormulas → List ℕ → ℕ → (PlacedFormulas → Type 0) → Type 0
@@ -46,7 +33,7 @@ module _ (P : PlacedFormulas → Type 0) where
   abbrev Found : Option PlacedFormulas → Type 0
   Found o = MatchOption o ⊥ P
 
-  kept_kind : (kinds more : List PlacedFormulas) (p : ℕ) (o : Option PlacedFormulas) → slice_get kinds p ≡ o → Found o → Found (slice_get (kinds ++ more) p)
+  pub kept_kind : (kinds more : List PlacedFormulas) (p : ℕ) (o : Option PlacedFormulas) → slice_get kinds p ≡ o → Found o → Found (slice_get (kinds ++ more) p)
   kept_kind kinds more p None e h = absurd h
   kept_kind kinds more p (Some kind) e h = subst Found (sym (get_front kinds more p kind e)) h
 
@@ -67,18 +54,13 @@ module _ (hashes : List Hash) (first second : PolicyList) where
     pub count : length places ≡ n
     pub each : (kind : Shape) → IsTrue (is_shape kind) → number kind < n → At kinds places (number kind) (AreAt hashes first second kind)
 
-  stands : (kind : Shape) (formulas : PlacedFormulas) → AreAt hashes first second kind formulas
-      → (o : Option PlacedFormulas) → MatchOption o ⊥ (λ kept. SaysSame kept formulas) → MatchOption o ⊥ (AreAt hashes first second kind)
-  stands kind formulas at None h = absurd h
-  stands kind formulas at (Some kept) same = are_at hashes first second kind kept formulas same at
-
-  more_at : (kinds longer : List PlacedFormulas) (places : List ℕ) (place n : ℕ) (shape : Shape) (formulas : PlacedFormulas)
+  more_at : (kinds longer : List PlacedFormulas) (places : List ℕ) (place n : ℕ) (shape : Shape)
       → ((a b : Shape) → IsTrue (is_shape a) → IsTrue (is_shape b) → number a ≡ number b → a ≡ b)
-      → SoFar kinds places n → IsTrue (is_shape shape) → number shape ≡ n → AreAt hashes first second shape formulas
-      → Extends kinds longer → StandsAt longer place formulas
+      → SoFar kinds places n → IsTrue (is_shape shape) → number shape ≡ n
+      → Extends kinds longer → HasFormulas hashes first second shape longer place
       → (kind : Shape) → IsTrue (is_shape kind) → number kind < n + 1
       → At longer (places ++ place ∷ []) (number kind) (AreAt hashes first second kind)
-  more_at kinds longer places place n shape formulas one so_far is at_n at extends there kind listed below = by_test (nat_lt (number kind) n) refl
+  more_at kinds longer places place n shape one so_far is at_n extends here_at kind listed below = by_test (nat_lt (number kind) n) refl
     where
       by_test : (t : Bool) → nat_lt (number kind) n ≡ t → At longer (places ++ place ∷ []) (number kind) (AreAt hashes first second kind)
       by_test true e =
@@ -88,20 +70,20 @@ module _ (hashes : List Hash) (first second : PolicyList) where
       by_test false e =
           let level : number kind ≡ n = grind (arith, nat_tests) in
           let same : kind ≡ shape = one kind shape listed is (level ∙ sym at_n) in
-          let new = new_at (AreAt hashes first second shape) longer places place (stands shape formulas at (slice_get longer place) there) in
+          let new = new_at (AreAt hashes first second shape) longer places place here_at in
           let here : length places ≡ number shape = so_far.count ∙ sym at_n in
           subst (λ (s : Shape). At longer (places ++ place ∷ []) (number s) (AreAt hashes first second s)) (sym same)
           (subst (λ (k : ℕ). At longer (places ++ place ∷ []) k (AreAt hashes first second shape)) here new)
 
-  pub more : (kinds longer : List PlacedFormulas) (places others : List ℕ) (place n : ℕ) (shape : Shape) (formulas : PlacedFormulas)
+  pub more : (kinds longer : List PlacedFormulas) (places others : List ℕ) (place n : ℕ) (shape : Shape)
       → ((a b : Shape) → IsTrue (is_shape a) → IsTrue (is_shape b) → number a ≡ number b → a ≡ b)
-      → SoFar kinds places n → IsTrue (is_shape shape) → number shape ≡ n → AreAt hashes first second shape formulas
-      → Extends kinds longer → StandsAt longer place formulas → others ≡ places ++ place ∷ []
+      → SoFar kinds places n → IsTrue (is_shape shape) → number shape ≡ n
+      → Extends kinds longer → HasFormulas hashes first second shape longer place → others ≡ places ++ place ∷ []
       → SoFar longer others (n + 1)
-  more kinds longer places others place n shape formulas one so_far is at_n at extends there pushed = record {
+  more kinds longer places others place n shape one so_far is at_n extends here_at pushed = record {
     count = ap length pushed ∙ length-append places (place ∷ []) ∙ ap (λ (m : ℕ). m + 1) so_far.count;
     each = λ kind listed below. subst (λ (ps : List ℕ). At longer ps (number kind) (AreAt hashes first second kind)) (sym pushed)
-        (more_at kinds longer places place n shape formulas one so_far is at_n at extends there kind listed below);
+        (more_at kinds longer places place n shape one so_far is at_n extends here_at kind listed below);
   }
 
   pub none : SoFar [] [] 0

@@ -4,7 +4,9 @@
 mod formulas;
 mod kinds;
 pub mod laws;
+mod question;
 mod same;
+mod sharing;
 mod table;
 
 pub use table::FormulaTable;

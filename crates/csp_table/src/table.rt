@@ -4,8 +4,7 @@ ghost use Rattle.csp_shape.specs.Shapes.{is_shape};
 ghost use Rattle.csp_shape.specs.declared.shape.Shape.{Shape as ShapeValue};
 ghost use Rattle.csp_table.specs.Tables.{AreAt, formulas_at};
 
-use crate::formulas::formulas_of;
-use crate::kinds::keep;
+use crate::sharing::{Sharing, place_at};
 use csp_atom::Vocabulary;
 use csp_model::{List, Memory, PolicyList};
 use csp_shape::laws::each_number_is_one_shape;
@@ -24,7 +23,8 @@ pub struct FormulaTable {
 
 impl FormulaTable {
     /// The formulas of all policies of both lists, where the vocabulary has their hash-sources. Beside the
-    /// different formulas there is memory for those of one shape at a time.
+    /// different formulas there is memory for those of one shape at a time, and for a few words a policy and
+    /// shape. Where each policy is asked the same as at an earlier shape, none is compiled again.
     pub fn new(
         alloc: Global,
         first: &PolicyList,
@@ -36,15 +36,20 @@ impl FormulaTable {
             (AreAt vocabulary.now.hashes first.now second.now kind)) }
     {
         each_number_is_one_shape();
-        let mut kinds = List::new(alloc);
+        let mut sharing = Sharing {
+            kinds: List::new(alloc),
+            earlier: List::new(alloc),
+        };
         let mut places = List::new(alloc);
         let mut number = 0;
         while let Some(shape) = shape_at(number) {
-            let formulas = formulas_of(alloc, first, second, shape, vocabulary)?;
-            let place = keep(&mut kinds, formulas)?;
+            let place = place_at(alloc, first, second, shape, vocabulary, &mut sharing)?;
             places.push(place)?;
             number += 1;
         }
-        Ok(FormulaTable { kinds, places })
+        Ok(FormulaTable {
+            kinds: sharing.kinds,
+            places,
+        })
     }
 }
