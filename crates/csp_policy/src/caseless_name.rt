@@ -1,5 +1,6 @@
 //! Names of directives, whose letters may be of either case.
-ghost use Rattle.std.specs.Prelude.{Some, refl, nat_eq};
+ghost use Rattle.std.specs.Prelude.{◌≡◌, Some, refl, nat_eq};
+ghost use Rattle.csp_model.specs.Ascii.{lower};
 ghost use Rattle.std.specs.Cmp.{on_equiv, on_total, partial_equiv_from_equiv, on_po};
 ghost use Rattle.std.specs.Cmp.Lexicographic.{pointwise, slice_cmp, nat_list_eq_equiv, nat_list_cmp_total, texts_ties, texts_po};
 ghost use Rattle.std.specs.Ordering.{nat_cmp};
@@ -54,8 +55,26 @@ impl<'a> Ord for CaselessName<'a> {
     ghost matches_eq = { λ a b. texts_ties (folded a) (folded b) };
 
     fn cmp(&self, other: &CaselessName<'a>) -> Ordering {
-        let ours = self.bytes.iter().map(|b| b.to_ascii_lowercase());
-        let theirs = other.bytes.iter().map(|b| b.to_ascii_lowercase());
-        ours.cmp(theirs)
+        compare_folded(self.bytes, other.bytes)
     }
+}
+
+// The order of two names in lower case. Bytes that are alike are passed without a look at their case.
+fn compare_folded(ours: &[u8], theirs: &[u8]) -> Ordering
+    ensures { result ≡ slice_cmp nat_cmp (lower ours.now) (lower theirs.now) }
+{
+    let mut ours = ours;
+    let mut theirs = theirs;
+    'bytes: while let (Some((one, after)), Some((other, behind))) = (
+        ours.split_first(),
+        theirs.split_first(),
+    ) {
+        let order = one.to_ascii_lowercase().cmp(&other.to_ascii_lowercase());
+        if order.is_ne() {
+            return order;
+        }
+        ours = after;
+        theirs = behind;
+    }
+    ours.len().cmp(&theirs.len())
 }
