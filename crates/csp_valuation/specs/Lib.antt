@@ -4,4 +4,5 @@ pub mod Marks
 pub mod Paths
 pub mod Placed
 pub mod Reach
+pub mod Standings
 pub mod Valuations

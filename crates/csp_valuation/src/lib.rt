@@ -10,11 +10,12 @@ mod marks;
 mod placed;
 mod placing;
 mod reach;
+mod standing;
 mod taken;
 mod valuation;
-mod waiting;
 
 pub use placed::PlacedFormula;
 pub use placing::{PlacedFormulas, place_formulas};
+pub use standing::Standing;
 pub use taken::Taken;
 pub use valuation::Valuation;

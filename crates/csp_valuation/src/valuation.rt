@@ -3,13 +3,14 @@ ghost use Rattle.std.specs.Prelude.{◌≡◌, ◌<◌, ◌++◌, [], ◌∷◌,
 ghost use Rattle.csp_formula.specs.Surely.{surely};
 ghost use Rattle.csp_valuation.specs.Paths.{literal_of, literals_of};
 ghost use Rattle.csp_valuation.specs.Placed.{sentence_at};
+ghost use Rattle.csp_valuation.specs.Standings.{IsOpenAt, value_in};
 ghost use Rattle.csp_valuation.specs.Valuations.{value_at};
 
 use crate::marks::{Decision, clear_within, forget_all, mark_within};
-use crate::placed::{PlacedFormula, value_under};
+use crate::placed::PlacedFormula;
 use crate::reach::{ascends, reach_of};
+use crate::standing::{Standing, standing_under};
 use crate::taken::Taken;
-use crate::waiting::waits_on;
 use csp_atom::Atom;
 use csp_model::{List, Memory};
 use std::alloc::Global;
@@ -136,7 +137,20 @@ impl<'a> Valuation<'a> {
     pub fn value_of(&self, formula: &PlacedFormula) -> Option<bool>
         ensures { result ≡ surely self.now.literals (sentence_at self.now.atoms formula.now) }
     {
-        value_under(self, formula)
+        match standing_under(self, formula) {
+            Standing::Decided(known) => Some(known),
+            Standing::Open { .. } => None,
+        }
+    }
+
+    /// The value of the formula, where the path decides it. Else the place of a fact that the path doesn't decide,
+    /// nor any part of the formula that the fact stands in.
+    pub fn standing_of(&self, formula: &PlacedFormula) -> Standing
+        ensures value { value_in result
+            ≡ surely self.now.literals (sentence_at self.now.atoms formula.now) }
+        ensures open { IsOpenAt self.now result }
+    {
+        standing_under(self, formula)
     }
 
     /// The place of a fact of the formula that the path doesn't decide, nor any part of the formula that the fact
@@ -147,7 +161,10 @@ impl<'a> Valuation<'a> {
             (λ place. (surely self.now.literals (sentence_at self.now.atoms formula.now) ≡ None)
             × (value_at self.now place ≡ None)) }
     {
-        waits_on(self, formula)
+        match standing_under(self, formula) {
+            Standing::Decided(_) => None,
+            Standing::Open { place } => Some(place),
+        }
     }
 
     /// The first place whose atom the path doesn't decide.
