@@ -5,7 +5,6 @@ use Rattle.std.proofs.lemmas.List.Elements.{All-nil, All-head, All-tail, All-app
 use Rattle.csp_model.specs.Grammar.{IsSource, is_base64_value}
 use Rattle.csp_model.specs.Policies.{IsReadable, IsReadablePolicy}
 use Rattle.csp_model.specs.Reading.{source_of}
-use Rattle.csp_model.specs.declared.policy.Directive.{Directive}
 use Rattle.csp_model.specs.declared.policy.Policy.{Policy}
 use Rattle.csp_model.specs.declared.policy.PolicyList.{PolicyList}
 use Rattle.csp_model.specs.declared.source.Hash.{Hash}

@@ -1,5 +1,5 @@
 -- Lists: what holds of each item, and how many different items there can be.
-use Rattle.std.proofs.Common.{◌≡◌, ◌≢◌, ◌∙◌, ℕ, zero, suc, ◌<◌, ◌≤◌, Bool, true, sym, ap, subst, List, [], ◌∷◌, ◌++◌, length, length-append, get_or, arith, All, AllPairs, Contains, filter, ◌⊎◌, inl, inr, Option, Some, None, IfSome, slice_get}
+use Rattle.std.proofs.Common.{◌≡◌, ◌≢◌, ◌∙◌, ℕ, zero, suc, ◌≤◌, Bool, true, sym, ap, subst, List, [], ◌∷◌, ◌++◌, length, length-append, get_or, arith, All, AllPairs, Contains, filter, ◌⊎◌, inl, inr, Option, Some, None, IfSome, slice_get}
 use Rattle.std.specs.List.{flat_map, cons_option}
 use Rattle.std.proofs.lemmas.Option.{slice_get_within, get_or_from_slice_get}
 use Rattle.std.proofs.lemmas.Bool.{cases_Bool, cond-true, cond-false}

@@ -1,6 +1,8 @@
 -- A policy's formula says what the policy's sentence says.
-use Rattle.std.proofs.Common.{◌≡◌, ℕ, zero, suc, Bool, true, false, not, ◌&&◌, refl, ap, sym, subst, List, [], ◌∷◌, map, Option, Some, None, IsSome, MatchOption, slice_get}
-use Rattle.std.specs.Prelude.{if◌then◌else◌, is_some}
+use Rattle.std.proofs.Common.{◌≡◌, ℕ, ◌+◌, ◌<◌, zero, suc, Bool, true, false, not, ◌&&◌, refl, ap, sym, subst, List, [], ◌∷◌, map, Option, Some, None, IsSome, MatchOption, slice_get}
+use Rattle.std.specs.Prelude.{if◌then◌else◌, ⊤}
+use Rattle.std.specs.Option.{option_or}
+use borrow.Author.Count.{below_more}
 use Rattle.csp_model.specs.Verdict.{is_enforce}
 use Rattle.csp_model.specs.declared.policy.Policy.{Policy}
 use Rattle.csp_model.specs.declared.source.Hash.{Hash}
@@ -56,13 +58,20 @@ module _ (hashes : List Hash) (kind : Shape) (literals : List Literal) (atoms : 
 
 -- What is found
 
-pub some_stays : {A : Type 0} (P R : Type 0) (Q : A → Type 0) (o : Option A) → IsSome o → MatchOption o P Q → MatchOption o R Q
-some_stays P R Q None some h = cc
-some_stays P R Q (Some x) some h = h
+pub match_weaker : {A : Type 0} (P Q : Type 0) (o : Option A) → (P → Q) → MatchOption o ⊤ (λ _. P) → MatchOption o ⊤ (λ _. Q)
+match_weaker P Q None turn h = tt
+match_weaker P Q (Some x) turn h = turn h
 
-pub none_left : {A : Type 0} (P : Type 0) (Q : A → Type 0) (o : Option A) → is_some o ≡ false → MatchOption o P Q → P
-none_left P Q None none h = h
-none_left P Q (Some x) none h = cc
+-- what is so of each policy so far is so of one more, where nothing is to split by
+pub decided_more : (P : Type 0) (Q : ℕ → Type 0) (n : ℕ) (R : ℕ → Type 0) (o : Option ℕ) → MatchOption o (P × ((k : ℕ) → k < n → Q k)) R → Q n
+    → MatchOption o (P × ((k : ℕ) → k < n + 1 → Q k)) R
+decided_more P Q n R None h here = (h.0, below_more Q n h.1 here)
+decided_more P Q n R (Some x) h here = h
+
+-- and nothing is asked where something is
+pub open_more : (P later : Type 0) (R : ℕ → Type 0) (o : Option ℕ) (place : ℕ) → MatchOption o P R → R place → MatchOption (option_or o (Some place)) later R
+open_more P later R None place h here = here
+open_more P later R (Some x) place h here = h
 
 -- The formulas of a question say what its policies say
 

@@ -9,12 +9,15 @@ use Rattle.csp_shape.specs.declared.shape.Shape.{Shape}
 use Rattle.csp_formula.specs.Compiled.{policy_sentence}
 use Rattle.csp_formula.specs.Surely.{surely}
 use Rattle.csp_valuation.specs.Placed.{sentence_at}
+use Rattle.csp_valuation.specs.Valuations.{Assignment, value_at}
 use Rattle.csp_valuation.specs.declared.placed.PlacedFormula.{PlacedFormula}
 use Rattle.csp_proof.specs.Accepts.{Lists, blocks, hashes_in, is_met, is_surely}
 use Rattle.csp_proof.specs.Pairs.{Pair}
 use Rattle.csp_proof.specs.WellFormed.{IsValidNode}
 use Rattle.csp_proof.specs.declared.proof.Node.{Node}
 use Rattle.csp_proof.specs.declared.proof.Node.TheVariants as node
+use Rattle.csp_search.specs.declared.leaf.Step.{Step}
+use Rattle.csp_search.specs.declared.leaf.Step.TheVariants as step
 
 -- Formulas of policies
 
@@ -84,3 +87,12 @@ pub record IsOpen (lists : Lists) (pair : Pair) (literals : List Literal) : Type
       → IsSurely true (hashes_in lists) pair.shape literals (slice_get lists.first.policies policy)
   pub second :
       IsSurely false (hashes_in lists) pair.shape literals (slice_get lists.second.policies pair.policy)
+
+-- How a search goes on from a branch
+
+-- a leaf that may stand there, a place that isn't decided, or none of both
+abbrev pub IsStep : Lists → Pair → Assignment → Step → Type 0
+IsStep lists pair valuation (step.Close leaf) = IsLeaf lists pair valuation.literals leaf
+IsStep lists pair valuation (step.Split place) = value_at valuation place ≡ None
+IsStep lists pair valuation step.Leave =
+    HasNoLeaf lists pair valuation.literals × LeavesNothing lists pair valuation.literals

@@ -1,14 +1,15 @@
 //! The leaves of a tree of cases, and what a branch waits on that none ends.
-ghost use Rattle.std.specs.Prelude.{◌≡◌, MatchOption, None, option_copied};
+ghost use Rattle.std.specs.Prelude.{◌≡◌, MatchOption, false, option_copied, slice_get, true, ⊤};
 ghost use Rattle.csp_proof.specs.Accepts as rules;
+ghost use Rattle.csp_proof.specs.Accepts.{hashes_in, is_surely};
 ghost use Rattle.csp_search.specs.Leaves as spec;
 ghost use Rattle.csp_search.specs.Questions.{IsPosed, lists_of, pair_of};
-ghost use Rattle.csp_valuation.specs.Valuations.{value_at};
+ghost use Rattle.csp_valuation.specs.Standings.{IsOpenAt, value_in};
 
 use crate::searching::Question;
 use csp_model::{Disposition, Policy};
 use csp_proof::Node;
-use csp_valuation::{PlacedFormula, Valuation};
+use csp_valuation::{PlacedFormula, Standing, Valuation};
 
 // The formula of the policy at a place, where there is one and it is enforced.
 fn enforced_formula<'f>(
@@ -50,89 +51,87 @@ fn second_formula<'f>(question: Question<'f>) -> Option<&'f PlacedFormula>
     )
 }
 
-fn is_surely(expected: bool, formula: Option<&PlacedFormula>, valuation: &Valuation) -> bool
-    ensures { result ≡ spec.is_surely_at
-        valuation.now.literals valuation.now.atoms expected (option_copied formula.entry) }
+// Where a formula stands. Where there is none, as of a policy that isn't enforced, it has the other value than the
+// one that would end a branch.
+fn standing_of(formula: Option<&PlacedFormula>, ending: bool, valuation: &Valuation) -> Standing
+    ensures value { is_surely ending (value_in result) ≡ spec.is_surely_at
+        valuation.now.literals valuation.now.atoms ending (option_copied formula.entry) }
+    ensures waits { MatchOption (value_in result) ⊤
+        (λ _. spec.IsDecidedAt valuation.now.literals valuation.now.atoms (option_copied formula.entry)) }
+    ensures open { IsOpenAt valuation.now result }
 {
     match formula {
-        Some(formula) => match valuation.value_of(formula) {
-            Some(known) => known == expected,
-            None => false,
-        },
-        None => false,
+        Some(formula) => valuation.standing_of(formula),
+        None => Standing::Decided(!ending),
     }
 }
 
-// Whether a policy of the first list surely allows no check of the branch.
-fn blocks(question: Question, valuation: &Valuation, policy: usize) -> bool
+// Where a policy of the first list stands. It blocks the branch where it surely allows no check of it.
+fn first_standing(question: Question, valuation: &Valuation, policy: usize) -> Standing
     requires posed { IsPosed question }
     requires atoms { valuation.now.atoms ≡ question.formulas.now.atoms }
-    ensures { result ≡ rules.blocks
+    ensures blocked { is_surely false (value_in result) ≡ rules.blocks
         (lists_of question.entry) (pair_of question.entry) valuation.now.literals policy }
+    ensures waits { MatchOption (value_in result) ⊤ (λ _. spec.IsDecided
+        (hashes_in (lists_of question.entry)) question.entry.shape valuation.now.literals
+        (slice_get question.entry.first.now.policies policy)) }
+    ensures open { IsOpenAt valuation.now result }
 {
-    is_surely(false, first_formula(question, policy), valuation)
+    standing_of(first_formula(question, policy), false, valuation)
 }
 
-// Whether the policy of the second list surely allows each.
-fn is_met(question: Question, valuation: &Valuation) -> bool
+// Where the policy of the second list stands. The branch is met where it surely allows each check of it.
+fn second_standing(question: Question, valuation: &Valuation) -> Standing
     requires posed { IsPosed question }
     requires atoms { valuation.now.atoms ≡ question.formulas.now.atoms }
-    ensures { result ≡ rules.is_met
+    ensures meets { is_surely true (value_in result) ≡ rules.is_met
         (lists_of question.entry) (pair_of question.entry) valuation.now.literals }
+    ensures waits { MatchOption (value_in result) ⊤ (λ _. spec.IsDecided
+        (hashes_in (lists_of question.entry)) question.entry.shape valuation.now.literals
+        (slice_get question.entry.second.now.policies question.entry.policy)) }
+    ensures open { IsOpenAt valuation.now result }
 {
-    is_surely(true, second_formula(question), valuation)
+    standing_of(second_formula(question), true, valuation)
 }
 
-// A leaf that ends the branch, where one may.
-pub(crate) fn leaf(question: Question, valuation: &Valuation) -> Option<Node>
+// How a search goes on from a branch.
+pub(crate) enum Step {
+    // A leaf ends the branch.
+    Close { leaf: Node },
+    // The policy of the second list waits on the atom at this place, or else the first one of the first list that
+    // isn't decided.
+    Split { place: usize },
+    // No leaf may end the branch, and no policy waits on an atom.
+    Leave,
+}
+
+// What a branch calls for. Each policy's formula is evaluated once.
+pub(crate) fn next_step(question: Question, valuation: &Valuation) -> Step
     requires posed { IsPosed question }
     requires atoms { valuation.now.atoms ≡ question.formulas.now.atoms }
-    ensures { MatchOption result
-        (spec.HasNoLeaf (lists_of question.entry) (pair_of question.entry) valuation.now.literals)
-        (spec.IsLeaf (lists_of question.entry) (pair_of question.entry) valuation.now.literals) }
+    ensures { spec.IsStep
+        (lists_of question.entry) (pair_of question.entry) valuation.now result }
 {
-    if is_met(question, valuation) {
-        return Some(Node::Met);
+    let mut wanted = None;
+    match second_standing(question, valuation) {
+        Standing::Decided(true) => return Step::Close { leaf: Node::Met },
+        Standing::Decided(false) => {}
+        Standing::Open { place } => wanted = Some(place),
     }
-    for place in 0..question.first.policies.len() {
-        if blocks(question, valuation, place) {
-            return Some(Node::Blocked {
-                policy: place as u32,
-            });
+    for policy in 0..question.first.policies.len() {
+        match first_standing(question, valuation, policy) {
+            Standing::Decided(false) => {
+                let policy = policy as u32;
+                return Step::Close {
+                    leaf: Node::Blocked { policy },
+                };
+            }
+            Standing::Decided(true) => {}
+            Standing::Open { place } => wanted = wanted.or(Some(place)),
         }
     }
-    None
-}
-
-fn undecided_in(formula: Option<&PlacedFormula>, valuation: &Valuation) -> Option<usize>
-    ensures { MatchOption result
-        (spec.IsDecidedAt valuation.now.literals valuation.now.atoms (option_copied formula.entry))
-        (λ place. value_at valuation.now place ≡ None) }
-{
-    match formula {
-        Some(formula) => valuation.undecided_in(formula),
-        None => None,
+    match wanted {
+        Some(place) => Step::Split { place },
+        None => Step::Leave,
     }
-}
-
-// The place of an atom that a policy waits on: that of the second list, or else the first one of the first
-// list that isn't decided.
-pub(crate) fn undecided(question: Question, valuation: &Valuation) -> Option<usize>
-    requires posed { IsPosed question }
-    requires atoms { valuation.now.atoms ≡ question.formulas.now.atoms }
-    ensures { MatchOption result
-        (spec.LeavesNothing (lists_of question.entry) (pair_of question.entry) valuation.now.literals)
-        (λ place. value_at valuation.now place ≡ None) }
-{
-    let wanted = undecided_in(second_formula(question), valuation);
-    if wanted.is_some() {
-        return wanted;
-    }
-    for place in 0..question.first.policies.len() {
-        let found = undecided_in(first_formula(question, place), valuation);
-        if found.is_some() {
-            return found;
-        }
-    }
-    None
 }

@@ -7,7 +7,7 @@ ghost use Rattle.csp_search.specs.Branches.{IsBranch, pending};
 ghost use Rattle.csp_search.specs.Leaves.{IsOpen};
 ghost use Rattle.csp_search.specs.Questions.{IsPosed, lists_of, pair_of};
 
-use crate::leaf::{leaf, undecided};
+use crate::leaf::{Step, next_step};
 use crate::searching::Question;
 use csp_model::{Duplicate, List, Memory};
 use csp_proof::Node;
@@ -38,17 +38,15 @@ pub(crate) fn find_tree<'a>(
     let mut nodes = List::new(alloc);
     valuation.clear();
     'steps: loop {
-        match leaf(question, valuation) {
-            Some(node) => {
-                nodes.push(node)?;
+        match next_step(question, valuation) {
+            Step::Close { leaf } => {
+                nodes.push(leaf)?;
                 if !next_branch(valuation) {
                     return Ok(Some(nodes));
                 }
             }
-            None => {
-                let Some(place) = undecided(question, valuation) else {
-                    return Ok(None);
-                };
+            Step::Leave => return Ok(None),
+            Step::Split { place } => {
                 let atom = &atoms[place];
                 nodes.push(Node::Split {
                     atom: atom.copy(alloc)?,

@@ -24,7 +24,7 @@ returns-then-not-next_branch-clause-tree c =
     let q = c.args.question in
     let atoms = q.formulas.now.atoms in
     let ls = c.steps.valuation.literals in
-    let kept = keeps_leaf (lists_of q) (pair_of q) atoms c.steps.nodes c.push.new.self ls (pending [] ls) c.in-Some.node c.steps.invariant.keeps c.in-Some.ensures c.in_ok-push-in-Some.ensures.ok in
+    let kept = keeps_leaf (lists_of q) (pair_of q) atoms c.steps.nodes c.push.new.self ls (pending [] ls) c.in-Close.leaf c.steps.invariant.keeps c.in-Close.ensures c.in_ok-push-in-Close.ensures.ok in
     let last = subst (λ (bs : List (List Literal)). Keeps (lists_of q) (pair_of q) atoms c.push.new.self bs) c.if-not-next_branch.ensures.branch kept in
     ends (lists_of q) (pair_of q) atoms c.push.new.self last
 
@@ -39,28 +39,28 @@ steps-preserved-else-not-next_branch c =
     let q = c.args.question in
     let atoms = q.formulas.now.atoms in
     let ls = c.steps.valuation.literals in
-    let kept = keeps_leaf (lists_of q) (pair_of q) atoms c.steps.nodes c.push.new.self ls (pending [] ls) c.in-Some.node c.steps.invariant.keeps c.in-Some.ensures c.in_ok-push-in-Some.ensures.ok in
+    let kept = keeps_leaf (lists_of q) (pair_of q) atoms c.steps.nodes c.push.new.self ls (pending [] ls) c.in-Close.leaf c.steps.invariant.keeps c.in-Close.ensures c.in_ok-push-in-Close.ensures.ok in
     record {
       atoms = c.if-not-next_branch.ensures.atoms ∙ c.steps.invariant.atoms;
       room = c.if-not-next_branch.ensures.room ∙ c.steps.invariant.room;
       keeps = subst (λ (bs : List (List Literal)). Keeps (lists_of q) (pair_of q) atoms c.push.new.self bs) (sym c.if-not-next_branch.ensures.branch) kept;
     }
 
-pub returns-in_default-clause-open : goal.returns-in_default-clause-open
-returns-in_default-clause-open c =
+pub returns-in-Leave-clause-open : goal.returns-in-Leave-clause-open
+returns-in-Leave-clause-open c =
     let q = c.args.question in
-    leaves_open (lists_of q) (pair_of q) c.steps.valuation.literals c.in-None.ensures c.in_default.ensures
+    leaves_open (lists_of q) (pair_of q) c.steps.valuation.literals c.in-Leave.ensures.0 c.in-Leave.ensures.1
 
 pub bounds-atoms-place : goal.bounds-atoms-place
 bounds-atoms-place c =
     let atoms = c.args.question.formulas.now.atoms in
-    rw c.as_slice-atoms.ensures (open_within c.steps.valuation.literals c.steps.valuation.atoms atoms c.in-Some-undecided.place c.steps.invariant.atoms c.in-Some-undecided.ensures)
+    rw c.as_slice-atoms.ensures (open_within c.steps.valuation.literals c.steps.valuation.atoms atoms c.in-Split.place c.steps.invariant.atoms c.in-Split.ensures)
 
 pub offset_bounds-atoms-place : goal.offset_bounds-atoms-place
 offset_bounds-atoms-place c =
     let atoms = c.args.question.formulas.now.atoms in
-    let within : c.in-Some-undecided.place < length c.as_slice-atoms.result.now =
-    rw c.as_slice-atoms.ensures (open_within c.steps.valuation.literals c.steps.valuation.atoms atoms c.in-Some-undecided.place c.steps.invariant.atoms c.in-Some-undecided.ensures) in
+    let within : c.in-Split.place < length c.as_slice-atoms.result.now =
+    rw c.as_slice-atoms.ensures (open_within c.steps.valuation.literals c.steps.valuation.atoms atoms c.in-Split.place c.steps.invariant.atoms c.in-Split.ensures) in
     omega arith
 
 pub take-requires : goal.take-requires
@@ -69,10 +69,10 @@ take-requires c =
     let ls = c.steps.valuation.literals in
     let atoms = q.formulas.now.atoms in
     let a = c.index-atoms-place.result in
-    let is : a ≡ get_or atoms c.in-Some-undecided.place a = rw c.as_slice-atoms.ensures at c.index-atoms-place.is in
-    let there = open_here ls c.steps.valuation.atoms atoms c.in-Some-undecided.place a c.steps.invariant.atoms c.in-Some-undecided.ensures is in
+    let is : a ≡ get_or atoms c.in-Split.place a = rw c.as_slice-atoms.ensures at c.index-atoms-place.is in
+    let there = open_here ls c.steps.valuation.atoms atoms c.in-Split.place a c.steps.invariant.atoms c.in-Split.ensures is in
     let enough = rw c.requires.atoms at c.requires.room in
-    omega (arith, open_fewer ls atoms c.in-Some-undecided.place a true there.0 there.1, c.steps.invariant.keeps.each.0.room, c.steps.invariant.room, enough)
+    omega (arith, open_fewer ls atoms c.in-Split.place a true there.0 there.1, c.steps.invariant.keeps.each.0.room, c.steps.invariant.room, enough)
 
 pub steps-smaller : goal.steps-smaller
 steps-smaller c =
@@ -80,9 +80,9 @@ steps-smaller c =
     let ls = c.steps.valuation.literals in
     let atoms = q.formulas.now.atoms in
     let a = c.index-atoms-place.result in
-    let is : a ≡ get_or atoms c.in-Some-undecided.place a = rw c.as_slice-atoms.ensures at c.index-atoms-place.is in
-    let there = open_here ls c.steps.valuation.atoms atoms c.in-Some-undecided.place a c.steps.invariant.atoms c.in-Some-undecided.ensures is in
-    rw (c.take.ensures, taken_true ls a) (less_split atoms ls (pending [] ls) c.in-Some-undecided.place a there.0 there.1)
+    let is : a ≡ get_or atoms c.in-Split.place a = rw c.as_slice-atoms.ensures at c.index-atoms-place.is in
+    let there = open_here ls c.steps.valuation.atoms atoms c.in-Split.place a c.steps.invariant.atoms c.in-Split.ensures is in
+    rw (c.take.ensures, taken_true ls a) (less_split atoms ls (pending [] ls) c.in-Split.place a there.0 there.1)
 
 pub steps-preserved : goal.steps-preserved
 steps-preserved c =
@@ -90,13 +90,13 @@ steps-preserved c =
     let ls = c.steps.valuation.literals in
     let atoms = q.formulas.now.atoms in
     let a = c.index-atoms-place.result in
-    let is : a ≡ get_or atoms c.in-Some-undecided.place a = rw c.as_slice-atoms.ensures at c.index-atoms-place.is in
-    let there = open_here ls c.steps.valuation.atoms atoms c.in-Some-undecided.place a c.steps.invariant.atoms c.in-Some-undecided.ensures is in
-    let valid = all_at IsValidAtom atoms c.in-Some-undecided.place a c.requires.valid there.0 in
-    let pushed = rw c.in_ok-copy-in-None.ensures at c.in_ok-push-in-None.ensures.ok in
+    let is : a ≡ get_or atoms c.in-Split.place a = rw c.as_slice-atoms.ensures at c.index-atoms-place.is in
+    let there = open_here ls c.steps.valuation.atoms atoms c.in-Split.place a c.steps.invariant.atoms c.in-Split.ensures is in
+    let valid = all_at IsValidAtom atoms c.in-Split.place a c.requires.valid there.0 in
+    let pushed = rw c.in_ok-copy-in-Split.ensures at c.in_ok-push-in-Split.ensures.ok in
     record {
       atoms = rw c.take.ensures c.steps.invariant.atoms;
       room = rw c.take.ensures c.steps.invariant.room;
       keeps = rw (c.take.ensures, taken_true ls a)
-          (keeps_split (lists_of q) (pair_of q) atoms c.steps.nodes c.push-in-None.new.self ls (pending [] ls) c.in-Some-undecided.place a c.steps.invariant.keeps there.0 there.1 valid pushed);
+          (keeps_split (lists_of q) (pair_of q) atoms c.steps.nodes c.push-in-Split.new.self ls (pending [] ls) c.in-Split.place a c.steps.invariant.keeps there.0 there.1 valid pushed);
     }
