@@ -1,3 +1,4 @@
+pub mod Alone
 pub mod Covering
 pub mod Inserting
 pub mod LookupIs

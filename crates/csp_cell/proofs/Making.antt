@@ -1,7 +1,6 @@
 -- What a literal adds to the parts of a cell makes a cell again.
-use Rattle.std.proofs.Common.{◌≡◌, not, List, [], ◌∷◌, ◌++◌, None, All}
+use Rattle.std.proofs.Common.{◌≡◌, not, List, ◌++◌, None, All}
 use Rattle.std.proofs.lemmas.List.Elements.{All-filter}
-use Rattle.csp_atom.specs.declared.atom.Atom.{Atom}
 use Rattle.csp_atom.specs.declared.atom.Literal.{Literal}
 use Rattle.csp_shape.specs.declared.shape.Shape.{Shape}
 use Rattle.csp_cell.specs.Cells.{implies, needed_beside, Takes, IsCell, IsOf}
@@ -10,7 +9,7 @@ use Rattle.csp_cell.specs.Inside.{IsPlacing, IsOther, Adds}
 use Rattle.csp_cell.specs.Lookup.{Rises}
 use Rattle.csp_cell.proofs.Inserting.{needed_rises}
 use Rattle.csp_cell.proofs.Parts.{takes_added}
-use Rattle.csp_cell.proofs.Splitting.{new_cell, decides_with}
+use Rattle.csp_cell.proofs.Splitting.{new_cell}
 
 module _ (kind : Shape) (p o kept_p kept_o new_p new_o : List Literal) (l : Literal)
     (first : kept_p ≡ needed_beside l p) (second : kept_o ≡ needed_beside l o) (adds : Adds kept_p kept_o l new_p new_o)
@@ -26,9 +25,6 @@ module _ (kind : Shape) (p o kept_p kept_o new_p new_o : List Literal) (l : Lite
 
   pub made_others : All IsOther o → All IsOther new_o
   made_others all = adds.second (rw second (All-filter (λ other. not (implies l other)) IsOther o all))
-
-  pub made_decides : (a : Atom) → decided (new_p ++ new_o) a ≡ decided ((p ++ o) ++ l ∷ []) a
-  made_decides a = decides_with (record { shape = kind; literals = p ++ o }) (new_p ++ new_o) l a takes undecided cell
 
   pub made_rises : Rises o → Rises new_o
   made_rises up = adds.rises (rw second (needed_rises l o up))

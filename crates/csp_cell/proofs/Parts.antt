@@ -7,7 +7,7 @@ use Rattle.csp_atom.specs.declared.atom.Atom.{Atom}
 use Rattle.csp_atom.specs.declared.atom.Literal.{Literal}
 use Rattle.csp_cell.specs.Cells.{implies, needed_beside, Takes, places}
 use Rattle.csp_cell.specs.Inside.{IsPlacing, IsOther, Adds}
-use Rattle.csp_cell.proofs.Taking.{all_none}
+use Rattle.csp_cell.proofs.Taking.{all_none, both_none}
 
 pub decided_append : (xs ys : List Literal) (a : Atom) → decided (xs ++ ys) a ≡ or_else (decided xs a) (decided ys a)
 decided_append [] ys a = refl
@@ -16,6 +16,9 @@ decided_append (x ∷ xs) ys a = ap (or_else (follows x a)) (decided_append xs y
     by_answer : (answer : Option Bool) → or_else answer (or_else (decided xs a) (decided ys a)) ≡ or_else (or_else answer (decided xs a)) (decided ys a)
     by_answer None = refl
     by_answer (Some v) = refl
+
+pub both_open : (p o : List Literal) (a : Atom) → decided (p ++ o) a ≡ None → (decided p a ≡ None) × (decided o a ≡ None)
+both_open p o a e = both_none (decided p a) (decided o a) (sym (decided_append p o a) ∙ e)
 
 some_says : (ls : List Literal) (a : Atom) (v : Bool) → decided ls a ≡ Some v → Any (λ m. follows m a ≡ Some v) ls
 some_says [] a v e = cc
@@ -47,7 +50,7 @@ takes_added l p o new_p new_o adds =
 
 -- Each part is what its test leaves
 
-all_pass : (p : Literal → Bool) (ls : List Literal) → All (λ m. p m ≡ true) ls → filter p ls ≡ ls
+pub all_pass : (p : Literal → Bool) (ls : List Literal) → All (λ m. p m ≡ true) ls → filter p ls ≡ ls
 all_pass p [] all = refl
 all_pass p (l ∷ ls) all = rw (All-head (λ m. p m ≡ true) l ls all) (ap (λ rest. l ∷ rest) (all_pass p ls (All-tail (λ m. p m ≡ true) l ls all)))
 

@@ -76,7 +76,7 @@ all_both P old l all =
 
 -- Answers
 
-both_none : (x y : Option Bool) → or_else x y ≡ None → (x ≡ None) × (y ≡ None)
+pub both_none : (x y : Option Bool) → or_else x y ≡ None → (x ≡ None) × (y ≡ None)
 both_none (Some v) y e = cc
 both_none None y e = (refl, e)
 

@@ -1,10 +1,10 @@
 -- Cells: what the literals of one decide, which checks meet it, and which lists of literals are one.
-use Rattle.std.specs.Prelude.{◌≡◌, Bool, true, false, not, ◌&&◌, List, [], ◌∷◌, ◌++◌, Option, Some, None, All, AllPairs, IsTrue, filter}
+use Rattle.std.specs.Prelude.{◌≡◌, Bool, true, false, not, ◌&&◌, List, ◌∷◌, ◌++◌, Option, Some, None, All, AllPairs, IsTrue, filter}
 use Rattle.csp_atom.specs.Atoms.{BelongsTo, IsValidAtom}
 use Rattle.csp_atom.specs.Follows.{follows, Refutes}
 use Rattle.csp_atom.specs.Holding.{is_true_of}
 use Rattle.csp_atom.specs.declared.atom.Atom.{Atom}
-use Rattle.csp_atom.specs.declared.atom.Atom.TheVariants.{IntegrityHas, IntegrityOutside}
+use Rattle.csp_atom.specs.declared.atom.Atom.TheVariants.{HostUnder, HostDomain, PathUnder, IntegrityHas, IntegrityOutside}
 use Rattle.csp_atom.specs.declared.atom.Literal.{Literal}
 use Rattle.csp_model.specs.declared.check.Check.{Check}
 use Rattle.csp_model.specs.declared.source.Hash.{Hash}
@@ -58,6 +58,15 @@ implies literal other = is_answer other.positive (follows literal other.atom)
 -- the literals that this one doesn't make needless
 abbrev pub needed_beside : Literal → List Literal → List Literal
 needed_beside literal literals = filter (λ other. not (implies literal other)) literals
+
+-- a literal of this atom and sign decides no atom but its own
+abbrev pub decides_alone : Atom → Bool → Bool
+decides_alone (HostUnder suffix) positive = false
+decides_alone HostDomain positive = false
+decides_alone (PathUnder front) positive = false
+decides_alone (IntegrityHas hash) positive = true
+decides_alone IntegrityOutside positive = true
+decides_alone atom positive = not positive
 
 -- the new list has this literal, and of the old ones those that are needed beside it
 abbrev pub Takes : List Literal → Literal → List Literal → Type 0

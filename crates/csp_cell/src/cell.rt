@@ -1,4 +1,4 @@
-//! A cell, and the two that an atom splits it into.
+//! A cell, what an atom narrows it to, and the two that the atom splits it into.
 ghost use Rattle.std.specs.Prelude.{◌≡◌, ◌↔◌, [], ◌∷◌, ◌++◌, All, Any, AllPairs, IfOk, OnOk, MatchOption, List as Items, None, Some, true, false, not, filter};
 ghost use Rattle.csp_atom.specs.Atoms.{BelongsTo, Holds, IsValidAtom};
 ghost use Rattle.csp_atom.specs.Follows.{follows, decided};
@@ -10,7 +10,7 @@ ghost use Rattle.csp_model.specs.declared.check.Check.{Check as CheckValue};
 ghost use Rattle.csp_model.specs.declared.source.Hash.{Hash as HashValue};
 ghost use Rattle.csp_shape.specs.Shapes.{looks_at};
 
-use crate::implies::{first_decided, needed_beside};
+use crate::implies::{first_decided, keep_needed};
 use crate::lookup::{look_up, place_for};
 use csp_atom::{Atom, Literal};
 use csp_model::{Duplicate, Memory};
@@ -90,6 +90,35 @@ impl Cell {
         }
     }
 
+    /// The cell of its checks that have the fact, or, where `positive` is false, of those that don't. It keeps
+    /// those of the old literals, as they stand, that the new one doesn't make needless. Only the atom is
+    /// copied.
+    pub fn narrow(mut self, atom: &Atom, positive: bool) -> Result<Cell, Memory>
+        requires undecided { decided self.literals atom.now ≡ None }
+        requires valid { IsValidAtom atom.now }
+        requires belongs { BelongsTo (looks_at self.shape) atom.now }
+        ensures shape { IfOk result (λ cell. cell.shape ≡ self.shape) }
+        ensures takes { IfOk result (λ cell.
+            Takes self.literals (record { atom = atom.now; positive = positive }) cell.literals) }
+        ensures decides { IfOk result (λ cell. (asked : AtomValue) → decided cell.literals asked
+            ≡ decided (self.literals ++ record { atom = atom.now; positive = positive } ∷ []) asked) }
+        ensures meets_positive { IfOk result (λ cell. (hashes : Items HashValue) (asked : CheckValue)
+            → positive ≡ true → (Meets hashes asked cell.literals
+            ↔ (Meets hashes asked self.literals × Holds hashes asked atom.now))) }
+        ensures meets_negative { IfOk result (λ cell. (hashes : Items HashValue) (asked : CheckValue)
+            → positive ≡ false → (Meets hashes asked cell.literals
+            ↔ (Meets hashes asked self.literals × ¬ Holds hashes asked atom.now))) }
+    {
+        let literal = Literal {
+            atom: atom.copy(self.alloc)?,
+            positive,
+        };
+        keep_needed(&mut self.placing, &literal);
+        keep_needed(&mut self.others, &literal);
+        add(&mut self.placing, &mut self.others, literal)?;
+        Ok(self)
+    }
+
     /// The cell of its checks that have the fact, and that of those that don't. Of the old literals each new
     /// cell has those that its own new one doesn't make needless.
     pub fn split(&self, atom: &Atom) -> Result<(Cell, Cell), Memory>
@@ -113,36 +142,33 @@ impl Cell {
             → (Meets hashes asked cells.1.literals
             ↔ (Meets hashes asked self.now.literals × ¬ Holds hashes asked atom.now))) }
     {
-        let first = self.with(atom, true)?;
-        let second = self.with(atom, false)?;
+        let first = self.copy()?.narrow(atom, true)?;
+        let second = self.copy()?.narrow(atom, false)?;
         Ok((first, second))
     }
 
-    // The cell with one more literal.
-    fn with(&self, atom: &Atom, positive: bool) -> Result<Cell, Memory>
-        requires undecided { decided self.now.literals atom.now ≡ None }
-        requires valid { IsValidAtom atom.now }
-        requires belongs { BelongsTo (looks_at self.now.shape) atom.now }
-        ensures shape { IfOk result (λ cell. cell.shape ≡ self.now.shape) }
-        ensures takes { IfOk result (λ cell.
-            Takes self.now.literals (record { atom = atom.now; positive = positive }) cell.literals) }
-        ensures decides { IfOk result (λ cell. (asked : AtomValue) → decided cell.literals asked
-            ≡ decided (self.now.literals ++ record { atom = atom.now; positive = positive } ∷ []) asked) }
+    // A cell of the same literals.
+    fn copy(&self) -> Result<Cell, Memory>
+        ensures { IfOk result (λ cell. cell ≡ self.now) }
     {
-        let literal = Literal {
-            atom: atom.copy(self.alloc)?,
-            positive,
-        };
-        let mut placing = needed_beside(self.alloc, &literal, &self.placing)?;
-        let mut others = needed_beside(self.alloc, &literal, &self.others)?;
-        add(&mut placing, &mut others, literal)?;
         Ok(Cell {
             alloc: self.alloc,
             shape: self.shape,
-            placing,
-            others,
+            placing: copies(self.alloc, &self.placing)?,
+            others: copies(self.alloc, &self.others)?,
         })
     }
+}
+
+// Copies of the literals.
+fn copies(alloc: Global, literals: &[Literal]) -> Result<Vec<Literal>, Memory>
+    ensures { IfOk result (λ made. made.items ≡ literals.now) }
+{
+    let mut made = Vec::new(alloc);
+    for literal in literals {
+        made.push(literal.copy(alloc)?)?;
+    }
+    Ok(made)
 }
 
 // Adds the literal to the part that is its own.

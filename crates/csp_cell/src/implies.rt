@@ -1,11 +1,9 @@
 //! Which literals another one makes needless.
-ghost use Rattle.std.specs.Prelude.{◌≡◌, IfOk};
+ghost use Rattle.std.specs.Prelude.{◌≡◌, None};
 ghost use Rattle.csp_atom.specs.Follows.{decided};
 ghost use Rattle.csp_cell.specs.Cells as spec;
 
 use csp_atom::{Atom, Literal, follows};
-use csp_model::{Duplicate, Memory};
-use std::alloc::Global;
 
 // Whether what the literal says makes the other true. Then it decides all that the other decides.
 pub(crate) fn implies(literal: &Literal, other: &Literal) -> bool
@@ -17,21 +15,25 @@ pub(crate) fn implies(literal: &Literal, other: &Literal) -> bool
     }
 }
 
-// Copies of the literals that this one doesn't make needless.
-pub(crate) fn needed_beside(
-    alloc: Global,
-    literal: &Literal,
-    literals: &[Literal],
-) -> Result<Vec<Literal>, Memory>
-    ensures { IfOk result (λ kept. kept.items ≡ spec.needed_beside literal.now literals.now) }
+// Leaves the literals that this one, which they don't decide, doesn't make needless.
+pub(crate) fn keep_needed(literals: &mut Vec<Literal>, literal: &Literal)
+    requires { decided literals.old.items literal.now.atom ≡ None }
+    ensures { literals.new.items ≡ spec.needed_beside literal.now literals.old.items }
 {
-    let mut kept = Vec::new(alloc);
-    for other in literals {
-        if !implies(literal, other) {
-            kept.push(other.copy(alloc)?)?;
-        }
+    if !decides_alone(literal) {
+        literals.retain(|other| !implies(literal, other));
     }
-    Ok(kept)
+}
+
+// Whether the literal decides no atom but its own. Then it makes none needless that leaves it open.
+fn decides_alone(literal: &Literal) -> bool
+    ensures { result ≡ spec.decides_alone literal.now.atom literal.now.positive }
+{
+    match literal.atom {
+        Atom::HostUnder(_) | Atom::HostDomain | Atom::PathUnder(_) => false,
+        Atom::IntegrityHas(_) | Atom::IntegrityOutside => true,
+        _ => !literal.positive,
+    }
 }
 
 // What the first literal that decides the atom says.
