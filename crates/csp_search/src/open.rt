@@ -1,14 +1,11 @@
 //! A check of the branch that a search leaves open.
-ghost use Rattle.std.specs.Prelude.{◌≡◌, All, IfOk, None, [], List as Items};
-ghost use Rattle.csp_atom.specs.Follows.{decided};
-ghost use Rattle.csp_atom.specs.declared.atom.Literal.{Literal as LiteralValue};
-ghost use Rattle.csp_cell.specs.Cells.{IsOf, Takes};
-ghost use Rattle.csp_atom.specs.declared.atom.Atom.{Atom as AtomValue};
+ghost use Rattle.std.specs.Prelude.{All, IfOk, []};
+ghost use Rattle.csp_cell.specs.Cells.{IsOf};
 ghost use Rattle.csp_search.specs.Answers.{ShowsNone};
-ghost use Rattle.csp_search.specs.Branches.{IsBranch, IsCellOf, IsFresh, with};
+ghost use Rattle.csp_search.specs.Branches.{IsBranch, IsCellOf, IsFresh};
 ghost use Rattle.csp_search.specs.Leaves.{IsOpen};
 ghost use Rattle.csp_search.specs.Questions.{IsPosed, lists_of, pair_of};
-ghost use Rattle.csp_valuation.specs.Paths.{literal_of, literals_of};
+ghost use Rattle.csp_valuation.specs.Paths.{literals_of};
 
 use crate::searching::Question;
 use csp_cell::Cell;
@@ -23,19 +20,6 @@ use csp_table::laws::a_list_names_few_ports;
 use csp_valuation::{Taken, Valuation};
 use std::alloc::Global;
 
-// The checks of the cell of which one more literal is true.
-fn narrow(cell: &Cell, taken: Taken) -> Result<Cell, Memory>
-    requires undecided { decided cell.now.literals taken.atom.now ≡ None }
-    requires valid { IsOf cell.now.shape (literal_of taken) }
-    ensures shape { IfOk result (λ made. made.shape ≡ cell.now.shape) }
-    ensures takes { IfOk result (λ made. Takes cell.now.literals (literal_of taken.entry) made.literals) }
-    ensures decides { IfOk result (λ made. (atom : AtomValue) → decided made.literals atom
-        ≡ decided (with cell.now.literals taken.entry.atom.now taken.entry.positive) atom) }
-{
-    let (holding, failing) = cell.split(taken.atom)?;
-    Ok(if taken.positive { holding } else { failing })
-}
-
 // The cell of the checks of a shape of which the literals of a path are true.
 fn cell_of(alloc: Global, shape: Shape, path: &[Taken]) -> Result<Cell, Memory>
     requires fresh { IsFresh [] (literals_of path.now) }
@@ -44,7 +28,7 @@ fn cell_of(alloc: Global, shape: Shape, path: &[Taken]) -> Result<Cell, Memory>
 {
     let mut cell = Cell::new(alloc, shape);
     for taken in path {
-        cell = narrow(&cell, *taken)?;
+        cell = cell.narrow(taken.atom, taken.positive)?;
     }
     Ok(cell)
 }

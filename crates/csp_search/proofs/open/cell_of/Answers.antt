@@ -1,5 +1,7 @@
 use Rattle.std.proofs.Common.{◌<◌, ◌∙◌, sym, subst, arith, length}
+use Rattle.csp_atom.specs.Atoms.{BelongsTo}
 use Rattle.csp_cell.specs.Cells.{IsOf}
+use Rattle.csp_shape.specs.Shapes.{looks_at}
 use Rattle.csp_shape.specs.declared.shape.Shape.{Shape}
 use Rattle.csp_valuation.specs.Paths.{literal_of, literals_of}
 use Rattle.csp_search.proofs.Lists.{all_at}
@@ -20,8 +22,16 @@ narrow-requires-clause-valid c =
     let i = c.loop-taken.taken-index in
     let l = literal_of c.taken-item.result in
     let within : i < length path = omega arith in
-    subst (λ (kind : Shape). IsOf kind l) (sym c.loop-taken.invariant.shape)
-    (all_at (IsOf c.args.shape) (literals_of path) i l c.requires.valid (taken_at path i c.taken-item.result within c.taken-item.is))
+    (all_at (IsOf c.args.shape) (literals_of path) i l c.requires.valid (taken_at path i c.taken-item.result within c.taken-item.is)).0
+
+pub narrow-requires-clause-belongs : goal.narrow-requires-clause-belongs
+narrow-requires-clause-belongs c =
+    let path = c.args.path.now in
+    let i = c.loop-taken.taken-index in
+    let l = literal_of c.taken-item.result in
+    let within : i < length path = omega arith in
+    subst (λ (kind : Shape). BelongsTo (looks_at kind) l.atom) (sym c.loop-taken.invariant.shape)
+    (all_at (IsOf c.args.shape) (literals_of path) i l c.requires.valid (taken_at path i c.taken-item.result within c.taken-item.is)).1
 
 pub loop-taken-preserved : goal.loop-taken-preserved
 loop-taken-preserved c =
