@@ -1,62 +1,46 @@
 -- The counts of all names grow with each violation.
-use Rattle.std.proofs.Common.{◌≡◌, ℕ, ◌+◌, ◌<◌, ◌≤◌, Bool, true, false, if◌then◌else◌, List, [], ◌∷◌, ◌++◌, map, length, get_or, set, take, refl, sym, ◌∙◌, ap, arith, append-nil}
+use Rattle.std.proofs.Common.{◌≡◌, ℕ, ◌+◌, Bool, true, false, if◌then◌else◌, List, [], ◌∷◌, ◌++◌, map, get_or, refl, ◌∙◌, ap, arith}
+use Rattle.std.specs.Prelude.{cond}
 use Rattle.std.specs.List.{count_by, flat_map}
-use Rattle.std.proofs.lemmas.List.{length-take, take_more}
-use Rattle.std.proofs.lemmas.List.Concat.{flat_map-append}
-use Rattle.std.proofs.lemmas.List.Sums.{count_by_more_yes, count_by_more_no, count_by-le-length}
+use Rattle.std.proofs.lemmas.List.Sums.{sum_by-append}
 use Rattle.csp_model.specs.declared.name.Name.{Name}
 use Rattle.csp_model.specs.declared.verdict.Violation.{Violation}
-use Rattle.csp_desk.specs.NameOrder.{names_in_order, place_of}
-use Rattle.csp_desk.specs.Texts.{is_of, count_line, tally_line}
+use Rattle.csp_desk.specs.NameOrder.{names_in_order, place_of, counted}
+use Rattle.csp_desk.specs.Texts.{is_of, counts_of, count_line, line_at, tally_line, tally_text}
 use Rattle.csp_desk.proofs.Names.{get_or-place_of, set-place_of}
-
--- how many of these violations there are of a name
-count_in : List Violation → Name → ℕ
-count_in held name = count_by (is_of name) held
 
 map_same : {A B : Type 0} (f g : A → B) → ((x : A) → f x ≡ g x) → (xs : List A) → map f xs ≡ map g xs
 map_same f g same [] = refl
 map_same f g same (x ∷ xs) = rw (same x, map_same f g same xs) refl
 
--- one violation more
-count_more : {X : Type 0} (p : X → Bool) (xs : List X) (i : ℕ) (x : X) (b : Bool) → i < length xs
-    → p (get_or xs i x) ≡ b
-    → (if b then count_by p (take i xs) + 1 else count_by p (take i xs)) ≡ count_by p (take (i + 1) xs)
-count_more p xs i x true below is = sym (count_by_more_yes p xs i x below is)
-count_more p xs i x false below is = sym (count_by_more_no p xs i x below is)
+-- one item more, of which the test says b
+count_by-then : {X : Type 0} (p : X → Bool) (xs : List X) (x : X) (b : Bool) → p x ≡ b
+    → (if b then count_by p xs + 1 else count_by p xs) ≡ count_by p (xs ++ x ∷ [])
+count_by-then p xs x true is = rw (sum_by-append (λ y. cond (p y) 1 0) xs (x ∷ []), is) (omega arith)
+count_by-then p xs x false is = rw (sum_by-append (λ y. cond (p y) 1 0) xs (x ∷ []), is) (omega arith)
 
-pub counts_more : (held : List Violation) (i : ℕ) (v : Violation) (counts : List ℕ) (place : ℕ) → i < length held
-    → v ≡ get_or held i v → counts ≡ map (λ name. count_by (is_of name) (take i held)) names_in_order
-    → place ≡ place_of v.effective → set counts place (get_or counts place 0 + 1)
-    ≡ map (λ name. count_by (is_of name) (take (i + 1) held)) names_in_order
-counts_more held i v counts place below is so_far at =
-    rw (so_far, at, get_or-place_of (λ name. count_by (is_of name) (take i held)) v.effective)
-    (set-place_of (λ name. count_by (is_of name) (take i held)) v.effective
-    ∙ map_same _ _ (λ name. count_more (is_of name) held i v (is_of name v) below (ap (is_of name) (sym is))) names_in_order)
+pub counts_then : (held : List Violation) (v : Violation) (counts : List ℕ) → counts ≡ counts_of held
+    → counted v.effective counts ≡ counts_of (held ++ v ∷ [])
+counts_then held v counts so_far =
+    rw (so_far, get_or-place_of (λ name. count_by (is_of name) held) v.effective)
+    (set-place_of (λ name. count_by (is_of name) held) v.effective
+    ∙ map_same _ _ (λ name. count_by-then (is_of name) held v (is_of name v) refl) names_in_order)
 
--- no count is above the number of violations
-pub count_within : (held : List Violation) (i : ℕ) (name : Name) (counts : List ℕ) (place : ℕ)
-    → counts ≡ map (λ n. count_by (is_of n) (take i held)) names_in_order → place ≡ place_of name
-    → get_or counts place 0 ≤ i
-count_within held i name counts place so_far at =
-    let found : get_or counts place 0 ≡ count_by (is_of name) (take i held)
-    = rw (so_far, at) (get_or-place_of (λ n. count_by (is_of n) (take i held)) name) in
-    omega (arith, found, count_by-le-length (is_of name) (take i held), length-take i held)
+flat_map_same : {A B : Type 0} (f g : A → List B) → ((x : A) → f x ≡ g x) → (xs : List A)
+    → flat_map f xs ≡ flat_map g xs
+flat_map_same f g same [] = refl
+flat_map_same f g same (x ∷ xs) = rw (same x, flat_map_same f g same xs) refl
 
--- the line of a name, of the count at its place
-line_at : (held : List Violation) (name : Name) (counts : List ℕ) (place : ℕ)
-    → counts ≡ map (λ n. count_by (is_of n) held) names_in_order → place ≡ place_of name
-    → count_line name (get_or counts place 0) ≡ tally_line held name
-line_at held name counts place all at =
-    ap (count_line name) (rw (all, at) (get_or-place_of (λ n. count_by (is_of n) held) name))
+-- the lines by the counts are the lines of the violations
+line_at-counts : (held : List Violation) (counts : List ℕ) → counts ≡ counts_of held → (name : Name)
+    → line_at counts name ≡ tally_line held name
+line_at-counts held counts all name =
+    let found : get_or counts (place_of name) 0 ≡ count_by (is_of name) held
+    = rw all (get_or-place_of (λ n. count_by (is_of n) held) name) in
+    ap (count_line name) found
 
--- one line more
-pub lines_more : (held : List Violation) (names : List Name) (i : ℕ) (d : Name) (counts : List ℕ) (place : ℕ)
-    (before line now : List ℕ) → i < length names → counts ≡ map (λ n. count_by (is_of n) held) names_in_order
-    → place ≡ place_of (get_or names i d) → line ≡ count_line (get_or names i d) (get_or counts place 0)
-    → before ≡ flat_map (tally_line held) (take i names) → now ≡ before ++ line
-    → now ≡ flat_map (tally_line held) (take (i + 1) names)
-lines_more held names i d counts place before line now below all at written so_far grown =
-    rw (grown, so_far, take_more names i d below, flat_map-append (tally_line held) (take i names) (get_or names i d ∷ []))
-    (ap (λ l. flat_map (tally_line held) (take i names) ++ l)
-    (written ∙ line_at held (get_or names i d) counts place all at ∙ sym (append-nil (tally_line held (get_or names i d)))))
+pub tally_text-by_counts : (held : List Violation) (counts : List ℕ) → counts ≡ counts_of held
+    → flat_map (line_at counts) names_in_order ≡ tally_text held
+unfolding tally_text
+tally_text-by_counts held counts all =
+    flat_map_same (line_at counts) (tally_line held) (line_at-counts held counts all) names_in_order

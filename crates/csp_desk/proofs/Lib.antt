@@ -1,5 +1,7 @@
 pub mod Counting
 pub mod DeskTexts
+pub mod Fieldless
 pub mod GrowthLaws
+pub mod Latest
 pub mod Names
 pub mod Turns

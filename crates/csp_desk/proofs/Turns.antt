@@ -71,7 +71,7 @@ StopsAt-refused items turn i before now faults_before faults_now below within le
 
 -- A violation's turn
 
-next_of : {V : Type 0} (items : List V) (turn : ℕ) (v : V) → turn < length items → v ≡ get_or items turn v
+pub next_of : {V : Type 0} (items : List V) (turn : ℕ) (v : V) → turn < length items → v ≡ get_or items turn v
     → take turn items ++ v ∷ [] ≡ take (turn + 1) items
 next_of items turn v below is =
     sym (take_more items turn v below ∙ ap (λ w. take turn items ++ w ∷ []) (sym is))

@@ -4,7 +4,7 @@ use Rattle.csp_model.specs.declared.verdict.Violation.{Violation}
 use Rattle.csp_desk.specs.declared.failing_lines.FailingLines.{FailingLines}
 
 abbrev pub failing_held : FailingLines → List Violation
-failing_held f = f.taken
+failing_held f = f.lines
 
 abbrev pub failing_faults : FailingLines → ℕ
 failing_faults f = f.faults

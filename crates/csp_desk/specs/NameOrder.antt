@@ -1,5 +1,5 @@
 -- The names of directives in byte order, as a tally prints them.
-use Rattle.std.specs.Prelude.{ℕ, List, [], ◌∷◌, Bool, true, ◌&&◌}
+use Rattle.std.specs.Prelude.{ℕ, ◌+◌, List, [], ◌∷◌, Bool, true, ◌&&◌, slice_index, slice_set}
 use Rattle.std.specs.List.{position_or_len}
 use Rattle.std.specs.Str.{bytes_eq}
 use Rattle.std.specs.Cmp.Lexicographic.{slice_cmp}
@@ -20,6 +20,10 @@ same_name name other = bytes_eq (name_text name) (name_text other)
 -- the place of a name among them
 abbrev pub place_of : Name → ℕ
 place_of name = position_or_len (same_name name) names_in_order
+
+-- counts of all names after one more of a name
+abbrev pub counted : Name → List ℕ → List ℕ
+counted name counts = slice_set counts (place_of name) (slice_index counts (place_of name) + 1)
 
 -- each text stands before the next one in byte order
 abbrev pub rises : List (List ℕ) → Bool

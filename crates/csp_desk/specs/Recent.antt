@@ -1,11 +1,13 @@
 -- What a reporter of the last violations has.
-use Rattle.std.specs.Prelude.{ℕ, List}
+use Rattle.std.specs.Prelude.{◌≡◌, ℕ, ◌-◌, List, length, drop}
 use Rattle.csp_model.specs.declared.verdict.Violation.{Violation}
-use Rattle.csp_desk.specs.declared.recent.Recent.{Recent}
 
-abbrev pub recent_held : Recent → List Violation
-recent_held r = r.taken
+-- how many violations it prints at most, and those that it took
+pub record LimitedHistory : Type 0 where
+  pub limit : ℕ
+  pub held : List Violation
 
--- how many violations it prints at most
-abbrev pub recent_limit : Recent → ℕ
-recent_limit r = r.limit
+-- the last of the violations that it took, and how many came before them
+pub record IsLatest (limit : ℕ) (held : List Violation) (earlier : ℕ) (latest : List Violation) : Type 0 where
+  pub number : earlier ≡ length held - limit
+  pub last : latest ≡ drop earlier held

@@ -1,12 +1,12 @@
 -- What reporters tell of the violations that they hold, and what a desk of reporters tells.
-use Rattle.std.specs.Prelude.{ℕ, ◌-◌, ◌==◌, Bool, if◌then◌else◌, List, [], ◌∷◌, ◌++◌, length, drop, codes, decimal}
+use Rattle.std.specs.Prelude.{ℕ, ◌-◌, ◌==◌, Bool, if◌then◌else◌, List, [], ◌∷◌, ◌++◌, length, map, drop, codes, decimal, slice_index}
 use Rattle.std.specs.List.{flat_map, count_by, zip}
 use Rattle.csp_model.specs.Ascii.{code}
 use Rattle.csp_model.specs.Names.{name_text}
 use Rattle.csp_model.specs.declared.name.Name.{Name}
 use Rattle.csp_model.specs.declared.verdict.Violation.{Violation}
 use Rattle.csp_violation.specs.Report.{report_bytes}
-use Rattle.csp_desk.specs.NameOrder.{names_in_order, same_name}
+use Rattle.csp_desk.specs.NameOrder.{names_in_order, place_of, same_name}
 use Rattle.csp_desk.specs.declared.reporter.Kind.{Kind}
 use Rattle.csp_desk.specs.declared.reporter.Kind.TheVariants.{Lines, Tally, Recent}
 
@@ -29,6 +29,14 @@ count_line name count =
 
 abbrev pub tally_line : List Violation → Name → List ℕ
 tally_line held name = count_line name (count_by (is_of name) held)
+
+-- how many violations there are of each name, in the order of the names
+abbrev pub counts_of : List Violation → List ℕ
+counts_of held = map (λ name. count_by (is_of name) held) names_in_order
+
+-- the line of a name by such counts
+abbrev pub line_at : List ℕ → Name → List ℕ
+line_at counts name = count_line name (slice_index counts (place_of name))
 
 -- how many violations of each directive there are
 unfoldable pub tally_text : List Violation → List ℕ

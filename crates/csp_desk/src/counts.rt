@@ -1,6 +1,6 @@
 //! How many violations there are of each directive.
-ghost use Rattle.std.specs.Prelude.{◌≡◌, IfOk, string_bytes, map};
-ghost use Rattle.std.specs.List.{count_by, flat_map};
+ghost use Rattle.std.specs.Prelude.{◌≡◌, IfOk, OnOk, OnErr, string_bytes};
+ghost use Rattle.std.specs.List.{flat_map};
 ghost use Rattle.csp_desk.specs.NameOrder as order;
 ghost use Rattle.csp_desk.specs.Texts as spec;
 
@@ -59,15 +59,30 @@ fn place_of(name: Name) -> usize
     }
 }
 
+// Counts a violation of this name, where its count stays below 2^64.
+pub(crate) fn count(counts: &mut [usize; 20], name: Name) -> Result<(), Memory>
+    ensures ok { OnOk result (counts.new ≡ order.counted name counts.old) }
+    ensures err { OnErr result (counts.new ≡ counts.old) }
+{
+    let place = place_of(name);
+    match counts[place].checked_add(1) {
+        Some(count) => {
+            counts[place] = count;
+            Ok(())
+        }
+        None => Err(Memory),
+    }
+}
+
 // How many violations there are of each name, in one pass.
-fn counts_of(held: &[Violation]) -> [usize; 20]
-    ensures { result ≡ map (λ name. count_by (spec.is_of name) held.now) order.names_in_order }
+fn counts_of(held: &[Violation]) -> Result<[usize; 20], Memory>
+    ensures { IfOk result (λ counts. counts ≡ spec.counts_of held.now) }
 {
     let mut counts = [0; 20];
     for violation in held {
-        counts[place_of(violation.effective)] += 1;
+        count(&mut counts, violation.effective)?;
     }
-    counts
+    Ok(counts)
 }
 
 fn line_of(alloc: Global, name: Name, count: usize) -> Result<String, Memory>
@@ -80,10 +95,9 @@ fn line_of(alloc: Global, name: Name, count: usize) -> Result<String, Memory>
     Ok(format!(in alloc; "{name} {count}\n")?)
 }
 
-fn lines_of(alloc: Global, names: &[Name], held: &[Violation]) -> Result<Bytes, Memory>
-    ensures { IfOk result (λ text. text ≡ flat_map (spec.tally_line held.now) names.now) }
+fn lines_of(alloc: Global, names: &[Name], counts: &[usize; 20]) -> Result<Bytes, Memory>
+    ensures { IfOk result (λ text. text ≡ flat_map (spec.line_at counts.now) names.now) }
 {
-    let counts = counts_of(held);
     let mut text = Vec::new(alloc);
     for name in names {
         let line = line_of(alloc, *name, counts[place_of(*name)])?;
@@ -92,9 +106,16 @@ fn lines_of(alloc: Global, names: &[Name], held: &[Violation]) -> Result<Bytes, 
     Ok(Bytes::from_vec(text))
 }
 
-#[tactic(auto, unfolding(crate::specs::Texts::tally_text))]
+// The lines of all names that occur.
+pub(crate) fn counts_text(alloc: Global, counts: &[usize; 20]) -> Result<Bytes, Memory>
+    ensures { IfOk result (λ text. text ≡ flat_map (spec.line_at counts.now) order.names_in_order) }
+{
+    lines_of(alloc, &NAMES, counts)
+}
+
 pub(crate) fn tally_text(alloc: Global, held: &[Violation]) -> Result<Bytes, Memory>
     ensures { IfOk result (λ text. text ≡ spec.tally_text held.now) }
 {
-    lines_of(alloc, &NAMES, held)
+    let counts = counts_of(held)?;
+    counts_text(alloc, &counts)
 }

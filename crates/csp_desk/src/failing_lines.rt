@@ -3,15 +3,15 @@ ghost use Rattle.std.specs.Prelude.{◌≡◌, ◌↔◌, ◌≤◌, ◌∷◌, 
 ghost use Rattle.csp_io.specs.Told.{Rose};
 ghost use Rattle.csp_desk.specs.declared.reporter.Kind.TheVariants as kinds;
 
-use crate::reporter::{AcceptError, Kind, Reporter, keep};
-use crate::texts::lines_text;
+use crate::lines::Lines;
+use crate::reporter::{AcceptError, Kind, Reporter};
 use csp_model::{Bytes, List, Memory, Violation};
 use std::alloc::Global;
 
 /// Prints as `Lines` does, and refuses the calls of `accept` that it is told.
 #[derive(Debug, Drop)]
 pub struct FailingLines {
-    taken: List<Violation>,
+    lines: Lines,
     failing: List<u64>,
     calls: u64,
     faults: u64,
@@ -30,7 +30,7 @@ impl FailingLines {
         ensures next { next_call result ≡ 0 }
     {
         FailingLines {
-            taken: List::new(alloc),
+            lines: Lines::new(alloc),
             failing,
             calls: 0,
             faults: 0,
@@ -71,11 +71,11 @@ impl Reporter for FailingLines {
             self.faults = self.faults.saturating_add(1);
             return Err(AcceptError::Refused);
         }
-        keep(&mut self.taken, alloc, violation)?;
+        self.lines.push(alloc, violation)?;
         Ok(())
     }
 
     fn text(&self, alloc: Global) -> Result<Bytes, Memory> {
-        lines_text(alloc, self.taken.as_slice())
+        self.lines.text(alloc)
     }
 }

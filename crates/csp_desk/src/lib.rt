@@ -4,6 +4,7 @@
 mod counts;
 mod desk;
 mod failing_lines;
+mod history;
 pub mod laws;
 mod lines;
 mod recent;

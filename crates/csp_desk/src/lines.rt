@@ -2,27 +2,33 @@
 ghost use Rattle.std.specs.Prelude.{◌≡◌, ◌∷◌, ◌++◌, [], OnOk, OnErr};
 ghost use Rattle.csp_desk.specs.declared.reporter.Kind.TheVariants as kinds;
 
-use crate::reporter::{AcceptError, Kind, Reporter, keep};
-use crate::texts::lines_text;
-use csp_model::{Bytes, List, Memory, Violation};
+use crate::history::History;
+use crate::reporter::{AcceptError, Kind, Reporter};
+use crate::texts::push_line;
+use csp_model::{Bytes, Memory, Violation};
 use std::alloc::Global;
 use std::marker::Model;
 
 /// Prints the report of each violation on a line of its own.
 ///
-/// It never answers `Refused`.
+/// It keeps what it prints and not the violations, and never answers `Refused`.
 #[derive(Debug, Drop)]
 pub struct Lines {
-    taken: List<Violation>,
+    text: Vec<u8>,
+    history: History,
 }
 
 impl Model for Lines {
     ghost use Rattle.std.specs.Prelude as std_words;
+    ghost use Rattle.std.specs.Prelude.{◌≡◌};
     ghost use Rattle.csp_model.specs.declared.verdict.Violation.{Violation as ViolationValue};
+    ghost use Rattle.csp_desk.specs.Texts.{lines_text};
 
     ghost Value = { std_words.List ViolationValue };
 
-    ghost view = { λ a. a.taken };
+    ghost view = { λ a. a.history.items };
+
+    ghost invariant = { λ a. a.text.items ≡ lines_text a.history.items };
 }
 
 impl Lines {
@@ -33,8 +39,19 @@ impl Lines {
         ensures faults { ⟦<Lines as Reporter>⟧.faults result ≡ 0 }
     {
         Lines {
-            taken: List::new(alloc),
+            text: Vec::new(alloc),
+            history: History::new(),
         }
+    }
+
+    // Prints a violation behind those that it holds.
+    pub(crate) fn push(&mut self, alloc: Global, violation: &Violation) -> Result<(), Memory>
+        ensures took { OnOk result (self.new ≡ self.old ++ violation.now ∷ []) }
+        ensures refused { OnErr result (self.new ≡ self.old) }
+    {
+        push_line(alloc, &mut self.text, violation)?;
+        self.history = self.history.then(violation);
+        Ok(())
     }
 }
 
@@ -50,11 +67,11 @@ impl Reporter for Lines {
     }
 
     fn accept(&mut self, alloc: Global, violation: &Violation) -> Result<(), AcceptError> {
-        keep(&mut self.taken, alloc, violation)?;
+        self.push(alloc, violation)?;
         Ok(())
     }
 
     fn text(&self, alloc: Global) -> Result<Bytes, Memory> {
-        lines_text(alloc, self.taken.as_slice())
+        Bytes::new(alloc, self.text.as_slice())
     }
 }

@@ -1,19 +1,35 @@
 //! A reporter that prints the last reports.
-ghost use Rattle.std.specs.Prelude.{◌≡◌, []};
+ghost use Rattle.std.specs.Prelude.{◌≡◌, ◌∷◌, ◌++◌, [], OnOk, OnErr};
 ghost use Rattle.csp_desk.specs.declared.reporter.Kind.TheVariants as kinds;
 
-use crate::reporter::{AcceptError, Kind, Reporter, keep};
-use crate::texts::recent_text;
-use csp_model::{Bytes, List, Memory, Violation};
+use crate::history::History;
+use crate::reporter::{AcceptError, Kind, Reporter};
+use crate::texts::latest_text;
+use csp_model::{Bytes, Duplicate, Memory, Violation};
 use std::alloc::Global;
+use std::collections::VecDeque;
+use std::marker::Model;
 
 /// Prints the reports of the last violations, `limit` at most, behind the number of those before them.
 ///
-/// It holds all that it took, and never answers `Refused`.
+/// It keeps these alone, and never answers `Refused`. It answers `Memory` also where that number would reach
+/// 2^64.
 #[derive(Debug, Drop)]
 pub struct Recent {
-    taken: List<Violation>,
+    latest: VecDeque<Violation>,
+    earlier: usize,
     limit: u32,
+    history: History,
+}
+
+impl Model for Recent {
+    ghost use Rattle.csp_desk.specs.Recent.{LimitedHistory, IsLatest};
+
+    ghost Value = { LimitedHistory };
+
+    ghost view = { λ a. record { limit = a.limit; held = a.history.items } };
+
+    ghost invariant = { λ a. IsLatest a.limit a.history.items a.earlier a.latest.items };
 }
 
 impl Recent {
@@ -24,18 +40,37 @@ impl Recent {
         ensures faults { ⟦<Recent as Reporter>⟧.faults result ≡ 0 }
     {
         Recent {
-            taken: List::new(alloc),
+            latest: VecDeque::new(alloc),
+            earlier: 0,
             limit,
+            history: History::new(),
         }
+    }
+
+    // Keeps a copy of a violation as the last one, and lets the first one go where there are too many.
+    fn push(&mut self, alloc: Global, violation: &Violation) -> Result<(), Memory>
+        ensures limit { self.new.limit ≡ self.old.limit }
+        ensures took { OnOk result (self.new.held ≡ self.old.held ++ violation.now ∷ []) }
+        ensures refused { OnErr result (self.new.held ≡ self.old.held) }
+    {
+        let Some(earlier) = self.earlier.checked_add(1) else {
+            return Err(Memory);
+        };
+        let copy = violation.copy(alloc)?;
+        self.latest.push_back(copy)?;
+        if self.latest.len() > self.limit as usize {
+            self.latest.pop_front();
+            self.earlier = earlier;
+        }
+        self.history = self.history.then(violation);
+        Ok(())
     }
 }
 
 impl Reporter for Recent {
-    ghost use Rattle.csp_desk.specs.Recent.{recent_held, recent_limit};
+    ghost kind = { λ r. kinds.Recent r.limit };
 
-    ghost kind = { λ r. kinds.Recent (recent_limit r) };
-
-    ghost held = { recent_held };
+    ghost held = { λ r. r.held };
 
     ghost faults = { λ _. 0 };
 
@@ -44,11 +79,11 @@ impl Reporter for Recent {
     }
 
     fn accept(&mut self, alloc: Global, violation: &Violation) -> Result<(), AcceptError> {
-        keep(&mut self.taken, alloc, violation)?;
+        self.push(alloc, violation)?;
         Ok(())
     }
 
     fn text(&self, alloc: Global) -> Result<Bytes, Memory> {
-        recent_text(alloc, self.limit, self.taken.as_slice())
+        latest_text(alloc, self.earlier, &self.latest)
     }
 }

@@ -4,7 +4,7 @@ ghost use Rattle.csp_io.specs.Told.{Rose};
 ghost use Rattle.csp_model.specs.declared.verdict.Violation.{Violation as ViolationValue};
 ghost use Rattle.csp_desk.specs.declared.reporter.AcceptError.TheVariants as accept_error;
 
-use csp_model::{Bytes, Duplicate, List, Memory, Violation};
+use csp_model::{Bytes, Memory, Violation};
 use std::alloc::Global;
 use thiserror::Error;
 
@@ -74,17 +74,4 @@ pub trait Reporter: Drop {
     /// What a reporter of its kind tells of what it holds.
     fn text(&self, alloc: Global) -> Result<Bytes, Memory>
         ensures { IfOk result (λ text. text ≡ report_text (kind self.now) (held self.now)) };
-}
-
-// Adds a copy of a violation at the end.
-pub(crate) fn keep(
-    taken: &mut List<Violation>,
-    alloc: Global,
-    violation: &Violation,
-) -> Result<(), Memory>
-    ensures took { OnOk result (taken.new ≡ taken.old ++ violation.now ∷ []) }
-    ensures refused { OnErr result (taken.new ≡ taken.old) }
-{
-    let copy = violation.copy(alloc)?;
-    taken.push(copy)
 }

@@ -2,39 +2,58 @@
 ghost use Rattle.std.specs.Prelude.{◌≡◌, ◌∷◌, ◌++◌, [], OnOk, OnErr};
 ghost use Rattle.csp_desk.specs.declared.reporter.Kind.TheVariants as kinds;
 
-use crate::counts::tally_text;
-use crate::reporter::{AcceptError, Kind, Reporter, keep};
-use csp_model::{Bytes, List, Memory, Violation};
+use crate::counts::{count, counts_text};
+use crate::history::History;
+use crate::reporter::{AcceptError, Kind, Reporter};
+use csp_model::{Bytes, Memory, Violation};
 use std::alloc::Global;
 use std::marker::Model;
 
 /// Prints how many violations there are of each effective directive that occurs, in byte order of the names.
 ///
-/// It never answers `Refused`.
+/// It keeps the counts and not the violations. It never answers `Refused`, and `Memory` only where a count
+/// would reach 2^64.
 #[derive(Debug, Drop)]
 pub struct Tally {
-    taken: List<Violation>,
+    // One for each name, in byte order of the names.
+    counts: [usize; 20],
+    history: History,
 }
 
 impl Model for Tally {
     ghost use Rattle.std.specs.Prelude as std_words;
+    ghost use Rattle.std.specs.Prelude.{◌≡◌};
     ghost use Rattle.csp_model.specs.declared.verdict.Violation.{Violation as ViolationValue};
+    ghost use Rattle.csp_desk.specs.Texts.{counts_of};
 
     ghost Value = { std_words.List ViolationValue };
 
-    ghost view = { λ a. a.taken };
+    ghost view = { λ a. a.history.items };
+
+    ghost invariant = { λ a. a.counts ≡ counts_of a.history.items };
 }
 
 impl Tally {
-    /// A reporter that holds nothing. It keeps the allocator, and takes no memory.
-    pub fn new(alloc: Global) -> Tally
+    /// A reporter that holds nothing. It takes no memory.
+    pub fn new(_alloc: Global) -> Tally
         ensures kind { ⟦<Tally as Reporter>⟧.kind result ≡ kinds.Tally }
         ensures held { ⟦<Tally as Reporter>⟧.held result ≡ [] }
         ensures faults { ⟦<Tally as Reporter>⟧.faults result ≡ 0 }
     {
         Tally {
-            taken: List::new(alloc),
+            counts: [0; 20],
+            history: History::new(),
         }
+    }
+
+    // Counts a violation.
+    fn push(&mut self, violation: &Violation) -> Result<(), Memory>
+        ensures took { OnOk result (self.new ≡ self.old ++ violation.now ∷ []) }
+        ensures refused { OnErr result (self.new ≡ self.old) }
+    {
+        count(&mut self.counts, violation.effective)?;
+        self.history = self.history.then(violation);
+        Ok(())
     }
 }
 
@@ -49,12 +68,12 @@ impl Reporter for Tally {
         Kind::Tally
     }
 
-    fn accept(&mut self, alloc: Global, violation: &Violation) -> Result<(), AcceptError> {
-        keep(&mut self.taken, alloc, violation)?;
+    fn accept(&mut self, _alloc: Global, violation: &Violation) -> Result<(), AcceptError> {
+        self.push(violation)?;
         Ok(())
     }
 
     fn text(&self, alloc: Global) -> Result<Bytes, Memory> {
-        tally_text(alloc, self.taken.as_slice())
+        counts_text(alloc, &self.counts)
     }
 }

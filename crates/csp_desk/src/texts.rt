@@ -1,12 +1,31 @@
 //! What reporters tell of the violations that they hold.
-ghost use Rattle.std.specs.Prelude.{◌≡◌, ◌++◌, IfOk, string_bytes};
+ghost use Rattle.std.specs.Prelude.{◌≡◌, ◌++◌, IfOk, OnOk, OnErr, string_bytes};
 ghost use Rattle.csp_desk.specs.Texts as spec;
 
 use crate::counts::tally_text;
 use crate::reporter::Kind;
 use csp_model::{Bytes, Memory, Violation};
-use csp_violation::append_report;
+use csp_violation::{append_report, push_report};
 use std::alloc::Global;
+use std::collections::VecDeque;
+
+// Adds the line of a violation behind a text, which is as it was where there is no memory.
+pub(crate) fn push_line(
+    alloc: Global,
+    text: &mut Vec<u8>,
+    violation: &Violation,
+) -> Result<(), Memory>
+    ensures ok { OnOk result (text.new.items ≡ text.old.items ++ spec.report_line violation.now) }
+    ensures err { OnErr result (text.new.items ≡ text.old.items) }
+{
+    let before = text.len();
+    push_report(alloc, text, violation)?;
+    if text.push(b'\n').is_err() {
+        text.truncate(before);
+        return Err(Memory);
+    }
+    Ok(())
+}
 
 // The text, and behind it a report a line.
 #[tactic(auto, unfolding(crate::specs::Texts::lines_text))]
@@ -43,6 +62,32 @@ pub(crate) fn recent_text(alloc: Global, limit: u32, held: &[Violation]) -> Resu
     let earlier = held.len().saturating_sub(limit as usize);
     let text = earlier_line(alloc, earlier)?.into_bytes();
     Ok(Bytes::from_vec(append_lines(text, &held[earlier..])?))
+}
+
+// The lines of violations in a queue, behind the number of those before them.
+pub(crate) fn latest_text(
+    alloc: Global,
+    earlier: usize,
+    latest: &VecDeque<Violation>,
+) -> Result<Bytes, Memory>
+    ensures { IfOk result (λ text.
+        text ≡ spec.earlier_line earlier ++ spec.lines_text latest.now.items) }
+{
+    let text = earlier_line(alloc, earlier)?.into_bytes();
+    Ok(Bytes::from_vec(append_latest(text, latest)?))
+}
+
+// The text, and behind it a report a line.
+#[tactic(auto, unfolding(crate::specs::Texts::lines_text))]
+fn append_latest(text: Vec<u8>, latest: &VecDeque<Violation>) -> Result<Vec<u8>, Memory>
+    ensures { IfOk result (λ made. made.items ≡ text.items ++ spec.lines_text latest.now.items) }
+{
+    let mut text = text;
+    for place in 0..latest.len() {
+        text = append_report(text, &latest[place])?;
+        text.push(b'\n')?;
+    }
+    Ok(text)
 }
 
 /// What a reporter of a kind tells of the violations that it holds.

@@ -4,4 +4,4 @@
 pub mod laws;
 mod report;
 
-pub use report::{append_report, report_json};
+pub use report::{append_report, push_report, report_json};

@@ -1,5 +1,5 @@
 //! A violation, printed.
-ghost use Rattle.std.specs.Prelude.{◌≡◌, ◌++◌, IfOk, OnOk};
+ghost use Rattle.std.specs.Prelude.{◌≡◌, ◌++◌, IfOk, OnOk, OnErr};
 ghost use Rattle.std.specs.List.{flat_map};
 ghost use Rattle.json.specs.Tree.{json_tokens};
 ghost use Rattle.csp_violation.specs.Report.{member_tokens, report_value, report_bytes};
@@ -7,6 +7,7 @@ ghost use Rattle.csp_violation.specs.Report.{member_tokens, report_value, report
 use csp_model::{Bytes, Memory, Violation, name_text};
 use json::Writer;
 use std::alloc::{AllocError, Global};
+use std::mem;
 
 fn write_members(out: &mut Writer, members: &[(&str, &str)]) -> Result<(), AllocError>
     ensures tokens { OnOk result (out.new.tokens
@@ -51,6 +52,25 @@ pub fn append_report(text: Vec<u8>, violation: &Violation) -> Result<Vec<u8>, Me
     let mut out = Writer::new(text);
     write_report(&mut out, violation)?;
     Ok(out.into_inner())
+}
+
+/// Adds the report of a violation, as `report_json` gives it, behind a text. The text isn't copied.
+///
+/// Where there is no memory, it is as it was.
+#[tactic(auto, unfolding(crate::specs::Report::report_bytes))]
+pub fn push_report(alloc: Global, text: &mut Vec<u8>, violation: &Violation) -> Result<(), Memory>
+    ensures ok { OnOk result (text.new.items ≡ text.old.items ++ report_bytes violation.now) }
+    ensures err { OnErr result (text.new.items ≡ text.old.items) }
+{
+    let before = text.len();
+    let mut out = Writer::new(mem::replace(text, Vec::new(alloc)));
+    let written = write_report(&mut out, violation);
+    *text = out.into_inner();
+    if written.is_err() {
+        text.truncate(before);
+        return Err(Memory);
+    }
+    Ok(())
 }
 
 /// The report of a violation: one JSON object (RFC 8259) with no space, whose members are texts, in this order:

@@ -1,13 +1,12 @@
--- Each violation is counted at the place of its name.
-use Rattle.std.proofs.Common.{arith}
-use Rattle.csp_desk.proofs.Counting.{counts_more, count_within}
+-- Each violation is counted behind those before it.
+use Rattle.std.proofs.Common.{◌∙◌, ap, take}
+use Rattle.csp_desk.specs.Texts.{counts_of}
+use Rattle.csp_desk.proofs.Counting.{counts_then}
+use Rattle.csp_desk.proofs.Turns.{next_of}
 use Rattle.csp_desk.proofs.counts.counts_of.Goals as goal
-
-pub overflow_add-counts : goal.overflow_add-counts
-overflow_add-counts c =
-    let within = count_within c.args.held.now c.loop-violation.violation-index c.violation-item.result.effective c.loop-violation.counts c.place_of.result c.loop-violation.invariant c.place_of.ensures in
-    omega (arith, within)
 
 pub loop-violation-preserved : goal.loop-violation-preserved
 loop-violation-preserved c =
-    counts_more c.args.held.now c.loop-violation.violation-index c.violation-item.result c.loop-violation.counts c.place_of.result c.loop-violation-test.true c.violation-item.is c.loop-violation.invariant c.place_of.ensures
+    c.in_ok-count.ensures.ok
+    ∙ counts_then (take c.loop-violation.violation-index c.args.held.now) c.violation-item.result c.loop-violation.counts c.loop-violation.invariant
+    ∙ ap counts_of (next_of c.args.held.now c.loop-violation.violation-index c.violation-item.result c.loop-violation-test.true c.violation-item.is)
