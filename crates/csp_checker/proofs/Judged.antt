@@ -102,7 +102,7 @@ pub shares_same : (lists : Lists) (trees : List Tree) (pair : Pair) (line n : �
 shares_same lists trees pair line n other m there has =
     ap (λ (o : Option Tree). bad_shared lists pair line (option_map (λ (t : Tree). t.body) o)) there ∙ ap (λ (b : Body). bad_shared lists pair line (Some b)) has
 
-shares_nodes : (lists : Lists) (trees : List Tree) (pair : Pair) (line n : ℕ) (other : Tree) (nodes : List Node) → slice_get trees n ≡ Some other → other.body ≡ body.Nodes nodes
+pub shares_nodes : (lists : Lists) (trees : List Tree) (pair : Pair) (line n : ℕ) (other : Tree) (nodes : List Node) → slice_get trees n ≡ Some other → other.body ≡ body.Nodes nodes
     → bad_shared lists pair line (body_at trees n) ≡ at_line line (bad_tree lists pair line (cases_in nodes))
 shares_nodes lists trees pair line n other nodes there has =
     ap (λ (o : Option Tree). bad_shared lists pair line (option_map (λ (t : Tree). t.body) o)) there ∙ ap (λ (b : Body). bad_shared lists pair line (Some b)) has

@@ -6,3 +6,4 @@ pub mod Tables
 pub mod PairsMade
 pub mod Whole
 pub mod Judged
+pub mod Walked

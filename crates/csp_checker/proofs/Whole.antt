@@ -63,7 +63,7 @@ pub for_it : (pair : Pair) (tree : Tree) (below : Option ℕ) → number pair.sh
 for_it pair tree below shape policy =
     ap (λ b. for_pair b tree below) (and_from (nat_eq (number pair.shape) tree.shape) (nat_eq pair.policy tree.policy) (eq-eqb (number pair.shape) tree.shape shape) (eq-eqb pair.policy tree.policy policy))
 
-passes : (b : Bool) (tree : Tree) (below : Option ℕ) → for_pair b tree below ≡ None → (b ≡ true) × (below ≡ None)
+pub passes : (b : Bool) (tree : Tree) (below : Option ℕ) → for_pair b tree below ≡ None → (b ≡ true) × (below ≡ None)
 passes true tree below good = (refl, good)
 passes false tree below good = cc good
 

@@ -4,9 +4,11 @@ use Rattle.csp_model.specs.declared.policy.PolicyList.{PolicyList}
 use Rattle.csp_shape.specs.Numbers.{number}
 use Rattle.csp_shape.specs.Shapes.{is_shape}
 use Rattle.csp_shape.specs.declared.shape.Shape.{Shape}
-use Rattle.csp_proof.specs.Accepts.{Lists, hashes_in, is_for, for_pair, bad_body, bad_from}
+use Rattle.csp_proof.specs.Accepts.{Lists, hashes_in, is_for, for_pair, bad_body, bad_from, bad_tree, cases_in}
 use Rattle.csp_proof.specs.Pairs.{Pair, pairs}
 use Rattle.csp_proof.specs.WellFormed.{IsWellFormed}
+use Rattle.csp_proof.specs.declared.proof.Body.TheVariants as body
+use Rattle.csp_proof.specs.declared.proof.Node.{Node}
 use Rattle.csp_proof.specs.declared.proof.Tree.{Tree}
 use Rattle.csp_table.specs.Tables.{AreAt, formulas_at}
 use Rattle.csp_table.specs.declared.table.FormulaTable.{FormulaTable}
@@ -82,3 +84,9 @@ AreKept asked count = (n : ℕ) (tree : Tree) → n < count → slice_get (trees
 pub record IsReached (asked : Asked) (count : ℕ) (tree : Tree) : Type 0 where
   pub there : slice_get (trees_of asked) count ≡ Some tree
   pub before : AreKept asked count
+
+-- the nodes of the tree of this number keep the rules of the pair that this tree is for
+abbrev pub KeepsFor : Asked → Tree → ℕ → Type 0
+KeepsFor asked tree n = (owner : Tree) (nodes : List Node) → slice_get (trees_of asked) n ≡ Some owner
+    → owner.body ≡ body.Nodes nodes → (pair : Pair) → IsFor pair tree
+    → bad_tree (lists_of asked) pair 0 (cases_in nodes) ≡ None

@@ -4,6 +4,7 @@
 #![tactic(auto)]
 
 mod asked;
+mod before;
 mod checker;
 mod leaf;
 mod making;

@@ -1,5 +1,5 @@
 //! Judges the trees of a proof, one after the other.
-ghost use Rattle.std.specs.Prelude.{◌≡◌, ◌+◌, ◌<◌, ◌≤◌, ℕ, IfSome, IsTrue, Some, length, slice_get};
+ghost use Rattle.std.specs.Prelude.{◌≡◌, ◌+◌, ◌<◌, ◌≤◌, IfSome, Some, length, slice_get};
 ghost use Rattle.csp_shape.specs.Numbers.{shape_count};
 ghost use Rattle.csp_proof.specs.Accepts as accepts;
 ghost use Rattle.csp_proof.specs.Pairs.{Pair};
@@ -9,6 +9,7 @@ ghost use Rattle.csp_checker.specs.Asked.{AreFor, IsAsked, IsFor, IsReached, bad
 ghost use Rattle.csp_checker.specs.Walk.{splits};
 
 use crate::asked::{Asked, NumberedPair};
+use crate::before::{asks_the_same, place_of, was_walked};
 use crate::leaf::Judge;
 use crate::walk::first_bad;
 use csp_proof::{Body, Node, Tree};
@@ -54,7 +55,7 @@ fn bad_line<'a>(
     match asked.pairs.get(number) {
         Some(pair) => {
             if is_for(*pair, tree) {
-                bad_below(asked, tree, valuations)
+                bad_below(asked, number, tree, valuations)
             } else {
                 Some(tree.line)
             }
@@ -72,12 +73,13 @@ fn is_for(pair: NumberedPair, tree: &Tree) -> bool
 // The line of the first failure below the line of a tree that is for its pair.
 fn bad_below<'a>(
     asked: &Asked<'a>,
+    number: usize,
     tree: &'a Tree,
     valuations: &mut [Valuation<'a>],
 ) -> Option<u128>
     requires asked { IsAsked asked.now }
     requires fit { AreFor asked.now valuations.old }
-    requires reached { (count : ℕ) × IsReached asked.now count tree.now }
+    requires reached { IsReached asked.now number tree.now }
     ensures bad { (pair : Pair) → IsFor pair tree.now → result
         ≡ accepts.bad_body (lists_of asked.now) (trees_of asked.now) pair (tree.now.line + 1) tree.now.body }
     ensures fit { AreFor asked.now valuations.new }
@@ -88,7 +90,7 @@ fn bad_below<'a>(
             None => None,
         },
         Body::Same { tree: other } => {
-            if shares_good_nodes(asked, tree, *other, valuations) {
+            if shares_good_nodes(asked, number, tree, *other, valuations) {
                 None
             } else {
                 Some(tree.line + 1)
@@ -98,28 +100,33 @@ fn bad_below<'a>(
 }
 
 // Whether the tree of the other number has nodes that keep their rules in this tree too. Nodes that were
-// walked for the same policy and the same formulas aren't walked again.
+// walked for the same policy and the same formulas aren't walked again, unless they are fewer than the trees
+// that would be looked at.
 fn shares_good_nodes<'a>(
     asked: &Asked<'a>,
+    number: usize,
     tree: &Tree,
     other: u32,
     valuations: &mut [Valuation<'a>],
 ) -> bool
     requires asked { IsAsked asked.now }
     requires fit { AreFor asked.now valuations.old }
-    requires reached { (count : ℕ) × IsReached asked.now count tree.now }
+    requires reached { IsReached asked.now number tree.now }
     requires shared { tree.now.body ≡ Same other }
     ensures good { (pair : Pair) → IsFor pair tree.now
         → accepts.bad_shared (lists_of asked.now) pair (tree.now.line + 1) (body_at (trees_of asked.now) other)
         ≡ accepts.unless result (tree.now.line + 1) }
     ensures fit { AreFor asked.now valuations.new }
 {
-    let Some(other) = asked.proof.trees.get(other as usize) else {
+    let Some(owner) = asked.proof.trees.get(other as usize) else {
         return false;
     };
-    match &other.body {
+    match &owner.body {
         Body::Nodes { nodes } => {
-            if asks_the_same(&asked.table, tree, other) {
+            if asks_the_same(&asked.table, tree, owner) {
+                return true;
+            }
+            if nodes.len() > number && was_walked(asked, number, tree, other) {
                 return true;
             }
             match bad_node(asked, tree, nodes.as_slice(), valuations) {
@@ -129,24 +136,6 @@ fn shares_good_nodes<'a>(
         }
         Body::Same { .. } => false,
     }
-}
-
-// Whether both trees are for one policy and for shapes of the same formulas.
-fn asks_the_same(table: &FormulaTable, one: &Tree, other: &Tree) -> bool
-    requires one { one.now.shape < length table.now.places }
-    requires other { other.now.shape < length table.now.places }
-    ensures { IsTrue result → (one.now.policy ≡ other.now.policy)
-        × (slice_get table.now.places one.now.shape ≡ slice_get table.now.places other.now.shape) }
-{
-    one.policy == other.policy && place_of(table, one.shape) == place_of(table, other.shape)
-}
-
-// The place of the formulas of a shape.
-fn place_of(table: &FormulaTable, shape: u8) -> usize
-    requires { shape < length table.now.places }
-    ensures { slice_get table.now.places shape ≡ Some result }
-{
-    table.places.as_slice()[shape as usize]
 }
 
 fn formulas_at(table: &FormulaTable, place: usize) -> &PlacedFormulas

@@ -8,38 +8,38 @@ pub asks_the_same-requires-clause-one : goal.asks_the_same-requires-clause-one
 asks_the_same-requires-clause-one c =
     let asked = c.args.asked.now in
     let reached = c.requires.reached in
-    in_places (lists_of asked) asked.table c.requires.asked.table c.args.tree.now.shape (tree_stands asked c.requires.asked reached.0 c.args.tree.now reached.1.there).shape
+    in_places (lists_of asked) asked.table c.requires.asked.table c.args.tree.now.shape (tree_stands asked c.requires.asked c.args.number c.args.tree.now reached.there).shape
 
 pub asks_the_same-requires-clause-other : goal.asks_the_same-requires-clause-other
 asks_the_same-requires-clause-other c =
     let asked = c.args.asked.now in
-    in_places (lists_of asked) asked.table c.requires.asked.table c.in-Some.other.now.shape (tree_stands asked c.requires.asked c.args.other c.in-Some.other.now (sym c.in-Some.ensures)).shape
+    in_places (lists_of asked) asked.table c.requires.asked.table c.in-Some.owner.now.shape (tree_stands asked c.requires.asked c.args.other c.in-Some.owner.now (sym c.in-Some.ensures)).shape
 
 pub returns-then-asks_the_same-clause-good : goal.returns-then-asks_the_same-clause-good
 returns-then-asks_the_same-clause-good c = λ pair for.
     let asked = c.args.asked.now in
     let tree = c.args.tree.now in
-    let other = c.in-Some.other.now in
+    let other = c.in-Some.owner.now in
     let reached = c.requires.reached in
     let there = sym c.in-Some.ensures in
     let same = c.if-asks_the_same.ensures refl in
     shares_good (lists_of asked) (trees_of asked) pair (tree.line + 1) c.args.other other c.in-Nodes.nodes there c.in-Nodes.is
-    (shared_good asked c.requires.asked reached.0 tree reached.1 c.args.other other c.in-Nodes.nodes
-    (stands_before asked c.requires.asked reached.0 tree reached.1 c.args.other c.requires.shared) there c.in-Nodes.is same.0 same.1 pair for)
+    (shared_good asked c.requires.asked c.args.number tree reached c.args.other other c.in-Nodes.nodes
+    (stands_before asked c.requires.asked c.args.number tree reached c.args.other c.requires.shared) there c.in-Nodes.is same.0 same.1 pair for)
 
 pub bad_node-requires-clause-shape : goal.bad_node-requires-clause-shape
 bad_node-requires-clause-shape c =
     let reached = c.requires.reached in
-    (tree_stands c.args.asked.now c.requires.asked reached.0 c.args.tree.now reached.1.there).shape
+    (tree_stands c.args.asked.now c.requires.asked c.args.number c.args.tree.now reached.there).shape
 
 pub bad_node-requires-clause-room : goal.bad_node-requires-clause-room
 bad_node-requires-clause-room c =
-    rw c.as_slice.ensures (room_for c.args.asked.now c.requires.asked c.args.other c.in-Some.other.now c.in-Nodes.nodes (sym c.in-Some.ensures) c.in-Nodes.is)
+    rw c.as_slice.ensures (room_for c.args.asked.now c.requires.asked c.args.other c.in-Some.owner.now c.in-Nodes.nodes (sym c.in-Some.ensures) c.in-Nodes.is)
 
 pub returns-in-Some-bad_node-clause-good : goal.returns-in-Some-bad_node-clause-good
 returns-in-Some-bad_node-clause-good c = λ pair for.
     let asked = c.args.asked.now in
-    let other = c.in-Some.other.now in
+    let other = c.in-Some.owner.now in
     let there = sym c.in-Some.ensures in
     let bad = rw c.as_slice.ensures at c.in-Some-bad_node.ensures.bad in
     let pre = pre_for asked c.requires.asked c.args.other other c.in-Nodes.nodes there c.in-Nodes.is in
@@ -48,8 +48,16 @@ returns-in-Some-bad_node-clause-good c = λ pair for.
 pub returns-in-None-clause-good : goal.returns-in-None-clause-good
 returns-in-None-clause-good c = λ pair for.
     let asked = c.args.asked.now in
-    let other = c.in-Some.other.now in
+    let other = c.in-Some.owner.now in
     let there = sym c.in-Some.ensures in
     let good = rw c.as_slice.ensures at c.in-None.ensures.bad in
     let pre = pre_for asked c.requires.asked c.args.other other c.in-Nodes.nodes there c.in-Nodes.is in
     shares_good (lists_of asked) (trees_of asked) pair (c.args.tree.now.line + 1) c.args.other other c.in-Nodes.nodes there c.in-Nodes.is (sym (good pair for pre))
+
+pub returns-then-was_walked-clause-good : goal.returns-then-was_walked-clause-good
+returns-then-was_walked-clause-good c = λ pair for.
+    let asked = c.args.asked.now in
+    let owner = c.in-Some.owner.now in
+    let there = sym c.in-Some.ensures in
+    shares_good (lists_of asked) (trees_of asked) pair (c.args.tree.now.line + 1) c.args.other owner c.in-Nodes.nodes there c.in-Nodes.is
+    (c.if-was_walked.ensures refl owner c.in-Nodes.nodes there c.in-Nodes.is pair for)
