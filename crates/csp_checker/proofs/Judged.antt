@@ -25,10 +25,10 @@ use Rattle.csp_checker.specs.declared.asked.Asked.{Asked}
 use Rattle.csp_checker.specs.declared.asked.NumberedPair.{NumberedPair}
 use Rattle.csp_checker.proofs.Formed.{all_at, stands, lines_fit, shared_before}
 use Rattle.csp_checker.proofs.Law.{tree_walk}
-use Rattle.csp_checker.proofs.Lines.{said_alike, none_from, none_at, from_line}
+use Rattle.csp_checker.proofs.Lines.{none_from, none_at, from_line}
 use Rattle.csp_checker.proofs.PairsMade.{all_listed}
-use Rattle.csp_checker.proofs.Tables.{says, said_at, said_the_same}
-use Rattle.csp_checker.proofs.Whole.{kept_by, parts_of, for_it}
+use Rattle.csp_checker.proofs.Tables.{says, said_at}
+use Rattle.csp_checker.proofs.Whole.{parts_of, for_it}
 
 -- the walk by formulas of the tree's shape answers for each pair that the tree is for
 pub judged : (lists : Lists) (table : FormulaTable) → IsTableOf lists table → (pair : Pair) (tree : Tree) → IsFor pair tree
@@ -67,20 +67,6 @@ preorder_of format before b nodes has is = (subst (IsBody format before) has is)
 -- every pair's shape is one
 pub pair_listed : (asked : Asked) (n : ℕ) (pair : Pair) → slice_get (due asked.second.now) n ≡ Some pair → IsTrue (is_shape pair.shape)
 pair_listed asked n pair there = all_at (λ (p : Pair). IsTrue (is_shape p.shape)) (due asked.second.now) n pair (all_listed asked.second.now) there
-
--- nodes of a tree before this one, for the same policy and the same formulas, keep the rules of this one's pair
-pub shared_good : (asked : Asked) → IsAsked asked → (count : ℕ) (tree : Tree) → IsReached asked count tree → (n : ℕ) (other : Tree) (nodes : List Node)
-    → n < count → slice_get (trees_of asked) n ≡ Some other → other.body ≡ body.Nodes nodes
-    → tree.policy ≡ other.policy → slice_get asked.table.places tree.shape ≡ slice_get asked.table.places other.shape
-    → (pair : Pair) → IsFor pair tree → bad_tree (lists_of asked) pair 0 (cases_in nodes) ≡ None
-shared_good asked is count tree reached n other nodes before there has policies places pair for =
-    let lists = lists_of asked in
-    let format = asked.proof.now.format in
-    let own = kept_by lists (trees_of asked) (slice_get (due asked.second.now) n) other nodes (pair_listed asked n) has (reached.before n other before there) in
-    let pre = preorder_of format (take n (trees_of asked)) other.body nodes has (tree_stands asked is n other there).body in
-    let same = said_the_same lists asked.table is.table own.pair pair own.is.listed for.listed (own.is.policy ∙ sym policies ∙ sym for.policy)
-    (ap (slice_get asked.table.places) own.is.shape ∙ sym places ∙ sym (ap (slice_get asked.table.places) for.shape)) in
-    sym (said_alike lists own.pair pair nodes pre same) ∙ own.keeps
 
 -- nodes that are shared stand before the tree
 pub stands_before : (asked : Asked) → IsAsked asked → (count : ℕ) (tree : Tree) → IsReached asked count tree → (n : ℕ) → tree.body ≡ body.Same n → n < count

@@ -61,6 +61,11 @@ pub said_alike : (lists : Lists) (one other : Pair) (nodes : List Node) → IsPr
 said_alike lists one other nodes is same =
     sym (tree_walk lists one 0 nodes is) ∙ ap (λ s. walk s 0 ([] ∷ []) nodes) same ∙ tree_walk lists other 0 nodes is
 
+pub walked_alike : (lists : Lists) (one other : Pair) (nodes : List Node) → IsPreorder nodes
+    → walk (sayings_for lists one) 0 ([] ∷ []) nodes ≡ walk (sayings_for lists other) 0 ([] ∷ []) nodes
+    → bad_tree lists one 0 (cases_in nodes) ≡ bad_tree lists other 0 (cases_in nodes)
+walked_alike lists one other nodes is same = sym (tree_walk lists one 0 nodes is) ∙ same ∙ tree_walk lists other 0 nodes is
+
 pub some_at : (line n : ℕ) (o : Option ℕ) → Some n ≡ o → at_line line o ≡ Some line
 some_at line n (Some m) is = refl
 some_at line n None is = cc is

@@ -1,8 +1,11 @@
 -- What the table and the valuations have for a shape.
-use Rattle.std.proofs.Common.{arith, refl, ◌≡◌, ◌∙◌, sym, ap, subst, ℕ, ◌<◌, zero, suc, List, [], ◌∷◌, length, map, get_or, slice_set}
+use Rattle.std.proofs.Common.{arith, refl, ◌≡◌, ◌∙◌, sym, ap, subst, ℕ, ◌+◌, true, false, ◌<◌, zero, suc, List, [], ◌∷◌, length, map, get_or, slice_set}
 use Rattle.std.specs.Prelude.{Option, Some, None, MatchOption, IsTrue, slice_get, option_and_then}
 use Rattle.std.proofs.lemmas.List.{get_or-map, length-map}
 use Rattle.std.proofs.lemmas.Option.{slice_get_within, get_or_from_slice_get, same_Some}
+use Rattle.std.specs.List.{list_all}
+use Rattle.csp_model.specs.declared.policy.Policy.{Policy}
+use Rattle.csp_atom.specs.declared.atom.Literal.{Literal}
 use Rattle.csp_shape.specs.Numbers.{number, shape_count}
 use Rattle.csp_shape.specs.Shapes.{is_shape}
 use Rattle.csp_shape.specs.declared.shape.Shape.{Shape}
@@ -10,14 +13,16 @@ use Rattle.csp_shape.proofs.Listed.{shape_of_number}
 use Rattle.csp_formula.specs.Sentences.{Sentence}
 use Rattle.csp_proof.specs.Accepts.{Lists, hashes_in}
 use Rattle.csp_proof.specs.Pairs.{Pair}
+use Rattle.csp_proof.specs.declared.proof.Node.{Node}
+use Rattle.csp_proof.specs.declared.proof.Node.TheVariants as node
 use Rattle.csp_table.specs.Tables.{AreAt, said_of}
 use Rattle.csp_table.specs.declared.table.FormulaTable.{FormulaTable}
 use Rattle.csp_valuation.specs.Placed.{sentence_at}
 use Rattle.csp_valuation.specs.Valuations.{Assignment}
 use Rattle.csp_valuation.specs.declared.placing.PlacedFormulas.{PlacedFormulas}
 use Rattle.csp_checker.specs.Asked.{IsTableOf, unused}
-use Rattle.csp_checker.specs.Leaves.{Sayings, sayings_for}
-use Rattle.csp_checker.specs.Walk.{at_root}
+use Rattle.csp_checker.specs.Leaves.{Sayings, keeps_rule, says_surely, sayings_for}
+use Rattle.csp_checker.specs.Walk.{at_root, is_unmet, unless_first, walk, with}
 
 held : {B : Type 0} (P : B → Type 0) (o : Option B) → MatchOption o ⊥ P → (y : B) × (o ≡ Some y) × P y
 held P None has = absurd has
@@ -80,6 +85,31 @@ said_at lists table is pair listed place formulas placed there =
     let place_same : f.place ≡ place = same_Some f.place place (sym f.placed ∙ placed) in
     let same : f.formulas ≡ formulas = same_Some f.formulas formulas (sym f.there ∙ ap (slice_get table.kinds) place_same ∙ there) in
     said_by lists pair formulas (subst (AreAt (hashes_in lists) lists.first lists.second pair.shape) same f.are)
+
+-- what a walk over nodes of which none is met finds is of no one policy
+pub walk_unmet : (one other : Sayings) → one.first ≡ other.first → one.said ≡ other.said
+    → (place : ℕ) (cases : List (List Literal)) (nodes : List Node) → list_all is_unmet nodes ≡ true → walk one place cases nodes ≡ walk other place cases nodes
+walk_unmet one other first said place cases [] unmet = refl
+walk_unmet one other first said place [] (n ∷ nodes) unmet = refl
+walk_unmet one other first said place (ls ∷ cases) (node.Split atom ∷ nodes) unmet =
+    walk_unmet one other first said (place + 1) (with ls atom true ∷ with ls atom false ∷ cases) nodes unmet
+walk_unmet one other first said place (ls ∷ cases) (node.Blocked policy ∷ nodes) unmet =
+    ap (λ (ps : List Policy). unless_first (says_surely false ls (slice_get ps policy) (slice_get one.said policy)) place (walk one (place + 1) cases nodes)) first
+    ∙ ap (λ (ss : List Sentence). unless_first (says_surely false ls (slice_get other.first policy) (slice_get ss policy)) place (walk one (place + 1) cases nodes)) said
+    ∙ ap (unless_first (keeps_rule other ls (node.Blocked policy)) place) (walk_unmet one other first said (place + 1) cases nodes unmet)
+walk_unmet one other first said place (ls ∷ cases) (node.Met ∷ nodes) unmet = cc unmet
+
+-- so it finds the same for pairs whose shapes have one place
+pub walk_for_any : (lists : Lists) (table : FormulaTable) → IsTableOf lists table → (one other : Pair) → IsTrue (is_shape one.shape) → IsTrue (is_shape other.shape)
+    → slice_get table.places (number one.shape) ≡ slice_get table.places (number other.shape) → (nodes : List Node) → list_all is_unmet nodes ≡ true
+    → walk (sayings_for lists one) 0 ([] ∷ []) nodes ≡ walk (sayings_for lists other) 0 ([] ∷ []) nodes
+walk_for_any lists table is one other one_listed other_listed places nodes unmet =
+    let f = found lists table is one.shape one_listed in
+    let first = map (sentence_at f.formulas.atoms) f.formulas.first in
+    let second = map (sentence_at f.formulas.atoms) f.formulas.second in
+    ap (λ (s : Sayings). walk s 0 ([] ∷ []) nodes) (sym (said_at lists table is one one_listed f.place f.formulas f.placed f.there))
+    ∙ walk_unmet (says lists one.policy first second) (says lists other.policy first second) refl refl 0 ([] ∷ []) nodes unmet
+    ∙ ap (λ (s : Sayings). walk s 0 ([] ∷ []) nodes) (said_at lists table is other other_listed f.place f.formulas (sym places ∙ f.placed) f.there)
 
 -- pairs of one policy whose shapes have one place are told the same
 pub said_the_same : (lists : Lists) (table : FormulaTable) → IsTableOf lists table → (one other : Pair) → IsTrue (is_shape one.shape) → IsTrue (is_shape other.shape)

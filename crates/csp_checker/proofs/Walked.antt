@@ -1,18 +1,23 @@
--- Nodes that an earlier tree shares, which asks the same, keep the rules of this tree's pair too.
+-- Nodes that keep the rules of an earlier tree's pair keep those of this tree's, where both ask the same.
 use Rattle.std.proofs.Common.{refl, ◌≡◌, ◌∙◌, sym, ap, ℕ, ◌+◌, ◌<◌, Bool, true, false, List}
 use Rattle.std.specs.Prelude.{Option, Some, None, IsTrue, slice_get}
+use Rattle.std.specs.List.{list_all}
+use Rattle.std.specs.Option.{option_map}
+use Rattle.std.proofs.lemmas.Option.{slice_get-map, same_Some}
+use Rattle.csp_shape.specs.Numbers.{number}
 use Rattle.csp_shape.specs.Shapes.{is_shape}
 use Rattle.csp_proof.specs.Accepts.{Lists, cases_in, bad_tree, at_line, bad_body, is_for}
 use Rattle.csp_proof.specs.Pairs.{Pair}
 use Rattle.csp_proof.specs.declared.proof.Body.TheVariants as body
 use Rattle.csp_proof.specs.declared.proof.Node.{Node}
 use Rattle.csp_proof.specs.declared.proof.Tree.{Tree}
-use Rattle.csp_checker.specs.Asked.{IsAsked, IsReached, KeepsFor, bad_in, due, lists_of, trees_of}
+use Rattle.csp_checker.specs.Asked.{IsAsked, IsFor, IsReached, KeepsFor, bad_in, due, lists_of, trees_of}
 use Rattle.csp_checker.specs.declared.asked.Asked.{Asked}
 use Rattle.csp_checker.proofs.Judged.{pair_listed, pre_for, shares_nodes}
-use Rattle.csp_checker.proofs.Lines.{said_alike, none_at_all}
-use Rattle.csp_checker.proofs.Tables.{said_the_same}
-use Rattle.csp_checker.proofs.Whole.{KeptBy, parts_of, passes}
+use Rattle.csp_checker.proofs.Lines.{said_alike, walked_alike, none_at_all}
+use Rattle.csp_checker.proofs.Tables.{said_the_same, walk_for_any}
+use Rattle.csp_checker.proofs.Whole.{KeptBy, kept_by, parts_of, passes}
+use Rattle.csp_checker.specs.Walk.{is_unmet, is_unmet_below}
 
 nowhere : (line : ℕ) (o : Option ℕ) → at_line line o ≡ None → o ≡ None
 nowhere line None none = refl
@@ -33,14 +38,54 @@ kept_shared lists trees (Some pair) tree n owner nodes listed shares there has g
       keeps = none_at_all lists pair (tree.line + 1) (cases_in nodes) (nowhere (tree.line + 1) (bad_tree lists pair (tree.line + 1) (cases_in nodes)) none);
     }
 
-pub walked_good : (asked : Asked) → IsAsked asked → (count : ℕ) (tree : Tree) → IsReached asked count tree
+-- the nodes that are for any policy, by what is kept of the trees
+unmet_nodes : (asked : Asked) → IsAsked asked → (n : ℕ) (owner : Tree) (nodes : List Node) → slice_get (trees_of asked) n ≡ Some owner
+    → owner.body ≡ body.Nodes nodes → slice_get asked.unmet.items n ≡ Some true → list_all is_unmet nodes ≡ true
+unmet_nodes asked is n owner nodes there has any =
+    let told = ap (λ (bs : List Bool). slice_get bs n) is.unmet ∙ slice_get-map (λ (tree : Tree). is_unmet_below tree.body) (trees_of asked) n
+    ∙ ap (option_map (λ (tree : Tree). is_unmet_below tree.body)) there in
+    sym (ap is_unmet_below has) ∙ same_Some (is_unmet_below owner.body) true (sym told ∙ any)
+
+-- what keeps the rules of one pair keeps those of the other, where the same is asked
+alike : (asked : Asked) → IsAsked asked → (for_any : Bool) (n : ℕ) (owner : Tree) (nodes : List Node) → slice_get (trees_of asked) n ≡ Some owner
+    → owner.body ≡ body.Nodes nodes → (for_any ≡ true → slice_get asked.unmet.items n ≡ Some true)
+    → (one other : Pair) → IsTrue (is_shape one.shape) → IsTrue (is_shape other.shape) → (for_any ≡ false → one.policy ≡ other.policy)
+    → slice_get asked.table.places (number one.shape) ≡ slice_get asked.table.places (number other.shape)
+    → bad_tree (lists_of asked) one 0 (cases_in nodes) ≡ bad_tree (lists_of asked) other 0 (cases_in nodes)
+alike asked is true n owner nodes there has any one other one_listed other_listed policies places =
+    walked_alike (lists_of asked) one other nodes (pre_for asked is n owner nodes there has)
+    (walk_for_any (lists_of asked) asked.table is.table one other one_listed other_listed places nodes (unmet_nodes asked is n owner nodes there has (any refl)))
+alike asked is false n owner nodes there has any one other one_listed other_listed policies places =
+    said_alike (lists_of asked) one other nodes (pre_for asked is n owner nodes there has)
+    (said_the_same (lists_of asked) asked.table is.table one other one_listed other_listed (policies refl) places)
+
+-- what is kept for an earlier tree's pair is kept for this one's, where both trees ask the same
+passed_on : (asked : Asked) → IsAsked asked → (for_any : Bool) (tree earlier : Tree) (n : ℕ) (owner : Tree) (nodes : List Node)
+    → slice_get (trees_of asked) n ≡ Some owner → owner.body ≡ body.Nodes nodes → (for_any ≡ true → slice_get asked.unmet.items n ≡ Some true)
+    → (for_any ≡ false → tree.policy ≡ earlier.policy) → slice_get asked.table.places tree.shape ≡ slice_get asked.table.places earlier.shape
+    → KeptBy (lists_of asked) earlier nodes → (pair : Pair) → IsFor pair tree → bad_tree (lists_of asked) pair 0 (cases_in nodes) ≡ None
+passed_on asked is for_any tree earlier n owner nodes there has any policies places own pair for =
+    sym (alike asked is for_any n owner nodes there has any own.pair pair own.is.listed for.listed
+    (λ one. own.is.policy ∙ sym (policies one) ∙ sym for.policy)
+    (ap (slice_get asked.table.places) own.is.shape ∙ sym places ∙ sym (ap (slice_get asked.table.places) for.shape)))
+    ∙ own.keeps
+
+-- nodes of a tree before this one
+pub owned_good : (asked : Asked) → IsAsked asked → (for_any : Bool) (count : ℕ) (tree : Tree) → IsReached asked count tree
+    → (n : ℕ) (owner : Tree) (nodes : List Node) → n < count → slice_get (trees_of asked) n ≡ Some owner → owner.body ≡ body.Nodes nodes
+    → (for_any ≡ true → slice_get asked.unmet.items n ≡ Some true)
+    → (for_any ≡ false → tree.policy ≡ owner.policy) → slice_get asked.table.places tree.shape ≡ slice_get asked.table.places owner.shape
+    → (pair : Pair) → IsFor pair tree → bad_tree (lists_of asked) pair 0 (cases_in nodes) ≡ None
+owned_good asked is for_any count tree reached n owner nodes before there has any policies places =
+    passed_on asked is for_any tree owner n owner nodes there has any policies places
+    (kept_by (lists_of asked) (trees_of asked) (slice_get (due asked.second.now) n) owner nodes (pair_listed asked n) has (reached.before n owner before there))
+
+-- nodes that a tree before this one shares
+pub walked_good : (asked : Asked) → IsAsked asked → (for_any : Bool) (count : ℕ) (tree : Tree) → IsReached asked count tree
     → (k : ℕ) (earlier : Tree) (n : ℕ) → k < count → slice_get (trees_of asked) k ≡ Some earlier → earlier.body ≡ body.Same n
-    → tree.policy ≡ earlier.policy → slice_get asked.table.places tree.shape ≡ slice_get asked.table.places earlier.shape
+    → (for_any ≡ true → slice_get asked.unmet.items n ≡ Some true)
+    → (for_any ≡ false → tree.policy ≡ earlier.policy) → slice_get asked.table.places tree.shape ≡ slice_get asked.table.places earlier.shape
     → KeepsFor asked tree n
-walked_good asked is count tree reached k earlier n before placed shares policies places = λ owner nodes there has pair for.
-    let lists = lists_of asked in
-    let own = kept_shared lists (trees_of asked) (slice_get (due asked.second.now) k) earlier n owner nodes (pair_listed asked k) shares there has (reached.before k earlier before placed) in
-    let pre = pre_for asked is n owner nodes there has in
-    let same = said_the_same lists asked.table is.table own.pair pair own.is.listed for.listed (own.is.policy ∙ sym policies ∙ sym for.policy)
-    (ap (slice_get asked.table.places) own.is.shape ∙ sym places ∙ sym (ap (slice_get asked.table.places) for.shape)) in
-    sym (said_alike lists own.pair pair nodes pre same) ∙ own.keeps
+walked_good asked is for_any count tree reached k earlier n before placed shares any policies places = λ owner nodes there has.
+    passed_on asked is for_any tree earlier n owner nodes there has any policies places
+    (kept_shared (lists_of asked) (trees_of asked) (slice_get (due asked.second.now) k) earlier n owner nodes (pair_listed asked k) shares there has (reached.before k earlier before placed))

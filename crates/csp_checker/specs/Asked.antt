@@ -14,7 +14,7 @@ use Rattle.csp_table.specs.Tables.{AreAt, formulas_at}
 use Rattle.csp_table.specs.declared.table.FormulaTable.{FormulaTable}
 use Rattle.csp_valuation.specs.Valuations.{Assignment}
 use Rattle.csp_valuation.specs.declared.placing.PlacedFormulas.{PlacedFormulas}
-use Rattle.csp_checker.specs.Walk.{splits_below, at_root}
+use Rattle.csp_checker.specs.Walk.{splits_below, is_unmet_below, at_root}
 use Rattle.csp_checker.specs.declared.asked.Asked.{Asked}
 use Rattle.csp_checker.specs.declared.asked.NumberedPair.{NumberedPair}
 
@@ -44,6 +44,7 @@ pub record IsAsked (asked : Asked) : Type 0 where
   pub table : IsTableOf (lists_of asked) asked.table
   pub pairs : asked.pairs.items ≡ map numbered (due asked.second.now)
   pub room : All (λ (tree : Tree). splits_below tree.body ≤ asked.room) (trees_of asked)
+  pub unmet : asked.unmet.items ≡ map (λ (tree : Tree). is_unmet_below tree.body) (trees_of asked)
 
 -- the valuation of the atoms of these formulas, at the root
 abbrev pub unused : ℕ → PlacedFormulas → Assignment

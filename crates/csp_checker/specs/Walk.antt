@@ -1,4 +1,5 @@
 -- The walk over the nodes of a tree, by the cases that are still to come.
+use Rattle.std.specs.List.{list_all}
 use Rattle.std.specs.Prelude.{ℕ, ◌+◌, Bool, true, false, List, [], ◌∷◌, ◌++◌, Option, Some, None}
 use Rattle.csp_atom.specs.declared.atom.Atom.{Atom}
 use Rattle.csp_atom.specs.declared.atom.Literal.{Literal}
@@ -24,6 +25,16 @@ splits (node.Met ∷ nodes) = splits nodes
 abbrev pub splits_below : Body → ℕ
 splits_below (body.Nodes nodes) = splits nodes
 splits_below (body.Same tree) = 0
+
+-- no node of a tree is met: what its leaves claim is of no policy of the second list
+abbrev pub is_unmet : Node → Bool
+is_unmet (node.Split atom) = true
+is_unmet (node.Blocked policy) = true
+is_unmet node.Met = false
+
+abbrev pub is_unmet_below : Body → Bool
+is_unmet_below (body.Nodes nodes) = list_all is_unmet nodes
+is_unmet_below (body.Same tree) = false
 
 -- the case that waits where a literal stands: the other one of its split, until that is taken
 abbrev pub waits : List Literal → Atom → Bool → List (List Literal)

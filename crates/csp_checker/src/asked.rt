@@ -22,4 +22,6 @@ pub(crate) struct Asked<'a> {
     pub pairs: Vec<NumberedPair>,
     // No tree has more splits.
     pub room: usize,
+    // For each tree whether it has nodes of its own, of which none is met: they are for any policy.
+    pub unmet: Vec<bool>,
 }

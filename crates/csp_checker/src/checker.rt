@@ -7,7 +7,7 @@ ghost use Rattle.csp_proof.specs.WellFormed.{IsWellFormed};
 ghost use Rattle.csp_checker.specs.Checked.{Claim};
 
 use crate::asked::Asked;
-use crate::making::{most_splits, pairs_of, valuations_of};
+use crate::making::{most_splits, pairs_of, unmet_of, valuations_of};
 use crate::trees::first_bad_line;
 use csp_atom::vocabulary_of;
 use csp_model::{Memory, PolicyList};
@@ -69,6 +69,7 @@ impl<'a> Checker<'a> {
         let pairs = pairs_of(alloc, second)?;
         let _last_line = proof.last_line;
         let room = most_splits(proof.trees.as_slice());
+        let unmet = unmet_of(alloc, proof.trees.as_slice())?;
         let valuations = valuations_of(alloc, table.kinds.as_slice(), room)?;
         let asked = Asked {
             first,
@@ -77,6 +78,7 @@ impl<'a> Checker<'a> {
             table,
             pairs,
             room,
+            unmet,
         };
         Ok(Checker { asked, valuations })
     }

@@ -1,15 +1,16 @@
 //! Makes what a checker walks with. All memory is taken here.
 ghost use Rattle.std.specs.Prelude.{◌≡◌, ◌≤◌, ◌++◌, All, IfOk, List as Items, OnOk, length, map};
+ghost use Rattle.std.specs.List.{list_all};
 ghost use Rattle.csp_model.specs.Policies.{policy_limit};
 ghost use Rattle.csp_proof.specs.Pairs as accepts;
 ghost use Rattle.csp_proof.specs.declared.proof.Tree.{Tree as TreeValue};
 ghost use Rattle.csp_checker.specs.Asked.{due, numbered, unused};
-ghost use Rattle.csp_checker.specs.Walk.{splits_below};
+ghost use Rattle.csp_checker.specs.Walk.{is_unmet, is_unmet_below, splits_below};
 
 use crate::asked::NumberedPair;
 use crate::walk::splits;
 use csp_model::{Disposition, Duplicate, Memory, PolicyList};
-use csp_proof::{Body, Tree};
+use csp_proof::{Body, Node, Tree};
 use csp_valuation::{PlacedFormulas, Valuation};
 use std::alloc::Global;
 
@@ -81,6 +82,42 @@ fn greater(one: usize, other: usize) -> usize
     ensures second { other ≤ result }
 {
     if one < other { other } else { one }
+}
+
+fn is_unmet(node: &Node) -> bool
+    ensures { result ≡ is_unmet node.now }
+{
+    match node {
+        Node::Met => false,
+        Node::Split { .. } | Node::Blocked { .. } => true,
+    }
+}
+
+fn are_unmet(nodes: &[Node]) -> bool
+    ensures { result ≡ list_all is_unmet nodes.now }
+{
+    nodes.iter().all(|node| is_unmet(node))
+}
+
+fn is_unmet_below(body: &Body) -> bool
+    ensures { result ≡ is_unmet_below body.now }
+{
+    match body {
+        Body::Nodes { nodes } => are_unmet(nodes.as_slice()),
+        Body::Same { .. } => false,
+    }
+}
+
+// For each tree whether it has nodes of its own, of which none is met.
+pub(crate) fn unmet_of(alloc: Global, trees: &[Tree]) -> Result<Vec<bool>, Memory>
+    ensures { IfOk result
+        (λ made. made.items ≡ map (λ (tree : TreeValue). is_unmet_below tree.body) trees.now) }
+{
+    let mut unmet = Vec::with_capacity(alloc, trees.len())?;
+    for tree in trees {
+        unmet.push(is_unmet_below(&tree.body))?;
+    }
+    Ok(unmet)
 }
 
 // A valuation for each kind of formulas, with room for so many literals.

@@ -9,7 +9,7 @@ ghost use Rattle.csp_checker.specs.Asked.{AreFor, IsAsked, IsFor, IsReached, bad
 ghost use Rattle.csp_checker.specs.Walk.{splits};
 
 use crate::asked::{Asked, NumberedPair};
-use crate::before::{asks_the_same, place_of, was_walked};
+use crate::before::{are_for_any, asks_the_same, place_of, was_walked};
 use crate::leaf::Judge;
 use crate::walk::first_bad;
 use csp_proof::{Body, Node, Tree};
@@ -100,8 +100,8 @@ fn bad_below<'a>(
 }
 
 // Whether the tree of the other number has nodes that keep their rules in this tree too. Nodes that were
-// walked for the same policy and the same formulas aren't walked again, unless they are fewer than the trees
-// that would be looked at.
+// walked for the same formulas, and for the same policy or with no leaf that is met, aren't walked again,
+// unless there are so few that a look at the trees before takes longer.
 fn shares_good_nodes<'a>(
     asked: &Asked<'a>,
     number: usize,
@@ -123,10 +123,11 @@ fn shares_good_nodes<'a>(
     };
     match &owner.body {
         Body::Nodes { nodes } => {
-            if asks_the_same(&asked.table, tree, owner) {
+            let for_any = are_for_any(asked, other);
+            if asks_the_same(&asked.table, tree, owner, for_any) {
                 return true;
             }
-            if nodes.len() > number && was_walked(asked, number, tree, other) {
+            if nodes.len() > number / 64 && was_walked(asked, number, tree, other, for_any) {
                 return true;
             }
             match bad_node(asked, tree, nodes.as_slice(), valuations) {

@@ -1,4 +1,4 @@
-use Rattle.std.proofs.Common.{arith, refl, sym, ap, ◌<◌, length}
+use Rattle.std.proofs.Common.{arith, refl, ap, ◌<◌, length}
 use Rattle.std.proofs.lemmas.Option.{slice_get_within}
 use Rattle.csp_checker.specs.Asked.{lists_of, trees_of}
 use Rattle.csp_checker.proofs.Judged.{tree_stands, tree_here}
@@ -38,5 +38,4 @@ returns-then-asks_the_same c = λ _.
     let long = ap length c.as_slice-trees.ensures in
     let inside : place < length c.as_slice-trees.result.now = omega (arith, within, long, c.loop-place-test.true) in
     let there = tree_here asked c.as_slice-trees.result.now place earlier c.as_slice-trees.ensures inside c.index-trees-place.is in
-    let same = c.if-asks_the_same.ensures refl in
-    walked_good asked c.requires.asked c.args.number c.args.tree.now c.requires.reached place earlier c.args.other c.loop-place-test.true there (c.if-shares.ensures refl) same.0 same.1
+    walked_good asked c.requires.asked c.args.for_any c.args.number c.args.tree.now c.requires.reached place earlier c.args.other c.loop-place-test.true there (c.if-shares.ensures refl) c.requires.any (c.if-asks_the_same.ensures.policy refl) (c.if-asks_the_same.ensures.formulas refl)

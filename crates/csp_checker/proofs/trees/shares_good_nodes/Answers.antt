@@ -1,7 +1,8 @@
 use Rattle.std.proofs.Common.{refl, sym, ◌+◌}
 use Rattle.csp_checker.specs.Asked.{lists_of, trees_of}
-use Rattle.csp_checker.proofs.Judged.{tree_stands, stands_before, room_for, pre_for, shared_good, shares_good, shares_bad}
+use Rattle.csp_checker.proofs.Judged.{tree_stands, stands_before, room_for, pre_for, shares_good, shares_bad}
 use Rattle.csp_checker.proofs.Tables.{in_places}
+use Rattle.csp_checker.proofs.Walked.{owned_good}
 use Rattle.csp_checker.proofs.trees.shares_good_nodes.Goals as goal
 
 pub asks_the_same-requires-clause-one : goal.asks_the_same-requires-clause-one
@@ -19,13 +20,13 @@ pub returns-then-asks_the_same-clause-good : goal.returns-then-asks_the_same-cla
 returns-then-asks_the_same-clause-good c = λ pair for.
     let asked = c.args.asked.now in
     let tree = c.args.tree.now in
-    let other = c.in-Some.owner.now in
+    let owner = c.in-Some.owner.now in
     let reached = c.requires.reached in
     let there = sym c.in-Some.ensures in
-    let same = c.if-asks_the_same.ensures refl in
-    shares_good (lists_of asked) (trees_of asked) pair (tree.line + 1) c.args.other other c.in-Nodes.nodes there c.in-Nodes.is
-    (shared_good asked c.requires.asked c.args.number tree reached c.args.other other c.in-Nodes.nodes
-    (stands_before asked c.requires.asked c.args.number tree reached c.args.other c.requires.shared) there c.in-Nodes.is same.0 same.1 pair for)
+    shares_good (lists_of asked) (trees_of asked) pair (tree.line + 1) c.args.other owner c.in-Nodes.nodes there c.in-Nodes.is
+    (owned_good asked c.requires.asked c.are_for_any-for_any.result c.args.number tree reached c.args.other owner c.in-Nodes.nodes
+    (stands_before asked c.requires.asked c.args.number tree reached c.args.other c.requires.shared) there c.in-Nodes.is
+    (λ any. c.are_for_any-for_any.ensures any) (c.if-asks_the_same.ensures.policy refl) (c.if-asks_the_same.ensures.formulas refl) pair for)
 
 pub bad_node-requires-clause-shape : goal.bad_node-requires-clause-shape
 bad_node-requires-clause-shape c =
@@ -39,20 +40,20 @@ bad_node-requires-clause-room c =
 pub returns-in-Some-bad_node-clause-good : goal.returns-in-Some-bad_node-clause-good
 returns-in-Some-bad_node-clause-good c = λ pair for.
     let asked = c.args.asked.now in
-    let other = c.in-Some.owner.now in
+    let owner = c.in-Some.owner.now in
     let there = sym c.in-Some.ensures in
     let bad = rw c.as_slice.ensures at c.in-Some-bad_node.ensures.bad in
-    let pre = pre_for asked c.requires.asked c.args.other other c.in-Nodes.nodes there c.in-Nodes.is in
-    shares_bad (lists_of asked) (trees_of asked) pair (c.args.tree.now.line + 1) c.args.other other c.in-Nodes.nodes c.in-Some-bad_node.field-0 there c.in-Nodes.is (sym (bad pair for pre))
+    let pre = pre_for asked c.requires.asked c.args.other owner c.in-Nodes.nodes there c.in-Nodes.is in
+    shares_bad (lists_of asked) (trees_of asked) pair (c.args.tree.now.line + 1) c.args.other owner c.in-Nodes.nodes c.in-Some-bad_node.field-0 there c.in-Nodes.is (sym (bad pair for pre))
 
 pub returns-in-None-clause-good : goal.returns-in-None-clause-good
 returns-in-None-clause-good c = λ pair for.
     let asked = c.args.asked.now in
-    let other = c.in-Some.owner.now in
+    let owner = c.in-Some.owner.now in
     let there = sym c.in-Some.ensures in
     let good = rw c.as_slice.ensures at c.in-None.ensures.bad in
-    let pre = pre_for asked c.requires.asked c.args.other other c.in-Nodes.nodes there c.in-Nodes.is in
-    shares_good (lists_of asked) (trees_of asked) pair (c.args.tree.now.line + 1) c.args.other other c.in-Nodes.nodes there c.in-Nodes.is (sym (good pair for pre))
+    let pre = pre_for asked c.requires.asked c.args.other owner c.in-Nodes.nodes there c.in-Nodes.is in
+    shares_good (lists_of asked) (trees_of asked) pair (c.args.tree.now.line + 1) c.args.other owner c.in-Nodes.nodes there c.in-Nodes.is (sym (good pair for pre))
 
 pub returns-then-was_walked-clause-good : goal.returns-then-was_walked-clause-good
 returns-then-was_walked-clause-good c = λ pair for.

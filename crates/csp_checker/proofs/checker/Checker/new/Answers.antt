@@ -20,6 +20,7 @@ invariant_of-result c =
         table = λ kind listed. subst (λ (hashes : List Hash). MatchOption (formulas_at table kind) ⊥ (AreAt hashes first second kind)) c.in_ok-vocabulary.ensures.hashes (c.in_ok-table.ensures kind listed);
         pairs = c.in_ok-pairs.ensures;
         room = rw c.as_slice.ensures at c.most_splits-room.ensures;
+        unmet = rw c.as_slice-2.ensures at c.in_ok-unmet.ensures;
       },
-      ap (map at_root) (c.in_ok-valuations.ensures ∙ ap (map (unused c.most_splits-room.result)) c.as_slice-2.ensures) ∙ unused_at_root c.most_splits-room.result table.kinds,
+      ap (map at_root) (c.in_ok-valuations.ensures ∙ ap (map (unused c.most_splits-room.result)) c.as_slice-3.ensures) ∙ unused_at_root c.most_splits-room.result table.kinds,
     )
