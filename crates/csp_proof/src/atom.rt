@@ -37,12 +37,27 @@ fn host_of(alloc: Global, text: &str) -> Result<Option<Host>, Memory>
     }
 }
 
+// The pieces, in no more room than they take: there may be many paths. A short list is copied, since what it
+// would give back where it stands is of little use; a long one would be held twice.
+fn without_spare(alloc: Global, pieces: List<Bytes>) -> Result<List<Bytes>, Memory>
+    ensures { IfOk result (λ kept. kept ≡ pieces) }
+{
+    let mut pieces = pieces.into_vec();
+    if pieces.len() > 256 {
+        pieces.shrink_to_fit();
+        return Ok(List::from_vec(pieces));
+    }
+    let mut kept = Vec::with_capacity(alloc, pieces.len())?;
+    kept.append(&mut pieces)?;
+    Ok(List::from_vec(kept))
+}
+
 #[tactic(auto, using(crate::proofs::UrlParts::path_found))]
 fn path_of(alloc: Global, text: &str) -> Result<Option<List<Bytes>>, Memory>
     ensures { IfOk result (λ found. found ≡ url_spec.found_path text.now) }
 {
     match parts_of(alloc, "a", text)? {
-        Some((_, path)) => Ok(Some(path)),
+        Some((_, path)) => Ok(Some(without_spare(alloc, path)?)),
         None => Ok(None),
     }
 }
