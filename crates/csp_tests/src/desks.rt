@@ -150,6 +150,27 @@ fn a_refusal_stops_a_desk(rt: HostRuntime) -> Result<(), Fail> {
     Ok(())
 }
 
+// Where the first refuses at once, nobody holds anything.
+#[test]
+fn a_refusal_of_the_first_violation(rt: HostRuntime) -> Result<(), Fail> {
+    let alloc = rt.alloc();
+    let mut desk: Vec<Box<dyn Reporter>> = Vec::new(alloc);
+    let mut failing = List::new(alloc);
+    failing.push(0)?;
+    desk.push(Box::new(alloc, FailingLines::new(alloc, failing))?)?;
+    desk.push(Box::new(alloc, Tally::new(alloc))?)?;
+    let one = violations(alloc, &[Name::ImgSrc])?;
+    assert_eq!(rt;
+        hand_out(alloc, &mut desk, &one),
+        Err(DeskError::Refused { reporter: 1 })
+    );
+    assert_eq!(rt;
+        texts_of(alloc, &desk)?.as_slice(),
+        b"reporter lines\nreporter tally\n".as_slice()
+    );
+    Ok(())
+}
+
 // A reporter of this crate's own.
 #[test]
 fn a_reporter_may_be_a_callers_own(rt: HostRuntime) -> Result<(), Fail> {

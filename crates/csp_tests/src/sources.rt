@@ -154,3 +154,46 @@ fn a_host_source_with_every_part(rt: HostRuntime) -> Result<(), Fail> {
     drop(found);
     Ok(())
 }
+
+// Whether a source is this host, or any, with this port, and nothing else.
+fn is_bare(source: &Source, host: Option<&str>, port: PortPart) -> bool {
+    match source {
+        Source::Hosted {
+            scheme: None,
+            host: HostPart::Exact(text),
+            port: found,
+            path: PathPart::Absent,
+        } => host == Some(text.as_str()) && *found == port,
+        Source::Hosted {
+            scheme: None,
+            host: HostPart::Any,
+            port: found,
+            path: PathPart::Absent,
+        } => host.is_none() && *found == port,
+        _ => false,
+    }
+}
+
+// A token, its host, which is any where none is named, and its port.
+const BARE: [(&str, Option<&str>, PortPart); 5] = [
+    ("self", Some("self"), PortPart::Absent),
+    ("a.example.", Some("a.example."), PortPart::Absent),
+    ("*:*", None, PortPart::Any),
+    ("a.example:65536", Some("a.example"), PortPart::TooLarge),
+    (
+        "a.example:9999999999999999999999999999999999999999",
+        Some("a.example"),
+        PortPart::TooLarge,
+    ),
+];
+
+#[test]
+fn hosts_without_a_scheme_or_a_path(rt: HostRuntime) -> Result<(), Fail> {
+    for &(token, host, port) in &BARE {
+        let found = source(&rt, token)?;
+        let is_so = is_bare(&found, host, port);
+        drop(found);
+        assert!(rt; is_so, "{token}");
+    }
+    Ok(())
+}
