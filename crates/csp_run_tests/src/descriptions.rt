@@ -1,4 +1,5 @@
-//! Descriptions that are refused, and the members that they are refused for.
+//! Descriptions that are refused, and the members that they are refused for; a file that ends early.
+use crate::kinds::SCRIPTS;
 use crate::runs::{WORDS, judged};
 use csp_run::Status;
 use std::alloc::Global;
@@ -205,5 +206,22 @@ fn long_files(rt: HostRuntime) -> Result<(), Fail> {
         assert_eq!(rt; found, status);
         assert_eq!(rt; written.as_slice(), text.as_bytes());
     }
+    Ok(())
+}
+
+// Cut before each of its bytes, also the last, a request file is no array.
+#[test]
+fn requests_cut_short(rt: HostRuntime) -> Result<(), Fail> {
+    let mut cut = String::new(rt.alloc());
+    for next in SCRIPTS.chars() {
+        let (status, written) = judged(rt.alloc(), &WORDS, "", cut.as_str())?;
+        assert_eq!(rt; status, Status::BadRequests, "before {next}");
+        assert_eq!(rt;
+            written.as_slice(),
+            b"bad requests: not a JSON array\n".as_slice()
+        );
+        cut.push(next)?;
+    }
+    assert_eq!(rt; cut.as_str(), SCRIPTS);
     Ok(())
 }

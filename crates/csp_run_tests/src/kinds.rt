@@ -6,6 +6,13 @@ use std::test::Fail;
 // A policy file, a request file, the status and what is written.
 type Row = (&'static str, &'static str, Status, &'static str);
 
+// Scripts that the parser inserts and that it doesn't.
+pub(crate) const SCRIPTS: &str = r#"[
+    {"kind":"fetch","destination":"script","url":"https://b.example/s.js","parser-inserted":true},
+    {"kind":"fetch","destination":"script","url":"https://b.example/s.js"},
+    {"kind":"fetch","destination":"script","url":"https://b.example/s.js",
+     "parser-inserted":true,"nonce":"abc"}]"#;
+
 // Fetches: paths, redirects, nonces, integrity, `'strict-dynamic'` and responses.
 const FETCHES: [Row; 12] = [
     (
@@ -31,11 +38,7 @@ const FETCHES: [Row; 12] = [
     ),
     (
         "Content-Security-Policy: script-src 'strict-dynamic' 'nonce-abc' https:",
-        r#"[{"kind":"fetch","destination":"script","url":"https://b.example/s.js",
-             "parser-inserted":true},
-            {"kind":"fetch","destination":"script","url":"https://b.example/s.js"},
-            {"kind":"fetch","destination":"script","url":"https://b.example/s.js",
-             "parser-inserted":true,"nonce":"abc"}]"#,
+        SCRIPTS,
         Status::Found,
         "1 blocked 0:enforce:script-src-elem/script-src\n2 allowed\n3 allowed\n",
     ),

@@ -27,6 +27,17 @@ fn reported(
     requests: &str,
     reporters: &[Lent],
 ) -> Result<(Status, Bytes), Memory> {
+    reported_into(alloc, policy, requests, reporters, 2000)
+}
+
+// The same byte by byte into a sink of this room.
+fn reported_into(
+    alloc: Global,
+    policy: &str,
+    requests: &str,
+    reporters: &[Lent],
+    room: usize,
+) -> Result<(Status, Bytes), Memory> {
     let mut desk: Vec<Box<dyn Reporter>> = Vec::new(alloc);
     for lent in reporters {
         match *lent {
@@ -44,7 +55,7 @@ fn reported(
     }
     let words = texts(alloc, &WORDS)?;
     let mut files = inputs(alloc, policy, requests, &[])?;
-    let mut out = MemorySink::new(alloc, 2000, 64, List::new(alloc))?;
+    let mut out = MemorySink::new(alloc, room, 1, List::new(alloc))?;
     let status = run(alloc, &words, &mut files, &mut out, &mut desk);
     Ok((status, Bytes::new(alloc, out.taken())?))
 }
@@ -170,6 +181,17 @@ fn reports(rt: HostRuntime) -> Result<(), Fail> {
             text,
             "of {policy}, {requests}, {reporters:?}"
         );
+    }
+    Ok(())
+}
+
+#[test]
+fn a_full_sink_holds_a_prefix(rt: HostRuntime) -> Result<(), Fail> {
+    let text = SCRIPT_REPORT.as_bytes();
+    for room in 0..text.len() {
+        let (status, taken) = reported_into(rt.alloc(), SELF, SCRIPT, &BOTH, room)?;
+        assert_eq!(rt; status, Status::WriteFault, "{room}");
+        assert_eq!(rt; taken.as_slice(), &text[..room], "{room}");
     }
     Ok(())
 }
