@@ -51,8 +51,8 @@ fn second_formula<'f>(question: Question<'f>) -> Option<&'f PlacedFormula>
     )
 }
 
-// Where a formula stands. Where there is none, as of a policy that isn't enforced, it has the other value than the
-// one that would end a branch.
+// Where a formula stands. Where there is none, as of a policy that isn't enforced, it has the other value
+// than the one that would end a branch.
 fn standing_of(formula: Option<&PlacedFormula>, ending: bool, valuation: &Valuation) -> Standing
     ensures value { is_surely ending (value_in result) ≡ spec.is_surely_at
         valuation.now.literals valuation.now.atoms ending (option_copied formula.entry) }
@@ -98,8 +98,8 @@ fn second_standing(question: Question, valuation: &Valuation) -> Standing
 pub(crate) enum Step {
     // A leaf ends the branch.
     Close { leaf: Node },
-    // The policy of the second list waits on the atom at this place, or else the first one of the first list that
-    // isn't decided.
+    // The policy of the second list waits on the atom at this place, or else the first one of the first list
+    // that isn't decided.
     Split { place: usize },
     // No leaf may end the branch, and no policy waits on an atom.
     Leave,

@@ -17,8 +17,8 @@ pub enum Standing {
     Open { place: usize },
 }
 
-// What the path of the valuation decides of a formula. It waits on the first fact that the path decides as little
-// as the parts that the fact stands in.
+// What the path of the valuation decides of a formula. It waits on the first fact that the path decides
+// as little as the parts that the fact stands in.
 #[cycle(standing_under)]
 #[tactic(auto, using(crate::proofs::Values::values))]
 pub(crate) fn standing_under(valuation: &Valuation, formula: &PlacedFormula) -> Standing

@@ -143,8 +143,8 @@ impl<'a> Valuation<'a> {
         }
     }
 
-    /// The value of the formula, where the path decides it. Else the place of a fact that the path doesn't decide,
-    /// nor any part of the formula that the fact stands in.
+    /// The value of the formula, where the path decides it. Else the place of a fact that the path doesn't
+    /// decide, nor any part of the formula that the fact stands in.
     pub fn standing_of(&self, formula: &PlacedFormula) -> Standing
         ensures value { value_in result
             ≡ surely self.now.literals (sentence_at self.now.atoms formula.now) }
