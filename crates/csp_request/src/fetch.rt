@@ -62,47 +62,58 @@ fn with_response(mut hops: List<Hop>, response: Option<Url>) -> Result<List<Hop>
     Ok(hops)
 }
 
-fn fetch_check(
-    alloc: Global,
-    group: Group,
-    hop: Hop,
-    options: &FetchOptions,
-) -> Result<Check, Memory>
+impl FetchOptions {
+    fn copy(&self, alloc: Global) -> Result<FetchOptions, Memory>
+        ensures { IfOk result (λ made. made ≡ self.now) }
+    {
+        Ok(FetchOptions {
+            nonce: self.nonce.copy(alloc)?,
+            integrity: self.integrity.copy(alloc)?,
+            parser_inserted: self.parser_inserted,
+        })
+    }
+}
+
+fn fetch_check(group: Group, hop: Hop, options: FetchOptions) -> Check
     requires hop { IsValidHop hop }
-    requires integrity { AreIntegrityValues options.now.integrity }
-    ensures check { IfOk result (λ check. check ≡ spec.fetch_check group options.now hop) }
-    ensures valid { IfOk result IsValidCheck }
+    requires integrity { AreIntegrityValues options.integrity }
+    ensures check { result ≡ spec.fetch_check group options hop }
+    ensures valid { IsValidCheck result }
 {
     text_is_utf8(&options.nonce);
-    Ok(Check::Fetch {
+    Check::Fetch {
         group,
         url: hop.url,
         redirects: hop.redirects,
-        nonce: options.nonce.copy(alloc)?,
-        integrity: options.integrity.copy(alloc)?,
+        nonce: options.nonce,
+        integrity: options.integrity,
         parser_inserted: options.parser_inserted,
-    })
+    }
 }
 
-// A check for each hop; a report has none.
+// A check for each hop; a report has none. The last hop takes the options themselves, those before it copies.
 fn fetch_checks(
     alloc: Global,
     group: Option<Group>,
-    hops: List<Hop>,
-    options: &FetchOptions,
+    mut hops: List<Hop>,
+    options: FetchOptions,
 ) -> Result<List<Check>, Memory>
     requires hops { All IsValidHop hops }
-    requires integrity { AreIntegrityValues options.now.integrity }
-    ensures checks { IfOk result (λ checks. checks ≡ spec.fetch_checks group options.now hops) }
+    requires integrity { AreIntegrityValues options.integrity }
+    ensures checks { IfOk result (λ checks. checks ≡ spec.fetch_checks group options hops) }
     ensures valid { IfOk result (All IsValidCheck) }
 {
     let mut checks = List::new(alloc);
     let Some(group) = group else {
         return Ok(checks);
     };
+    let Some(last) = hops.pop() else {
+        return Ok(checks);
+    };
     for hop in hops.into_vec() {
-        checks.push(fetch_check(alloc, group, hop, options)?)?;
+        checks.push(fetch_check(group, hop, options.copy(alloc)?))?;
     }
+    checks.push(fetch_check(group, last, options))?;
     Ok(checks)
 }
 
@@ -135,7 +146,7 @@ pub(crate) fn fetch(
     let options = fetch_options(alloc, value)?;
     let hops = with_response(hops, response)?;
     Ok(Described {
-        checks: fetch_checks(alloc, effective(destination), hops, &options)?,
+        checks: fetch_checks(alloc, effective(destination), hops, options)?,
         blocked_uri: shown,
         sample: no_text(alloc),
     })
