@@ -30,7 +30,7 @@ use Rattle.csp_match.specs.declared.host_source.PortKey.TheVariants as port
 use Rattle.csp_match.specs.declared.host_source.Place.{Place}
 use Rattle.csp_match.specs.declared.host_source.Way.{Way}
 use Rattle.csp_match.specs.Entries.{entry_parts, Entry, IsPlace, scheme_of, way_port}
-use Rattle.csp_match.specs.Keys.{host_of, IsHostKey, shape_of, part_pieces, path_of, IsPath, port_of}
+use Rattle.csp_match.specs.Keys.{host_of, hash_of, IsHostKey, shape_of, part_pieces, path_of, IsPath, port_of}
 use Rattle.csp_match.specs.Pieces.{pieces_of}
 use Rattle.csp_match.specs.Under.{same_part, same_shape, is_at}
 use Rattle.csp_match.proofs.AnyLaws.{both, first, second}
@@ -60,26 +60,33 @@ tied_both Greater p = refl
 
 -- Hosts
 
-of_length : (m n : ℕ) (s t : List ℕ) → m ≡ length s → n ≡ length t → (m == n && bytes_eq s t) ≡ bytes_eq s t
-of_length m n s t p q =
+-- a number that a text determines tells no equal texts apart
+of_number : (number : List ℕ → ℕ) (m n : ℕ) (s t : List ℕ) → m ≡ number s → n ≡ number t
+    → (m == n && bytes_eq s t) ≡ bytes_eq s t
+of_number number m n s t p q =
     same_bool _ _ (second (m == n) (bytes_eq s t))
     (λ h. let same = (bytes_eq-Decides s t).0 h in
-    both _ _ ((Decides-eqb m n).1 (p ∙ (ap length same ∙ sym q))) h)
+    both _ _ ((Decides-eqb m n).1 (p ∙ (ap number same ∙ sym q))) h)
+
+numbered_texts : (number : List ℕ → ℕ) (m n : ℕ) (s t : List ℕ) → m ≡ number s → n ≡ number t
+    → is_eq (ordering_then (nat_cmp m n) (slice_cmp nat_cmp s t)) ≡ bytes_eq s t
+numbered_texts number m n s t p q =
+    tied_both (nat_cmp m n) (slice_cmp nat_cmp s t)
+    ∙ (ap₂ (λ (a b : Bool). a && b) (unsigned_tied m n) (is_eq-slice_cmp s t)
+    ∙ of_number number m n s t p q)
 
 pub same_host_key : (a b : HostKey) → IsHostKey a → IsHostKey b → is_eq (host_cmp a b) ≡ same_part (host_of a) (host_of b)
 same_host_key host_key.Any host_key.Any p q = refl
-same_host_key (host_key.Under m s) (host_key.Under n t) p q =
-    tied_both (nat_cmp m n) (slice_cmp nat_cmp s.now t.now)
-    ∙ (ap₂ (λ (a b : Bool). a && b) (unsigned_tied m n) (is_eq-slice_cmp s.now t.now)
-    ∙ of_length m n s.now t.now p q)
-same_host_key (host_key.Exact s) (host_key.Exact t) p q = is_eq-slice_cmp s.now t.now
+same_host_key (host_key.Under m s) (host_key.Under n t) p q = numbered_texts length m n s.now t.now p q
+same_host_key (host_key.Exact m s) (host_key.Exact n t) p q = numbered_texts hash_of m n s.now t.now p q
 same_host_key a b p q = refl
 
 pub one_host : (a b : HostKey) → host_eq a b ≡ true → host_of a ≡ host_of b
 one_host host_key.Any host_key.Any h = refl
 one_host (host_key.Under m s) (host_key.Under n t) h =
     ap host_part.Under ((bytes_eq-Decides s.now t.now).0 (second (m == n) (bytes_eq s.now t.now) h))
-one_host (host_key.Exact s) (host_key.Exact t) h = ap host_part.Exact ((bytes_eq-Decides s.now t.now).0 h)
+one_host (host_key.Exact m s) (host_key.Exact n t) h =
+    ap host_part.Exact ((bytes_eq-Decides s.now t.now).0 (second (m == n) (bytes_eq s.now t.now) h))
 one_host a b h = absurd (false≢true h)
 
 pub same_part_is : (a b : HostPart) → same_part a b ≡ true → a ≡ b

@@ -1,5 +1,5 @@
 -- In a list that is sorted by a key, the items of one key stand together.
-use Rattle.std.proofs.Common.{◌≡◌, ℕ, ◌+◌, ◌-◌, ◌<◌, ◌≤◌, Bool, true, false, ◌&&◌, List, length, take, drop, get_or, [], ◌∷◌, zero, suc, add-one, refl, sym, ◌∙◌, ap, inl, inr, IsSortedBy, Ordering, Less, Equal, Greater, is_eq, is_lt, is_le, arith, length-take, length-drop, get_or-take, get_or-drop}
+use Rattle.std.proofs.Common.{◌≡◌, ℕ, ◌+◌, ◌-◌, ◌<◌, ◌≤◌, Bool, true, false, ◌&&◌, List, length, take, drop, get_or, [], ◌∷◌, zero, suc, add-one, refl, sym, ◌∙◌, ap, inl, inr, IsSortedBy, Ordering, Less, Equal, Greater, is_eq, is_lt, is_le, is_gt, arith, length-take, length-drop, get_or-take, get_or-drop}
 use Rattle.std.specs.Cmp.{IsTotalOrder}
 use Rattle.std.specs.List.{list_any}
 use Rattle.std.specs.List.Sorted.{IsPartitionPoint, IsPartitionedBy, IsStrictlySortedBy}
@@ -44,6 +44,20 @@ module _ {X K : Type 0} {R : K → K → Ordering} (o : IsTotalOrder R) (key : X
   pub up_to_first : (i : ℕ) (xs : List X) → IsSortedBy (λ x y. is_lt (R (key x) (key y))) xs → IsPartitionedBy (λ y. is_le (R (key y) k)) (drop i xs)
   up_to_first n xs sorted i j d below within h =
       le_down _ _ (IsNonDecreasingBy-drop (λ y. ordering_index (R (key y) k)) n xs (searchable_from_sorted o key xs k sorted) i j d below within) h
+
+not_up_to : (o : Ordering) (b : Bool) → is_gt o ≡ true → (b ≡ true → is_le o ≡ true) → b ≡ false
+not_up_to Greater true more below = sym (below refl)
+not_up_to Less b more below = absurd (false≢true more)
+not_up_to Equal b more below = absurd (false≢true more)
+not_up_to o false more below = refl
+
+-- where the first item has a greater key, each has
+pub none_up_to : {X K : Type 0} (R : K → K → Ordering) (key : X → K) (k : K) (xs : List X) (head : X)
+    → IsPartitionedBy (λ y. is_le (R (key y) k)) xs → ((d : X) → get_or xs 0 d ≡ head) → is_gt (R (key head) k) ≡ true
+    → (i : ℕ) (d : X) → i < length xs → is_le (R (key (get_or xs i d)) k) ≡ false
+none_up_to {X} R key k xs head sorted is more i d within =
+    not_up_to (R (key head) k) _ more
+    (λ h. ap (λ (x : X). is_le (R (key x) k)) (sym (is d)) ∙ sorted 0 i d (omega arith) within h)
 
 -- what stands between the items of lesser keys and those of greater ones
 pub run_any : {X K : Type 0} (R : K → K → Ordering) (key : X → K) (k : K) (xs : List X) (i j : ℕ)

@@ -40,7 +40,7 @@ suffix_length (host_part.Exact text) = 0
 length_is : (key : HostKey) → IsHostKey key → suffix_length (host_of key) ≡ key_length key
 length_is host_key.Any p = refl
 length_is (host_key.Under n suffix) p = sym p
-length_is (host_key.Exact text) p = refl
+length_is (host_key.Exact hash text) p = refl
 
 pub short_parts : (longest : ℕ) (entries : List Entry) → All (λ e. IsPlace e.0) entries → All (λ e. key_length e.0.host ≤ longest) entries
     → All (λ (s : Parts). suffix_length s.host ≤ longest) (map entry_parts entries)

@@ -1,5 +1,5 @@
 -- What the keys of host-sources stand for.
-use Rattle.std.specs.Prelude.{◌≡◌, ℕ, cond, List, [], length, take, nat_lt, Option, Some, None, ⊤}
+use Rattle.std.specs.Prelude.{◌≡◌, ◌+◌, ◌*◌, ◌%◌, ◌^◌, ℕ, cond, fold, List, [], length, take, nat_lt, Option, Some, None, ⊤}
 use Rattle.csp_model.specs.declared.source.HostPart.{HostPart}
 use Rattle.csp_model.specs.declared.source.HostPart.TheVariants as host_part
 use Rattle.csp_model.specs.declared.source.PathPart.{PathPart}
@@ -15,23 +15,30 @@ use Rattle.csp_match.specs.declared.path_key.PathShape.TheVariants as shape
 use Rattle.csp_match.specs.declared.host_source.PortKey.{PortKey}
 use Rattle.csp_match.specs.declared.host_source.PortKey.TheVariants as port
 
+-- a step of Bernstein's hash, and the hash of a text
+abbrev pub hash_step : ℕ → ℕ → ℕ
+hash_step hash byte = (hash * 33 % 2 ^ 64 + byte) % 2 ^ 64
+
+abbrev pub hash_of : List ℕ → ℕ
+hash_of text = fold hash_step 5381 text
+
 -- the host that a key stands for
 abbrev pub host_of : HostKey → HostPart
 host_of host_key.Any = host_part.Any
 host_of (host_key.Under length suffix) = host_part.Under suffix.now
-host_of (host_key.Exact text) = host_part.Exact text.now
+host_of (host_key.Exact hash text) = host_part.Exact text.now
 
--- a key's length is that of its suffix
+-- a key's length is that of its suffix, and its hash that of its text
 abbrev pub IsHostKey : HostKey → Type 0
 IsHostKey host_key.Any = ⊤
 IsHostKey (host_key.Under n suffix) = n ≡ length suffix.now
-IsHostKey (host_key.Exact text) = ⊤
+IsHostKey (host_key.Exact hash text) = hash ≡ hash_of text.now
 
 -- the length of a suffix, and 0 of other hosts
 abbrev pub key_length : HostKey → ℕ
 key_length host_key.Any = 0
 key_length (host_key.Under n suffix) = n
-key_length (host_key.Exact text) = 0
+key_length (host_key.Exact hash text) = 0
 
 -- how many pieces of a URL's path a path is compared with
 abbrev pub shape_of : PathPart → PathShape

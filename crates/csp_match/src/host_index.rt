@@ -66,7 +66,7 @@ impl<'a> HostIndex<'a> {
         ensures { result ≡ list_any (spec.parts_match asked.now) self.now }
     {
         let text = asked.host.as_str().as_bytes();
-        if self.matches_under(HostKey::Exact(text), asked) {
+        if self.matches_under(HostKey::exact(text), asked) {
             return true;
         }
         match asked.host {

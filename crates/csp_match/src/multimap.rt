@@ -1,8 +1,8 @@
 //! Values by key, of which a key may have several.
-ghost use Rattle.std.specs.Prelude.{◌≡◌, ◌&&◌, Bool, true};
+ghost use Rattle.std.specs.Prelude.{◌≡◌, ◌≤◌, ◌&&◌, Bool, true, false, length};
 ghost use Rattle.std.specs.List.{Any, Contains, list_any};
-ghost use Rattle.std.specs.List.Sorted.{IsStrictlySortedBy};
-ghost use Rattle.std.specs.Ordering.{is_eq};
+ghost use Rattle.std.specs.List.Sorted.{IsPartitionPoint, IsPartitionedBy, IsStrictlySortedBy};
+ghost use Rattle.std.specs.Ordering.{is_eq, is_le};
 
 use std::marker::Model;
 
@@ -15,6 +15,25 @@ pub(crate) fn sorted_once<T: Ord + Drop>(mut items: Vec<T>) -> Vec<T>
     items.sort_unstable();
     items.dedup();
     items
+}
+
+// Where the pairs of greater keys begin. Mostly no pair has the key itself, as the first pair shows.
+fn end_of_key<K: Ord, V>(pairs: &[(K, V)], key: &K) -> usize
+    requires { IsPartitionedBy (λ (x : K × V). is_le (K.cmp x.0 key.now)) pairs.now }
+    ensures bound { result ≤ length pairs.now }
+    ensures end { IsPartitionPoint (λ (x : K × V). is_le (K.cmp x.0 key.now) ≡ true)
+        (λ (x : K × V). is_le (K.cmp x.0 key.now) ≡ false) pairs.now result }
+{
+    match pairs.first() {
+        None => 0,
+        Some(pair) => {
+            if pair.0.cmp(key).is_gt() {
+                0
+            } else {
+                pairs.partition_point(|pair| pair.0.cmp(key).is_le())
+            }
+        }
+    }
 }
 
 // Pairs of a key and a value in the order of the keys.
@@ -55,7 +74,6 @@ impl<K: Ord + Drop, V: Ord + Drop> Multimap<K, V> {
         let pairs = self.pairs.as_slice();
         let first = pairs.partition_point(|pair| pair.0.cmp(key).is_lt());
         let rest = &pairs[first..];
-        let after = rest.partition_point(|pair| pair.0.cmp(key).is_le());
-        &rest[..after]
+        &rest[..end_of_key(rest, key)]
     }
 }
