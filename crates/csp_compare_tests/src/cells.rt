@@ -29,7 +29,7 @@ fn narrowed(rt: &(impl Abort + AllocGlobal), cell: &Cell, literal: &Literal) -> 
 }
 
 // The cell that is left where the literals, three at most, are taken one after the other.
-fn cell_of(
+pub(crate) fn cell_of(
     rt: &(impl Abort + AllocGlobal),
     shape: Shape,
     literals: &[Literal],

@@ -1,10 +1,12 @@
-//! Tests of csp_formula and csp_valuation.
+//! Tests of csp_formula and csp_valuation, and of what is left of a formula.
 ghost use Rattle.std.specs.Prelude.{IsTrue};
 ghost use Rattle.csp_shape.specs.Shapes.{is_shape};
 
+use crate::cells::cell_of;
 use crate::values::{literals, policies};
 use csp_atom::{Atom, Literal, Vocabulary, holds, vocabulary_of};
 use csp_cell::Cell;
+use csp_compare::residual;
 use csp_formula::{Formula, compile, surely};
 use csp_model::{Check, Duplicate, List, Memory, Policy, PolicyList};
 use csp_pick::{can_pick, representative};
@@ -98,6 +100,49 @@ fn what_literals_decide(rt: HostRuntime) -> Result<(), Fail> {
         let list = policies(&rt, block.as_str())?;
         let found = decided(&rt, &list, number, known)?;
         assert_eq!(rt; found, wanted, "{policy} at {number} under {known}");
+    }
+    Ok(())
+}
+
+// What is left of a formula where these literals are true.
+fn left_where(
+    rt: &(impl Abort + AllocGlobal),
+    formula: &Formula,
+    shape: Shape,
+    known: &str,
+) -> Result<Formula, Memory> {
+    let known = literals(rt.alloc(), known)?;
+    let cell = cell_of(rt, shape, known.as_slice())?;
+    residual(rt.alloc(), formula, &cell)
+}
+
+// Literals, whether a formula is left, and what is sure of it.
+const LEFT: [(&str, bool, Option<bool>); 5] = [
+    ("", true, None),
+    ("host a.example;", true, None),
+    ("-host a.example;", false, Some(false)),
+    ("host b.example;", false, Some(false)),
+    ("host a.example;https;", false, Some(true)),
+];
+
+#[test]
+fn what_is_left_of_a_formula(rt: HostRuntime) -> Result<(), Fail> {
+    let list = policies(
+        &rt,
+        "Content-Security-Policy: img-src https://a.example:443",
+    )?;
+    let vocabulary = vocabulary_of(rt.alloc(), &list, &list)?;
+    let policy = list.policies.get(0).ok_or("no policy")?;
+    let shape = shape_at(38).ok_or("no shape")?;
+    let formula = compile(rt.alloc(), policy, shape, &vocabulary)?;
+    for &(known, is_open, value) in &LEFT {
+        let left = left_where(&rt, &formula, shape, known)?;
+        assert_eq!(rt;
+            !matches!(&left, Formula::Constant(_)),
+            is_open,
+            "under {known}"
+        );
+        assert_eq!(rt; surely(&left, &[]), value, "under {known}");
     }
     Ok(())
 }
