@@ -98,6 +98,17 @@ fn proofs_cut_short(rt: HostRuntime) -> Result<(), Fail> {
     Ok(())
 }
 
+#[test]
+fn a_proof_without_its_last_line_feed(rt: HostRuntime) -> Result<(), Fail> {
+    let proof = in_the_first_format(rt.alloc())?;
+    let cut = proof.as_str().strip_suffix('\n').unwrap_or("");
+    let contents = [FIRST.as_bytes(), SECOND.as_bytes(), cut.as_bytes()];
+    let (status, answer) = written(rt.alloc(), &CHECK, &contents)?;
+    assert_eq!(rt; status, Status::BadProof);
+    assert_eq!(rt; answer.as_slice(), b"bad proof: line 388\n".as_slice());
+    Ok(())
+}
+
 const NO_IMAGES: &[u8] = b"Content-Security-Policy: img-src 'none'";
 
 #[test]
