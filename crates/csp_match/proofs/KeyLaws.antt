@@ -2,7 +2,7 @@
 use Rattle.std.proofs.Common.{◌≡◌, ℕ, Bool, true, ◌&&◌, ◌==◌, List, length, refl, sym, ◌∙◌, ap, ap₂, Ordering, Less, Equal, Greater, is_eq, nat_cmp, Option, Some, None}
 use Rattle.std.specs.Option.{option_eq}
 use Rattle.std.specs.Cmp.{unsigned_tied}
-use Rattle.std.specs.Cmp.Lexicographic.{pointwise, slice_cmp, lists_ties, texts_ties}
+use Rattle.std.specs.Cmp.Lexicographic.{pointwise, slice_cmp}
 use Rattle.std.specs.Ordering.{ordering_then}
 use Rattle.std.specs.Str.{bytes_eq}
 use Rattle.std.proofs.lemmas.Bool.{false≢true}
@@ -15,24 +15,22 @@ use Rattle.csp_model.specs.declared.source.HostPart.{HostPart}
 use Rattle.csp_model.specs.declared.source.HostPart.TheVariants as host_part
 use Rattle.csp_match.specs.contracts.host_key.HostKeyOrd.TheImpl as host_order
 use Rattle.csp_match.specs.contracts.host_key.HostKeyPartialEq.TheImpl as host_equal
-use Rattle.csp_match.specs.contracts.path_key.PathShapeOrd.TheImpl as shape_order
-use Rattle.csp_match.specs.contracts.path_key.PathShapePartialEq.TheImpl as shape_equal
+use Rattle.csp_match.specs.contracts.path_key.PathKindPartialEq.TheImpl as kind_equal
 use Rattle.csp_match.specs.contracts.host_source.PortKeyPartialEq.TheImpl as port_equal
-use Rattle.csp_match.specs.contracts.host_source.PlaceOrd.TheImpl as place_order
-use Rattle.csp_match.specs.contracts.host_source.PlacePartialEq.TheImpl as place_equal
+use Rattle.csp_match.specs.contracts.host_source.TargetPartialEq.TheImpl as target_equal
 use Rattle.csp_match.specs.contracts.host_source.WayPartialEq.TheImpl as way_equal
 use Rattle.csp_match.specs.declared.host_key.HostKey.{HostKey}
 use Rattle.csp_match.specs.declared.host_key.HostKey.TheVariants as host_key
-use Rattle.csp_match.specs.declared.path_key.PathShape.{PathShape}
-use Rattle.csp_match.specs.declared.path_key.PathShape.TheVariants as shape
+use Rattle.csp_match.specs.declared.path_key.PathKind.{PathKind}
+use Rattle.csp_match.specs.declared.path_key.PathKind.TheVariants as kind
 use Rattle.csp_match.specs.declared.host_source.PortKey.{PortKey}
 use Rattle.csp_match.specs.declared.host_source.PortKey.TheVariants as port
-use Rattle.csp_match.specs.declared.host_source.Place.{Place}
+use Rattle.csp_match.specs.declared.host_source.Target.{Target}
 use Rattle.csp_match.specs.declared.host_source.Way.{Way}
-use Rattle.csp_match.specs.Entries.{entry_parts, Entry, IsPlace, scheme_of, way_port}
-use Rattle.csp_match.specs.Keys.{host_of, hash_of, IsHostKey, shape_of, part_pieces, path_of, IsPath, port_of}
+use Rattle.csp_match.specs.Entries.{entry_parts, Entry, scheme_of, way_port}
+use Rattle.csp_match.specs.Keys.{host_of, hash_of, IsHostKey, port_of}
 use Rattle.csp_match.specs.Pieces.{pieces_of}
-use Rattle.csp_match.specs.Under.{same_part, same_shape, is_at}
+use Rattle.csp_match.specs.Under.{same_part}
 use Rattle.csp_match.proofs.AnyLaws.{both, first, second}
 
 abbrev pub host_cmp : HostKey → HostKey → Ordering
@@ -41,14 +39,8 @@ host_cmp = (host_order.ghosts).cmp
 abbrev pub host_eq : HostKey → HostKey → Bool
 host_eq = (host_equal.ghosts).eq
 
-abbrev pub shape_eq : PathShape → PathShape → Bool
-shape_eq = (shape_equal.ghosts).eq
-
-abbrev pub place_cmp : Place → Place → Ordering
-place_cmp = (place_order.ghosts).cmp
-
-abbrev pub place_eq : Place → Place → Bool
-place_eq = (place_equal.ghosts).eq
+abbrev pub target_eq : Target → Target → Bool
+target_eq = (target_equal.ghosts).eq
 
 abbrev pub way_eq : Way → Way → Bool
 way_eq = (way_equal.ghosts).eq
@@ -100,56 +92,6 @@ same_part_itself host_part.Any = refl
 same_part_itself (host_part.Under s) = (bytes_eq-Decides s s).1 refl
 same_part_itself (host_part.Exact s) = (bytes_eq-Decides s s).1 refl
 
--- Paths
-
-pub one_shape : (a b : PathShape) → shape_eq a b ≡ true → a ≡ b
-one_shape shape.Absent shape.Absent h = refl
-one_shape shape.Exact shape.Exact h = refl
-one_shape (shape.Prefix m) (shape.Prefix n) h = ap shape.Prefix ((Decides-eqb m n).0 h)
-one_shape a b h = absurd (false≢true h)
-
-pub same_shape_is : (a b : PathShape) → same_shape a b ≡ true → a ≡ b
-same_shape_is shape.Absent shape.Absent h = refl
-same_shape_is shape.Exact shape.Exact h = refl
-same_shape_is (shape.Prefix m) (shape.Prefix n) h = ap shape.Prefix ((Decides-eqb m n).0 h)
-same_shape_is a b h = absurd (false≢true h)
-
-pub same_shape_itself : (a : PathShape) → same_shape a a ≡ true
-same_shape_itself shape.Absent = refl
-same_shape_itself shape.Exact = refl
-same_shape_itself (shape.Prefix n) = (Decides-eqb n n).1 refl
-
-same_shape_key : (a b : PathShape) → is_eq ((shape_order.ghosts).cmp a b) ≡ same_shape a b
-same_shape_key shape.Absent shape.Absent = refl
-same_shape_key shape.Exact shape.Exact = refl
-same_shape_key (shape.Prefix m) (shape.Prefix n) = unsigned_tied m n
-same_shape_key a b = refl
-
-pub shape_back : (a : PathShape) (pieces : List (List ℕ)) → IsPath a pieces → shape_of (path_of a pieces) ≡ a
-shape_back shape.Absent pieces h = refl
-shape_back shape.Exact pieces h = refl
-shape_back (shape.Prefix n) pieces h = ap shape.Prefix (sym h)
-
-pieces_back : (a : PathShape) (pieces : List (List ℕ)) → IsPath a pieces → part_pieces (path_of a pieces) ≡ pieces
-pieces_back shape.Absent pieces h = sym h
-pieces_back shape.Exact pieces h = refl
-pieces_back (shape.Prefix n) pieces h = refl
-
--- Places
-
-pub same_place : (e : Place × Way) (k : Place) → IsPlace e.0 → IsHostKey k.host
-    → is_eq (place_cmp e.0 k) ≡ is_at (host_of k.host) k.shape (pieces_of k.pieces) (entry_parts e)
-same_place e k p q =
-    let ours = pieces_of e.0.pieces in
-    let theirs = pieces_of k.pieces in
-    let last = slice_cmp (slice_cmp nat_cmp) ours theirs in
-    let middle = (shape_order.ghosts).cmp e.0.shape k.shape in
-    let same : is_eq last ≡ pointwise bytes_eq ours theirs = sym (lists_ties (slice_cmp nat_cmp) texts_ties ours theirs) in
-    tied_both (host_cmp e.0.host k.host) (ordering_then middle last)
-    ∙ (ap₂ (λ (a b : Bool). a && b) (same_host_key e.0.host k.host p.0 q)
-    (tied_both middle last ∙ ap₂ (λ (a b : Bool). a && b) (same_shape_key e.0.shape k.shape) same)
-    ∙ rw (shape_back e.0.shape ours p.1, pieces_back e.0.shape ours p.1) refl)
-
 -- Entries
 
 option_is : (a b : Option (List ℕ)) → option_eq bytes_eq a b ≡ true → a ≡ b
@@ -170,28 +112,31 @@ pub one_way_port : (v w : Way) → way_eq v w ≡ true → way_port v ≡ way_po
 one_way_port v w h =
     ap port_of (one_port v.port w.port (second (option_eq bytes_eq v.scheme.now w.scheme.now) ((port_equal.ghosts).eq v.port w.port) h))
 
-pub one_path : (a b : Place) → place_eq a b ≡ true
-    → (host_of a.host ≡ host_of b.host) × ((a.shape ≡ b.shape) × (pieces_of a.pieces ≡ pieces_of b.pieces))
-one_path a b h =
-    let host = host_eq a.host b.host in
-    let shapes = shape_eq a.shape b.shape in
+one_kind : (a b : PathKind) → (kind_equal.ghosts).eq a b ≡ true → a ≡ b
+one_kind kind.Absent kind.Absent h = refl
+one_kind kind.Exact kind.Exact h = refl
+one_kind kind.Prefix kind.Prefix h = refl
+one_kind a b h = absurd (false≢true h)
+
+pub one_target : (a b : Target) → target_eq a b ≡ true
+    → (pieces_of a.pieces ≡ pieces_of b.pieces) × (a.kind ≡ b.kind) × (way_eq a.way b.way ≡ true)
+one_target a b h =
     let pieces = pointwise bytes_eq (pieces_of a.pieces) (pieces_of b.pieces) in
-    let rest = second host (shapes && pieces) h in (
-      one_host a.host b.host (first host (shapes && pieces) h),
-      (
-        one_shape a.shape b.shape (first shapes pieces rest),
-        (pieces_decide (pieces_of a.pieces) (pieces_of b.pieces)).0 (second shapes pieces rest),
-      ),
+    let kinds = (kind_equal.ghosts).eq a.kind b.kind in
+    let ways = way_eq a.way b.way in
+    let rest = second pieces (kinds && ways) h in (
+      (pieces_decide (pieces_of a.pieces) (pieces_of b.pieces)).0 (first pieces (kinds && ways) h),
+      one_kind a.kind b.kind (first kinds ways rest),
+      second kinds ways rest,
     )
 
 -- equal entries have equal parts
-pub one_entry : (a b : Entry) → (place_eq a.0 b.0 && way_eq a.1 b.1) ≡ true → entry_parts a ≡ entry_parts b
+pub one_entry : (a b : Entry) → (host_eq a.0 b.0 && target_eq a.1 b.1) ≡ true → entry_parts a ≡ entry_parts b
 one_entry a b h =
-    let place = one_path a.0 b.0 (first (place_eq a.0 b.0) (way_eq a.1 b.1) h) in
-    let way = second (place_eq a.0 b.0) (way_eq a.1 b.1) h in
-    let schemes = one_scheme a.1 b.1 way in
-    let ports = one_way_port a.1 b.1 way in
-    let hosts = place.0 in
-    let shapes = place.1.0 in
-    let pieces = place.1.1 in
+    let hosts = one_host a.0 b.0 (first (host_eq a.0 b.0) (target_eq a.1 b.1) h) in
+    let target = one_target a.1 b.1 (second (host_eq a.0 b.0) (target_eq a.1 b.1) h) in
+    let schemes = one_scheme a.1.way b.1.way target.2 in
+    let ports = one_way_port a.1.way b.1.way target.2 in
+    let pieces = target.0 in
+    let kinds = target.1 in
     cc

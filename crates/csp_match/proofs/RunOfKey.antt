@@ -1,12 +1,13 @@
 -- In a list that is sorted by a key, the items of one key stand together.
-use Rattle.std.proofs.Common.{◌≡◌, ℕ, ◌+◌, ◌-◌, ◌<◌, ◌≤◌, Bool, true, false, ◌&&◌, List, length, take, drop, get_or, [], ◌∷◌, zero, suc, add-one, refl, sym, ◌∙◌, ap, inl, inr, IsSortedBy, Ordering, Less, Equal, Greater, is_eq, is_lt, is_le, is_gt, arith, length-take, length-drop, get_or-take, get_or-drop}
+use Rattle.std.proofs.Common.{◌≡◌, ℕ, ◌+◌, ◌-◌, ◌<◌, ◌≤◌, Bool, true, false, ◌&&◌, List, length, take, drop, get_or, [], ◌∷◌, zero, suc, add-one, refl, sym, ◌∙◌, ap, inl, inr, All, Contains, IsSortedBy, Ordering, Less, Equal, Greater, is_eq, is_lt, is_le, is_gt, arith, length-take, length-drop, get_or-take, get_or-drop}
 use Rattle.std.specs.Cmp.{IsTotalOrder}
 use Rattle.std.specs.List.{list_any}
 use Rattle.std.specs.List.Sorted.{IsPartitionPoint, IsPartitionedBy, IsStrictlySortedBy}
 use Rattle.std.specs.Ordering.{ordering_index, ordering_then, then_cmp, on, ordering_reverse}
 use Rattle.std.proofs.lemmas.Bool.{false≢true, cases_lt}
 use Rattle.std.proofs.lemmas.List.Folds.{Any-from_list_any, list_any_at}
-use Rattle.std.proofs.lemmas.Cmp.{then_total, on_total}
+use Rattle.std.proofs.lemmas.Cmp.{then_total, on_total, tied_back}
+use Rattle.std.proofs.lemmas.List.Elements.{All-contains, All-contains_itself, All-drop, All-take}
 use Rattle.std.proofs.lemmas.List.Sorted.{searchable_from_sorted, IsNonDecreasingBy-drop}
 use Rattle.csp_model.proofs.Deciding.{same_bool}
 use Rattle.csp_match.proofs.AnyLaws.{both, first, second}
@@ -59,6 +60,17 @@ none_up_to {X} R key k xs head sorted is more i d within =
     not_up_to (R (key head) k) _ more
     (λ h. ap (λ (x : X). is_le (R (key x) k)) (sym (is d)) ∙ sorted 0 i d (omega arith) within h)
 
+not_more : (o : Ordering) → is_gt o ≡ false → is_le o ≡ true
+not_more Greater h = sym h
+not_more o h = refl
+
+-- where the last item has no greater key, none has
+pub all_up_to : {X K : Type 0} (R : K → K → Ordering) (key : X → K) (k : K) (xs : List X) (last : X)
+    → IsPartitionedBy (λ y. is_le (R (key y) k)) xs → ((d : X) → get_or xs (length xs - 1) d ≡ last) → is_gt (R (key last) k) ≡ false
+    → (i : ℕ) (d : X) → i < length xs → is_le (R (key (get_or xs i d)) k) ≡ true
+all_up_to {X} R key k xs last sorted is below i d within =
+    sorted i (length xs - 1) d (omega arith) (omega arith) (rw (is d) (not_more (R (key last) k) below))
+
 -- what stands between the items of lesser keys and those of greater ones
 pub run_any : {X K : Type 0} (R : K → K → Ordering) (key : X → K) (k : K) (xs : List X) (i j : ℕ)
     → IsPartitionPoint (λ y. is_lt (R (key y) k) ≡ true) (λ y. is_lt (R (key y) k) ≡ false) xs i
@@ -106,8 +118,22 @@ run_any {X} R key k xs i j lesser upto p =
     ] in
     same_bool _ _ forward back
 
+-- the keys of a run are level with its key
+pub run_level : {X K : Type 0} (R : K → K → Ordering) (key : X → K) (k : K) (xs : List X) (i j : ℕ)
+    → IsPartitionPoint (λ y. is_lt (R (key y) k) ≡ true) (λ y. is_lt (R (key y) k) ≡ false) xs i
+    → IsPartitionPoint (λ y. is_le (R (key y) k) ≡ true) (λ y. is_le (R (key y) k) ≡ false) (drop i xs) j
+    → All (λ x. is_eq (R (key x) k) ≡ true) (take j (drop i xs))
+run_level R key k xs i j lesser upto n d within =
+    let rest = drop i xs in
+    let short : n < j = omega (arith, within, length-take j rest) in
+    let inside : n < length rest = omega (arith, within, length-take j rest) in
+    let there = get_or-drop i xs n d in
+    let less = lesser.1 (i + n) d (omega arith) (omega (arith, inside, length-drop i xs)) in
+    let le = rw there at (upto.0 n d (omega arith) short) in
+    rw (get_or-take j rest n d short, there) (equal_from _ less le)
+
 -- a list that is sorted by pairs is sorted by their first parts
-then_less : (o p : Ordering) → is_lt (ordering_then o p) ≡ false → is_lt o ≡ false
+pub then_less : (o p : Ordering) → is_lt (ordering_then o p) ≡ false → is_lt o ≡ false
 then_less Less p h = h
 then_less Equal p h = refl
 then_less Greater p h = refl
@@ -134,11 +160,56 @@ rising o (x ∷ []) up k d within = absurd (omega (arith, within))
 rising o (x ∷ y ∷ rest) up zero d within = not_back o x y up.0.0
 rising o (x ∷ y ∷ rest) up (suc k) d within = rising o (y ∷ rest) up.1 k d (omega (arith, within))
 
--- pairs that rise strictly are sorted by their first parts
-pub first_parts : {K V : Type 0} {R : K → K → Ordering} {S : V → V → Ordering} (r : IsTotalOrder R) (s : IsTotalOrder S)
+-- pairs that rise strictly are sorted
+pub pairs_sorted : {K V : Type 0} {R : K → K → Ordering} {S : V → V → Ordering} (r : IsTotalOrder R) (s : IsTotalOrder S)
     (xs : List (K × V)) → IsStrictlySortedBy (λ x y. ordering_then (R x.0 y.0) (S x.1 y.1)) xs
-    → IsSortedBy (λ x y. is_lt (R x.0 y.0)) xs
-first_parts {K} {V} {R} {S} r s xs up =
+    → IsSortedBy (λ x y. is_lt (ordering_then (R x.0 y.0) (S x.1 y.1))) xs
+pairs_sorted {K} {V} {R} {S} r s xs up =
     let whole : IsTotalOrder (then_cmp (on (λ (x : K × V). x.0) R) (on (λ (x : K × V). x.1) S)) =
     then_total (on_total (λ (x : K × V). x.0) r) (on_total (λ (x : K × V). x.1) s) in
-    by_first R S xs (λ k d low within. rw add-one (rising whole xs up k d (omega arith)))
+    λ k d low within. rw add-one (rising whole xs up k d (omega arith))
+
+-- a part of a sorted list is sorted
+pub part_sorted : {X : Type 0} (lt : X → X → Bool) (i j : ℕ) (xs : List X) → IsSortedBy lt xs → IsSortedBy lt (take j (drop i xs))
+part_sorted {X} lt i j xs sorted k d low high =
+    let rest = drop i xs in
+    let short : k + 1 < j = omega (arith, high, length-take j rest) in
+    let within : i + k + 1 < length xs = omega (arith, high, length-take j rest, length-drop i xs) in
+    let here : get_or (take j rest) k d ≡ get_or xs (i + k) d = get_or-take j rest k d (omega arith) ∙ get_or-drop i xs k d in
+    let next : get_or (take j rest) (k + 1) d ≡ get_or xs (i + k + 1) d =
+    get_or-take j rest (k + 1) d short ∙ (get_or-drop i xs (k + 1) d ∙ ap (λ (n : ℕ). get_or xs n d) (omega arith)) in
+    rw (here, next) (sorted (i + k) d (omega arith) within)
+
+-- what stands in a part stands in the list
+pub part_given : {X : Type 0} (i j : ℕ) (xs : List X) (x : X) → Contains (take j (drop i xs)) x → Contains xs x
+part_given i j xs x h =
+    All-contains (Contains xs) (take j (drop i xs)) x (All-take (Contains xs) j (drop i xs) (All-drop (Contains xs) i xs (All-contains_itself xs))) h
+
+equal_is : (o : Ordering) → is_eq o ≡ true → o ≡ Equal
+equal_is Equal h = refl
+equal_is o h = absurd (false≢true h)
+
+then_after : (o p : Ordering) → is_lt (ordering_then o p) ≡ false → o ≡ Equal → is_lt p ≡ false
+then_after Equal p h same = h
+then_after Less p h same = cc
+then_after Greater p h same = cc
+
+-- pairs whose first parts are level with one key are sorted by their second parts
+second_sorted : {K V : Type 0} {R : K → K → Ordering} (S : V → V → Ordering) (o : IsTotalOrder R) (k : K) (xs : List (K × V))
+    → All (λ (x : K × V). is_eq (R x.0 k) ≡ true) xs → IsSortedBy (λ x y. is_lt (ordering_then (R x.0 y.0) (S x.1 y.1))) xs
+    → IsSortedBy (λ x y. is_lt (S x.1 y.1)) xs
+second_sorted {K} {V} {R} S o k xs level sorted n d low high =
+    let x = get_or xs n d in
+    let y = get_or xs (n + 1) d in
+    let first_level = equal_is (R x.0 k) (level n d (omega arith)) in
+    let next_level = equal_is (R y.0 k) (level (n + 1) d (omega arith)) in
+    then_after (R y.0 x.0) (S y.1 x.1) (sorted n d low high) (o.congr y.0 k x.0 next_level ∙ tied_back o x.0 k first_level)
+
+-- a run of one key is sorted by its second parts
+pub run_sorted : {K V : Type 0} {R : K → K → Ordering} (S : V → V → Ordering) (o : IsTotalOrder R) (k : K) (xs : List (K × V)) (i j : ℕ)
+    → All (λ (x : K × V). is_eq (R x.0 k) ≡ true) (take j (drop i xs))
+    → IsSortedBy (λ x y. is_lt (ordering_then (R x.0 y.0) (S x.1 y.1))) xs
+    → IsSortedBy (λ x y. is_lt (S x.1 y.1)) (take j (drop i xs))
+run_sorted {K} {V} {R} S o k xs i j level sorted =
+    second_sorted S o k (take j (drop i xs)) level
+    (part_sorted (λ (x y : K × V). is_lt (ordering_then (R x.0 y.0) (S x.1 y.1))) i j xs sorted)

@@ -11,7 +11,7 @@ use Rattle.csp_model.specs.declared.source.HostPart.TheVariants as host_part
 use Rattle.csp_match.specs.declared.asked.Asked.{Asked}
 use Rattle.csp_match.specs.declared.host_key.HostKey.{HostKey}
 use Rattle.csp_match.specs.declared.host_key.HostKey.TheVariants as host_key
-use Rattle.csp_match.specs.Entries.{Entry, entry_parts, IsPlace}
+use Rattle.csp_match.specs.Entries.{Entry, entry_parts, IsEntry}
 use Rattle.csp_match.specs.Keys.{host_of, IsHostKey, key_length, Parts}
 use Rattle.csp_match.specs.Under.{same_part, any_under, is_suffixed, any_suffixed, rest_matches}
 use Rattle.csp_match.proofs.AnyLaws.{both, first, second, found}
@@ -42,11 +42,11 @@ length_is host_key.Any p = refl
 length_is (host_key.Under n suffix) p = sym p
 length_is (host_key.Exact hash text) p = refl
 
-pub short_parts : (longest : ℕ) (entries : List Entry) → All (λ e. IsPlace e.0) entries → All (λ e. key_length e.0.host ≤ longest) entries
+pub short_parts : (longest : ℕ) (entries : List Entry) → All IsEntry entries → All (λ e. key_length e.0 ≤ longest) entries
     → All (λ (s : Parts). suffix_length s.host ≤ longest) (map entry_parts entries)
-short_parts longest entries places short =
+short_parts longest entries each short =
     All-map (λ (s : Parts). suffix_length s.host ≤ longest) entry_parts entries
-    (λ k d within. rw (length_is (get_or entries k d).0.host (places k d within).0) (short k d within))
+    (λ k d within. rw (length_is (get_or entries k d).0 (each k d within).0) (short k d within))
 
 suffix_of : (part : HostPart) (domain : List ℕ) → is_suffixed domain part ≡ true
     → (suffix : List ℕ) × (front : List ℕ) × (part ≡ host_part.Under suffix) × (domain ≡ front ++ code "." ∷ suffix)

@@ -1,5 +1,5 @@
 -- What the keys of host-sources stand for.
-use Rattle.std.specs.Prelude.{◌≡◌, ◌+◌, ◌*◌, ◌%◌, ◌^◌, ℕ, cond, fold, List, [], length, take, nat_lt, Option, Some, None, ⊤}
+use Rattle.std.specs.Prelude.{◌≡◌, ◌+◌, ◌*◌, ◌%◌, ◌^◌, ℕ, Bool, true, not, fold, List, [], length, Option, Some, None, ⊤}
 use Rattle.csp_model.specs.declared.source.HostPart.{HostPart}
 use Rattle.csp_model.specs.declared.source.HostPart.TheVariants as host_part
 use Rattle.csp_model.specs.declared.source.PathPart.{PathPart}
@@ -10,8 +10,8 @@ use Rattle.csp_model.specs.declared.source.Source.{Source}
 use Rattle.csp_model.specs.declared.source.Source.TheVariants as source
 use Rattle.csp_match.specs.declared.host_key.HostKey.{HostKey}
 use Rattle.csp_match.specs.declared.host_key.HostKey.TheVariants as host_key
-use Rattle.csp_match.specs.declared.path_key.PathShape.{PathShape}
-use Rattle.csp_match.specs.declared.path_key.PathShape.TheVariants as shape
+use Rattle.csp_match.specs.declared.path_key.PathKind.{PathKind}
+use Rattle.csp_match.specs.declared.path_key.PathKind.TheVariants as kind
 use Rattle.csp_match.specs.declared.host_source.PortKey.{PortKey}
 use Rattle.csp_match.specs.declared.host_source.PortKey.TheVariants as port
 
@@ -40,33 +40,32 @@ key_length host_key.Any = 0
 key_length (host_key.Under n suffix) = n
 key_length (host_key.Exact hash text) = 0
 
--- how many pieces of a URL's path a path is compared with
-abbrev pub shape_of : PathPart → PathShape
-shape_of path_part.Absent = shape.Absent
-shape_of (path_part.Exact pieces) = shape.Exact
-shape_of (path_part.Prefix pieces) = shape.Prefix (length pieces)
+abbrev pub kind_of : PathPart → PathKind
+kind_of path_part.Absent = kind.Absent
+kind_of (path_part.Exact pieces) = kind.Exact
+kind_of (path_part.Prefix pieces) = kind.Prefix
 
 abbrev pub part_pieces : PathPart → List (List ℕ)
 part_pieces path_part.Absent = []
 part_pieces (path_part.Exact pieces) = pieces
 part_pieces (path_part.Prefix pieces) = pieces
 
--- the pieces of a URL's path that a path of a shape is compared with
-abbrev pub asked_pieces : PathShape → List (List ℕ) → Option (List (List ℕ))
-asked_pieces shape.Absent path = Some []
-asked_pieces shape.Exact path = Some path
-asked_pieces (shape.Prefix n) path = cond (nat_lt n (length path)) (Some (take n path)) None
+-- a path of a kind matches a URL's that begins with its pieces, and has no others if that path ends there
+abbrev pub takes : PathKind → Bool → Bool
+takes kind.Absent ends = true
+takes kind.Exact ends = ends
+takes kind.Prefix ends = not ends
 
--- a path of a shape and its pieces
-abbrev pub path_of : PathShape → List (List ℕ) → PathPart
-path_of shape.Absent pieces = path_part.Absent
-path_of shape.Exact pieces = path_part.Exact pieces
-path_of (shape.Prefix n) pieces = path_part.Prefix pieces
+-- a path of a kind and its pieces
+abbrev pub path_of : PathKind → List (List ℕ) → PathPart
+path_of kind.Absent pieces = path_part.Absent
+path_of kind.Exact pieces = path_part.Exact pieces
+path_of kind.Prefix pieces = path_part.Prefix pieces
 
-abbrev pub IsPath : PathShape → List (List ℕ) → Type 0
-IsPath shape.Absent pieces = pieces ≡ []
-IsPath shape.Exact pieces = ⊤
-IsPath (shape.Prefix n) pieces = n ≡ length pieces
+abbrev pub IsPath : PathKind → List (List ℕ) → Type 0
+IsPath kind.Absent pieces = pieces ≡ []
+IsPath kind.Exact pieces = ⊤
+IsPath kind.Prefix pieces = ⊤
 
 abbrev pub port_key : PortPart → Option PortKey
 port_key port_part.Absent = Some port.Absent

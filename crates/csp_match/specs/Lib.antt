@@ -1,5 +1,6 @@
 pub mod Candidates
 pub mod Entries
+pub mod Fronts
 pub mod HostIndex
 pub mod Index
 pub mod Keys

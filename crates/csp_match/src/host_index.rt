@@ -2,15 +2,15 @@
 ghost use Rattle.std.specs.Prelude.{◌≡◌, ◌≤◌, All, Bool, IfOk, OnOk, map};
 ghost use Rattle.std.specs.List.{list_any};
 ghost use Rattle.csp_model.specs.declared.source.HostPart.TheVariants as host_part;
-ghost use Rattle.csp_match.specs.Entries.{entry_parts, scheme_of, way_fits, way_port, IsPlace};
-ghost use Rattle.csp_match.specs.Keys.{host_of, key_length, shape_of, IsHostKey, Parts as HostSource};
+ghost use Rattle.csp_match.specs.Entries.{entry_parts, scheme_of, way_fits, way_port, IsEntry};
+ghost use Rattle.csp_match.specs.Keys.{host_of, key_length, IsHostKey, Parts as HostSource};
 ghost use Rattle.csp_match.specs.Under as spec;
 
 use crate::asked::Asked;
+use crate::fronts::any_target_fits;
 use crate::host_key::HostKey;
-use crate::host_source::{Place, Way};
+use crate::host_source::{Target, Way};
 use crate::multimap::Multimap;
-use crate::path_key::PathShape;
 use csp_model::{Host, Memory};
 use std::alloc::Global;
 use std::marker::Model;
@@ -20,10 +20,8 @@ use std::marker::Model;
 pub(crate) struct HostIndex<'a> {
     // The length of the longest suffix: no longer one is looked up.
     longest_suffix: usize,
-    // The shapes of the paths under each host: only these are looked up.
-    shapes: Multimap<HostKey<'a>, PathShape>,
-    // The ways to each host and path.
-    ways: Multimap<Place<'a>, Way<'a>>,
+    // The targets at each host.
+    targets: Multimap<HostKey<'a>, Target<'a>>,
     // The ways to each host, for where paths aren't compared.
     pathless: Multimap<HostKey<'a>, Way<'a>>,
 }
@@ -44,19 +42,17 @@ impl<'a> Model for HostIndex<'a> {
 impl<'a> HostIndex<'a> {
     pub(crate) fn new(
         alloc: Global,
-        entries: Vec<(Place<'a>, Way<'a>)>,
+        entries: Vec<(HostKey<'a>, Target<'a>)>,
     ) -> Result<HostIndex<'a>, Memory>
-        requires { All (λ e. IsPlace e.0) entries.items }
+        requires { All IsEntry entries.items }
         ensures { IfOk result (λ made. (p : HostSource → Bool)
             → list_any p made ≡ list_any p (map entry_parts entries.entry.items)) }
     {
-        let shapes = host_shapes(alloc, entries.as_slice())?;
         let pathless = host_ways(alloc, entries.as_slice())?;
         let longest_suffix = longest_suffix(entries.as_slice());
         Ok(HostIndex {
             longest_suffix,
-            shapes: Multimap::new(shapes),
-            ways: Multimap::new(entries),
+            targets: Multimap::new(entries),
             pathless: Multimap::new(pathless),
         })
     }
@@ -100,41 +96,7 @@ impl<'a> HostIndex<'a> {
         if asked.redirected {
             any_way_fits(self.pathless.get(&host), asked)
         } else {
-            self.matches_shapes(host, self.shapes.get(&host), asked)
-        }
-    }
-
-    // Whether some host-source of a host matches, whose path is of one of these shapes.
-    fn matches_shapes(
-        &self,
-        host: HostKey<'_>,
-        shapes: &[(HostKey<'_>, PathShape)],
-        asked: &Asked<'_>,
-    ) -> bool
-        requires { IsHostKey host }
-        ensures { result
-            ≡ list_any (λ e. spec.any_at (host_of host.entry) e.1 asked.now self.now) shapes.now }
-    {
-        shapes
-            .iter()
-            .any(|pair| self.matches_at(host, pair.1, asked))
-    }
-
-    // Whether some host-source of a host matches, whose path is of a shape.
-    fn matches_at(&self, host: HostKey<'_>, shape: PathShape, asked: &Asked<'_>) -> bool
-        requires { IsHostKey host }
-        ensures { result ≡ spec.any_at (host_of host.entry) shape asked.now self.now }
-    {
-        match shape.pieces(asked.path.as_slice()) {
-            None => false,
-            Some(pieces) => {
-                let place = Place {
-                    host,
-                    shape,
-                    pieces,
-                };
-                any_way_fits(self.ways.get(&place), asked)
-            }
+            any_target_fits(self.targets.get(&host), asked)
         }
     }
 }
@@ -146,41 +108,27 @@ fn any_way_fits<K>(ways: &[(K, Way<'_>)], asked: &Asked<'_>) -> bool
     ways.iter().any(|pair| pair.1.fits(asked))
 }
 
-fn host_shapes<'a>(
-    alloc: Global,
-    entries: &[(Place<'a>, Way<'a>)],
-) -> Result<Vec<(HostKey<'a>, PathShape)>, Memory>
-    ensures { IfOk result (λ made. made.items ≡ map (λ e. (e.0.host, e.0.shape)) entries.now) }
-{
-    Ok(
-        entries
-            .iter()
-            .map(|entry| (entry.0.host, entry.0.shape))
-            .collect(alloc)?,
-    )
-}
-
 fn host_ways<'a>(
     alloc: Global,
-    entries: &[(Place<'a>, Way<'a>)],
+    entries: &[(HostKey<'a>, Target<'a>)],
 ) -> Result<Vec<(HostKey<'a>, Way<'a>)>, Memory>
-    ensures { IfOk result (λ made. made.items ≡ map (λ e. (e.0.host, e.1)) entries.now) }
+    ensures { IfOk result (λ made. made.items ≡ map (λ e. (e.0, e.1.way)) entries.now) }
 {
     Ok(
         entries
             .iter()
-            .map(|entry| (entry.0.host, entry.1))
+            .map(|entry| (entry.0, entry.1.way))
             .collect(alloc)?,
     )
 }
 
 // The length of the longest suffix.
-fn longest_suffix(entries: &[(Place<'_>, Way<'_>)]) -> usize
-    ensures { All (λ e. key_length e.0.host ≤ result) entries.now }
+fn longest_suffix(entries: &[(HostKey<'_>, Target<'_>)]) -> usize
+    ensures { All (λ e. key_length e.0 ≤ result) entries.now }
 {
     let mut longest = 0;
     for entry in entries {
-        longest = entry.0.host.suffix_length().max(longest);
+        longest = entry.0.suffix_length().max(longest);
     }
     longest
 }

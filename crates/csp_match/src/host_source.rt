@@ -6,7 +6,7 @@ ghost use Rattle.csp_match.specs.Entries as entries;
 
 use crate::asked::Asked;
 use crate::host_key::HostKey;
-use crate::path_key::{PathShape, pieces_of_part};
+use crate::path_key::{PathKind, pieces_of_part};
 use crate::pieces::Pieces;
 use crate::port::port_matches;
 use crate::scheme::own_scheme_matches;
@@ -44,14 +44,6 @@ impl PortKey {
     }
 }
 
-// Where the URLs of a host-source lie.
-#[derive(Clone, Copy, PartialEq, Eq, PartialOrd, Ord)]
-pub(crate) struct Place<'a> {
-    pub(crate) host: HostKey<'a>,
-    pub(crate) shape: PathShape,
-    pub(crate) pieces: Pieces<'a>,
-}
-
 // How the URLs of a host-source are reached.
 #[derive(Clone, Copy, PartialEq, Eq, PartialOrd, Ord)]
 pub(crate) struct Way<'a> {
@@ -70,10 +62,28 @@ impl Way<'_> {
     }
 }
 
-// The place and the way of a host-source. None where the source isn't one, or matches no URL by its port.
-pub(crate) fn host_source(source: &Source) -> Option<(Place<'_>, Way<'_>)>
+// Where the URLs of a host-source lie at its host, and how they are reached. Pieces come first in the order, so
+// paths with a common front stand together, and those that are this front stand before the longer ones.
+#[derive(Clone, Copy, PartialEq, Eq, PartialOrd, Ord)]
+pub(crate) struct Target<'a> {
+    pub(crate) pieces: Pieces<'a>,
+    pub(crate) kind: PathKind,
+    pub(crate) way: Way<'a>,
+}
+
+impl Target<'_> {
+    // Whether a URL is the target's, whose path begins with its pieces, and has no others if `ends`.
+    pub(crate) fn fits(&self, asked: &Asked<'_>, ends: bool) -> bool
+        ensures { result ≡ entries.front_fits asked.now ends self.now }
+    {
+        self.kind.takes(ends) && self.way.fits(asked)
+    }
+}
+
+// The host and the target of a host-source. None where the source isn't one, or matches no URL by its port.
+pub(crate) fn host_source(source: &Source) -> Option<(HostKey<'_>, Target<'_>)>
     ensures parts { option_map entries.entry_parts result ≡ spec.parts_of source.now }
-    ensures place { IfSome result (λ entry. entries.IsPlace entry.0) }
+    ensures entry { IfSome result entries.IsEntry }
 {
     match source {
         Source::Hosted {
@@ -82,13 +92,13 @@ pub(crate) fn host_source(source: &Source) -> Option<(Place<'_>, Way<'_>)>
             port,
             path,
         } => {
-            let place = Place {
-                host: HostKey::of(host),
-                shape: PathShape::of(path),
-                pieces: pieces_of_part(path),
-            };
             let port = PortKey::of(*port)?;
-            Some((place, Way { scheme, port }))
+            let target = Target {
+                pieces: pieces_of_part(path),
+                kind: PathKind::of(path),
+                way: Way { scheme, port },
+            };
+            Some((HostKey::of(host), target))
         }
         _ => None,
     }

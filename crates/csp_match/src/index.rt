@@ -4,13 +4,14 @@ ghost use Rattle.std.specs.List.{list_any};
 ghost use Rattle.std.specs.Option.{option_map};
 ghost use Rattle.csp_model.specs.DecideMatching as spec;
 ghost use Rattle.csp_model.specs.Matching.{ListMatches};
-ghost use Rattle.csp_match.specs.Entries.{entry_parts, IsPlace};
+ghost use Rattle.csp_match.specs.Entries.{entry_parts, IsEntry};
 ghost use Rattle.csp_match.specs.Split.{any_host_source, by_scheme_or_host, by_star_or_self, host_sources};
 ghost use Rattle.csp_match.specs.Split.{is_self, is_star, scheme_part, scheme_parts};
 
 use crate::asked::Asked;
 use crate::host_index::HostIndex;
-use crate::host_source::{Place, Way, host_source};
+use crate::host_key::HostKey;
+use crate::host_source::{Target, host_source};
 use crate::multimap::sorted_once;
 use crate::scheme::{is_network_scheme, scheme_matches, url_scheme};
 use crate::self_source::self_matches;
@@ -173,9 +174,12 @@ fn scheme_sources<'a>(alloc: Global, sources: &'a [Source]) -> Result<Vec<&'a Te
 }
 
 // The host-sources that a URL can match.
-fn entries<'a>(alloc: Global, sources: &'a [Source]) -> Result<Vec<(Place<'a>, Way<'a>)>, Memory>
+fn entries<'a>(
+    alloc: Global,
+    sources: &'a [Source],
+) -> Result<Vec<(HostKey<'a>, Target<'a>)>, Memory>
     ensures parts { IfOk result (λ made. map entry_parts made.items ≡ host_sources sources.now) }
-    ensures places { IfOk result (λ made. All (λ e. IsPlace e.0) made.items) }
+    ensures each { IfOk result (λ made. All IsEntry made.items) }
 {
     let mut made = Vec::new(alloc);
     for source in sources {

@@ -7,6 +7,7 @@
 mod asked;
 mod candidates;
 mod fallback;
+mod fronts;
 mod governs;
 mod host;
 mod host_index;

@@ -1,8 +1,8 @@
 //! Values by key, of which a key may have several.
 ghost use Rattle.std.specs.Prelude.{◌≡◌, ◌≤◌, ◌&&◌, Bool, true, false, length};
 ghost use Rattle.std.specs.List.{Any, Contains, list_any};
-ghost use Rattle.std.specs.List.Sorted.{IsPartitionPoint, IsPartitionedBy, IsStrictlySortedBy};
-ghost use Rattle.std.specs.Ordering.{is_eq, is_le};
+ghost use Rattle.std.specs.List.Sorted.{IsPartitionPoint, IsPartitionedBy, IsSortedBy, IsStrictlySortedBy};
+ghost use Rattle.std.specs.Ordering.{is_eq, is_le, is_lt};
 
 use std::marker::Model;
 
@@ -17,26 +17,29 @@ pub(crate) fn sorted_once<T: Ord + Drop>(mut items: Vec<T>) -> Vec<T>
     items
 }
 
-// Where the pairs of greater keys begin. Mostly no pair has the key itself, as the first pair shows.
+// Where the pairs of greater keys begin. Mostly no pair has the key itself, as the first pair shows, or all have it,
+// as the last one does.
 fn end_of_key<K: Ord, V>(pairs: &[(K, V)], key: &K) -> usize
     requires { IsPartitionedBy (λ (x : K × V). is_le (K.cmp x.0 key.now)) pairs.now }
     ensures bound { result ≤ length pairs.now }
     ensures end { IsPartitionPoint (λ (x : K × V). is_le (K.cmp x.0 key.now) ≡ true)
         (λ (x : K × V). is_le (K.cmp x.0 key.now) ≡ false) pairs.now result }
 {
-    match pairs.first() {
-        None => 0,
-        Some(pair) => {
-            if pair.0.cmp(key).is_gt() {
+    match (pairs.first(), pairs.last()) {
+        (Some(first), Some(last)) => {
+            if first.0.cmp(key).is_gt() {
                 0
-            } else {
+            } else if last.0.cmp(key).is_gt() {
                 pairs.partition_point(|pair| pair.0.cmp(key).is_le())
+            } else {
+                pairs.len()
             }
         }
+        _ => 0,
     }
 }
 
-// Pairs of a key and a value in the order of the keys.
+// Pairs of a key and a value in the order of the keys, and under each key in that of the values.
 #[derive(Drop)]
 pub(crate) struct Multimap<K: Ord, V: Ord> {
     pairs: Vec<(K, V)>,
@@ -45,13 +48,14 @@ pub(crate) struct Multimap<K: Ord, V: Ord> {
 impl<K: Ord, V: Ord> Model for Multimap<K, V> {
     ghost use Rattle.std.specs.Prelude.{List};
     ghost use Rattle.std.specs.List.Sorted.{IsSortedBy};
-    ghost use Rattle.std.specs.Ordering.{is_lt};
+    ghost use Rattle.std.specs.Ordering.{is_lt, ordering_then};
 
     ghost Value = { List (K × V) };
 
     ghost view = { λ a. a.pairs.items };
 
-    ghost invariant = { λ a. IsSortedBy (λ x y. is_lt (K.cmp x.0 y.0)) a.pairs.items };
+    ghost invariant = { λ a.
+        IsSortedBy (λ x y. is_lt (ordering_then (K.cmp x.0 y.0) (V.cmp x.1 y.1))) a.pairs.items };
 }
 
 impl<K: Ord + Drop, V: Ord + Drop> Multimap<K, V> {
@@ -66,10 +70,12 @@ impl<K: Ord + Drop, V: Ord + Drop> Multimap<K, V> {
         }
     }
 
-    // The pairs of a key.
+    // The pairs of a key, in the order of the values.
     pub(crate) fn get(&self, key: &K) -> &[(K, V)]
-        ensures { (p : K × V → Bool)
+        ensures any { (p : K × V → Bool)
             → list_any p result.now ≡ list_any (λ (x : K × V). is_eq (K.cmp x.0 key.now) && p x) self.now }
+        ensures given { (x : K × V) → Contains result.now x → Contains self.now x }
+        ensures rises { IsSortedBy (λ x y. is_lt (V.cmp x.1 y.1)) result.now }
     {
         let pairs = self.pairs.as_slice();
         let first = pairs.partition_point(|pair| pair.0.cmp(key).is_lt());

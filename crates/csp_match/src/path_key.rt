@@ -1,45 +1,41 @@
 //! Paths of host-sources, as keys.
 ghost use Rattle.std.specs.Prelude.{◌≡◌};
-ghost use Rattle.std.specs.Option.{option_map};
 ghost use Rattle.csp_match.specs.Keys as spec;
 ghost use Rattle.csp_match.specs.Pieces.{pieces_of};
 
 use crate::pieces::Pieces;
-use csp_model::{Bytes, PathPart};
+use csp_model::PathPart;
 
-// Which pieces of a URL's path the pieces of a host-source's path are compared with.
+// Which paths of URLs a host-source's path matches, beside its pieces.
 #[derive(Clone, Copy, PartialEq, Eq, PartialOrd, Ord)]
-pub(crate) enum PathShape {
-    // None of them.
-    Absent,
+pub(crate) enum PathKind {
     // All of them.
+    Absent,
+    // The one of the same pieces.
     Exact,
-    // The first ones, so many, where more stand behind them.
-    Prefix(usize),
+    // Those that have more pieces behind the same.
+    Prefix,
 }
 
-impl PathShape {
-    pub(crate) fn of(part: &PathPart) -> PathShape
-        ensures { result ≡ spec.shape_of part.now }
+impl PathKind {
+    pub(crate) fn of(part: &PathPart) -> PathKind
+        ensures { result ≡ spec.kind_of part.now }
     {
         match part {
-            PathPart::Absent => PathShape::Absent,
-            PathPart::Exact(_) => PathShape::Exact,
-            PathPart::Prefix(pieces) => PathShape::Prefix(pieces.len()),
+            PathPart::Absent => PathKind::Absent,
+            PathPart::Exact(_) => PathKind::Exact,
+            PathPart::Prefix(_) => PathKind::Prefix,
         }
     }
 
-    // The pieces of a URL's path that a path of this shape is compared with. None where it has too few.
-    pub(crate) fn pieces(self, path: &[Bytes]) -> Option<Pieces<'_>>
-        ensures { option_map pieces_of result ≡ spec.asked_pieces self path.now }
+    // Whether a path of this kind matches a URL's that begins with its pieces, and has no others if `ends`.
+    pub(crate) fn takes(self, ends: bool) -> bool
+        ensures { result ≡ spec.takes self ends }
     {
         match self {
-            PathShape::Absent => Some(Pieces { pieces: &[] }),
-            PathShape::Exact => Some(Pieces { pieces: path }),
-            PathShape::Prefix(count) if count < path.len() => Some(Pieces {
-                pieces: &path[..count],
-            }),
-            PathShape::Prefix(_) => None,
+            PathKind::Absent => true,
+            PathKind::Exact => ends,
+            PathKind::Prefix => !ends,
         }
     }
 }

@@ -1,9 +1,12 @@
 //! Pieces of paths, in an order.
-ghost use Rattle.std.specs.Prelude.{Some, refl, nat_eq};
+ghost use Rattle.std.specs.Prelude.{◌≡◌, Some, refl, nat_eq};
 ghost use Rattle.std.specs.Cmp.{on_equiv, on_total, on_po, partial_equiv_from_equiv, po};
 ghost use Rattle.std.specs.Cmp.Lexicographic.{pointwise, slice_cmp, lists_equiv, lists_total, lists_ties};
 ghost use Rattle.std.specs.Cmp.Lexicographic.{nat_list_eq_equiv, nat_list_cmp_total, texts_ties};
+ghost use Rattle.std.specs.List.{slice_get};
+ghost use Rattle.std.specs.Option.{option_cmp};
 ghost use Rattle.std.specs.Ordering.{nat_cmp};
+ghost use Rattle.csp_match.specs.Pieces as spec;
 
 use csp_model::Bytes;
 use std::cmp::Ordering;
@@ -12,6 +15,19 @@ use std::cmp::Ordering;
 #[derive(Clone, Copy)]
 pub(crate) struct Pieces<'a> {
     pub(crate) pieces: &'a [Bytes],
+}
+
+impl<'a> Pieces<'a> {
+    // How the piece at a place stands to another one. Where there is none, it stands before all.
+    pub(crate) fn compare_at(&self, at: usize, piece: &[u8]) -> Ordering
+        ensures { result
+            ≡ option_cmp (slice_cmp nat_cmp) (slice_get (spec.pieces_of self.now) at) (Some piece.now) }
+    {
+        match self.pieces.get(at) {
+            None => Ordering::Less,
+            Some(own) => own.as_slice().cmp(piece),
+        }
+    }
 }
 
 impl<'a> PartialEq for Pieces<'a> {

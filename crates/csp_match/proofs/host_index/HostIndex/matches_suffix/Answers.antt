@@ -12,8 +12,8 @@ returns-then-matches_under c =
 
 pub returns : goal.returns
 returns c =
-    let ways = c.self.inside.ways in
+    let targets = c.self.inside.targets in
     let longest = c.self.inside.longest_suffix in
-    let short = rw c.self.view_is at (short_parts longest ways c.self.invariant.places c.self.invariant.short) in
+    let short = rw c.self.view_is at (short_parts longest targets c.self.invariant.entries c.self.invariant.short) in
     sym (suffix_missing c.args.domain.now longest c.saturating_sub-first.result c.args.asked.now c.args.self.now short (omega arith)
     (λ k d low high is. c.loop-at.invariant k d low (omega arith) is))

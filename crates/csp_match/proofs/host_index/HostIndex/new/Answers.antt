@@ -1,34 +1,28 @@
 use Rattle.std.proofs.Common.{◌≤◌}
 use Rattle.csp_match.specs.declared.host_key.HostKey.{HostKey}
 use Rattle.csp_match.specs.declared.host_source.Way.{Way}
-use Rattle.csp_match.specs.declared.path_key.PathShape.{PathShape}
-use Rattle.csp_match.specs.Entries.{Entry, IsPlace}
+use Rattle.csp_match.specs.Entries.{Entry, IsEntry}
 use Rattle.csp_match.specs.Keys.{IsHostKey, key_length}
 use Rattle.csp_match.proofs.AnyLaws.{all_given}
-use Rattle.csp_match.proofs.BuildLaws.{HasSame, entry_eq, shaped_eq, pathless_eq, same_parts, same_shapes, same_pathless, shaped_hosts, pathless_hosts}
+use Rattle.csp_match.proofs.BuildLaws.{HasSame, entry_eq, pathless_eq, same_parts, same_pathless, pathless_hosts}
 use Rattle.csp_match.proofs.host_index.HostIndex.new.Goals as goal
 
 pub invariant_of-result : goal.invariant_of-result
 invariant_of-result c =
     let entries = c.args.entries.items in
-    let ways = c.new-2.result in
+    let targets = c.new.result in
     let longest = c.longest_suffix-longest_suffix.result in
-    let shapes = rw c.as_slice.ensures.value at c.in_ok-shapes.ensures in
-    let bare = rw c.as_slice-2.ensures.value at c.in_ok-pathless.ensures in
-    let short = rw c.as_slice-3.ensures.value at c.longest_suffix-longest_suffix.ensures in
-    let same : HasSame entry_eq entries ways = (c.new-2.ensures.given, c.new-2.ensures.kept) in
-    let made : HasSame shaped_eq c.in_ok-shapes.shapes.items c.new.result = (c.new.ensures.given, c.new.ensures.kept) in
-    let bare_made : HasSame pathless_eq c.in_ok-pathless.pathless.items c.new-3.result = (c.new-3.ensures.given, c.new-3.ensures.kept) in
-    let each = rw shapes at made in
+    let bare = rw c.as_slice.ensures.value at c.in_ok-pathless.ensures in
+    let short = rw c.as_slice-2.ensures.value at c.longest_suffix-longest_suffix.ensures in
+    let same : HasSame entry_eq entries targets = (c.new.ensures.given, c.new.ensures.kept) in
+    let bare_made : HasSame pathless_eq c.in_ok-pathless.pathless.items c.new-2.result = (c.new-2.ensures.given, c.new-2.ensures.kept) in
     let bare_each = rw bare at bare_made in
     record {
-      places = all_given (λ (e : Entry). IsPlace e.0) entries ways c.new-2.ensures.given c.requires;
-      hosts = all_given (λ (e : HostKey × PathShape). IsHostKey e.0) _ c.new.result each.0 (shaped_hosts entries c.requires);
-      pathless_hosts = all_given (λ (e : HostKey × Way). IsHostKey e.0) _ c.new-3.result bare_each.0 (pathless_hosts entries c.requires);
-      short = all_given (λ (e : Entry). key_length e.0.host ≤ longest) entries ways c.new-2.ensures.given short;
-      shapes = same_shapes entries ways c.new.result same each c.requires;
-      pathless = same_pathless entries ways c.new-3.result same bare_each;
+      entries = all_given IsEntry entries targets c.new.ensures.given c.requires;
+      hosts = all_given (λ (e : HostKey × Way). IsHostKey e.0) _ c.new-2.result bare_each.0 (pathless_hosts entries c.requires);
+      short = all_given (λ (e : Entry). key_length e.0 ≤ longest) entries targets c.new.ensures.given short;
+      pathless = same_pathless entries targets c.new-2.result same bare_each;
     }
 
 pub returns : goal.returns
-returns c = same_parts c.args.entries.items c.new-2.result (c.new-2.ensures.given, c.new-2.ensures.kept)
+returns c = same_parts c.args.entries.items c.new.result (c.new.ensures.given, c.new.ensures.kept)
