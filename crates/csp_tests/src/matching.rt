@@ -1,6 +1,6 @@
 //! Tests of csp_match.
 use crate::values::{policy, source, sources};
-use csp_match::{governing, governor, list_matches, source_matches};
+use csp_match::{Index, governing, governor, list_matches, source_matches};
 use csp_model::{List, Name, Origin, Policy, Source};
 use csp_url::{UrlError, read_origin, read_url};
 use std::alloc::Global;
@@ -126,26 +126,74 @@ fn paths(rt: HostRuntime) -> Result<(), Fail> {
     Ok(())
 }
 
+// Whether a list matches a URL, gone through and by an index.
 fn list_and_url(
     alloc: Global,
     sources: &List<Source>,
     origin: &Origin,
     url: &str,
-) -> Result<bool, UrlError> {
+) -> Result<(bool, bool), UrlError> {
     let url = read_url(alloc, url)?;
-    let is_so = list_matches(sources, origin, &url, false);
+    let index = Index::new(alloc, sources)?;
+    let found = (
+        list_matches(sources, origin, &url, false),
+        index.matches(origin, &url, false),
+    );
+    drop(index);
     drop(url);
-    Ok(is_so)
+    Ok(found)
 }
+
+// A list, a URL, and whether they match in a policy of `https://a.example`.
+const LISTS: [(&str, &str, bool); 18] = [
+    ("", "https://b.example/x.png", false),
+    ("ftp:", "https://b.example/x.png", false),
+    ("ftp: https:", "https://b.example/x.png", true),
+    (
+        "b.example/x/ b.example/x/y/",
+        "https://b.example/x/y/z",
+        true,
+    ),
+    (
+        "b.example/x/y/ b.example/x/y/z/",
+        "https://b.example/x/y/",
+        true,
+    ),
+    (
+        "b.example/x/y/ b.example/x/y/z/",
+        "https://b.example/x/y",
+        false,
+    ),
+    ("b.example/x/ b.example/x", "https://b.example/x", true),
+    ("b.example/x/ b.example/x", "https://b.example/x/", true),
+    ("b.example/x/ b.example/y", "https://b.example/x", false),
+    ("b.example/x b.example/x/y", "https://b.example/x/", false),
+    ("b.example/ b.example/x", "https://b.example/", true),
+    ("b.example/x//y b.example/y", "https://b.example/x//y", true),
+    ("b.example/x//y b.example/y", "https://b.example/x/y", false),
+    ("b.example/x// b.example/x", "https://b.example/x//y", true),
+    ("b.example/x// b.example/x", "https://b.example/x/y", false),
+    ("b.example:1/x b.example:2/x", "https://b.example:2/x", true),
+    (
+        "b.example:1/x b.example:2/x",
+        "https://b.example:3/x",
+        false,
+    ),
+    (
+        "b.example:1/x b.example:2/x/",
+        "https://b.example:2/x/y",
+        true,
+    ),
+];
 
 #[test]
 fn lists(rt: HostRuntime) -> Result<(), Fail> {
-    for &(value, wanted) in &[("", false), ("ftp:", false), ("ftp: https:", true)] {
+    for &(value, url, wanted) in &LISTS {
         let sources = sources(&rt, value)?;
         let origin = read_origin(rt.alloc(), "https://a.example")?;
-        let found = list_and_url(rt.alloc(), &sources, &origin, "https://b.example/x.png");
+        let found = list_and_url(rt.alloc(), &sources, &origin, url);
         drop(origin);
-        assert_eq!(rt; found, Ok(wanted), "{value}");
+        assert_eq!(rt; found, Ok((wanted, wanted)), "{value} {url}");
     }
     Ok(())
 }
