@@ -14,13 +14,9 @@ use Rattle.csp_match.specs.declared.asked.Asked.{Asked}
 use Rattle.csp_match.specs.Entries.{Entry, entry_pieces, front_fits, scheme_of, target_fits, way_fits, way_port, IsEntry}
 use Rattle.csp_match.specs.Fronts.{goes_on, place_cmp, whole_fits, IsFronted}
 use Rattle.csp_match.specs.Keys.{path_of, takes}
-use Rattle.csp_match.proofs.AnyLaws.{any_same, both, first, found, second}
+use Rattle.csp_match.proofs.AnyLaws.{any_same, both, first, found, not_true, second}
 use Rattle.csp_match.proofs.FrontLaws.{places_rise}
 use Rattle.csp_match.proofs.FrontMatches.{matching_goes_on, matching_short, whole_matches}
-
-not_true : (b : Bool) → (b ≡ true → ⊥) → b ≡ false
-not_true true none = absurd (none refl)
-not_true false none = refl
 
 pub none_fits : (p : Entry → Bool) (entries : List Entry) → ((k : ℕ) (d : Entry) → k < length entries → p (get_or entries k d) ≡ false)
     → list_any p entries ≡ false

@@ -10,7 +10,7 @@ use Rattle.std.proofs.lemmas.Cmp.{then_total, on_total, tied_back}
 use Rattle.std.proofs.lemmas.List.Elements.{All-contains, All-contains_itself, All-drop, All-take}
 use Rattle.std.proofs.lemmas.List.Sorted.{searchable_from_sorted, IsNonDecreasingBy-drop}
 use Rattle.csp_model.proofs.Deciding.{same_bool}
-use Rattle.csp_match.proofs.AnyLaws.{both, first, second}
+use Rattle.csp_match.proofs.AnyLaws.{both, first, not_true, second}
 
 lt_down : (o p : Ordering) → ordering_index o ≤ ordering_index p → is_lt p ≡ true → is_lt o ≡ true
 lt_down Less p below h = refl
@@ -70,6 +70,24 @@ pub all_up_to : {X K : Type 0} (R : K → K → Ordering) (key : X → K) (k : K
     → (i : ℕ) (d : X) → i < length xs → is_le (R (key (get_or xs i d)) k) ≡ true
 all_up_to {X} R key k xs last sorted is below i d within =
     sorted i (length xs - 1) d (omega arith) (omega arith) (rw (is d) (not_more (R (key last) k) below))
+
+-- where the items that pass stand first, and one fails, those before it tell where the first that fails stands
+module _ {X : Type 0} (p : X → Bool) (n : ℕ) (xs : List X) (sorted : IsPartitionedBy p xs) (within : n < length xs) where
+  pub few_sorted : IsPartitionedBy p (take n xs)
+  few_sorted i j d below short h =
+      let near : j < n = omega (arith, short, length-take n xs) in
+      rw (get_or-take n xs i d (omega arith)) (sorted i j d below (omega arith) (rw (get_or-take n xs j d near) at h))
+
+  pub few_tell : (i : ℕ) (x : X) → i ≤ length (take n xs) → ((d : X) → get_or xs n d ≡ x) → p x ≡ false
+      → IsPartitionPoint (λ y. p y ≡ true) (λ y. p y ≡ false) (take n xs) i → IsPartitionPoint (λ y. p y ≡ true) (λ y. p y ≡ false) xs i
+  few_tell i x bound is fails few = (
+    λ k d low high.
+        rw (← get_or-take n xs k d (omega (arith, bound, length-take n xs))) (few.0 k d low high),
+    λ k d low high. elim (cases_lt k n) [
+      | inl near ↦ rw (← get_or-take n xs k d near) (few.1 k d low (omega (arith, length-take n xs)))
+      | inr far ↦ not_true (p (get_or xs k d)) (λ h. false≢true (sym (rw (is d) fails) ∙ sorted n k d far high h))
+    ],
+  )
 
 -- what stands between the items of lesser keys and those of greater ones
 pub run_any : {X K : Type 0} (R : K → K → Ordering) (key : X → K) (k : K) (xs : List X) (i j : ℕ)

@@ -1,5 +1,5 @@
 -- The suffixes of a domain stand behind its dots.
-use Rattle.std.proofs.Common.{◌≡◌, ℕ, ◌+◌, ◌-◌, ◌<◌, ◌≤◌, Bool, true, false, ◌&&◌, List, [], ◌∷◌, suc, add-one, ◌++◌, length, take, drop, get_or, All, map, refl, sym, ◌∙◌, ap, arith, length-append, take-append-drop}
+use Rattle.std.proofs.Common.{◌≡◌, ℕ, ◌+◌, ◌-◌, ◌<◌, ◌≤◌, true, false, ◌&&◌, List, [], ◌∷◌, suc, add-one, ◌++◌, length, take, drop, get_or, All, map, refl, sym, ◌∙◌, ap, arith, length-append, take-append-drop}
 use Rattle.std.proofs.lemmas.Bool.{false≢true}
 use Rattle.std.proofs.lemmas.List.{drop_more}
 use Rattle.std.proofs.lemmas.List.Elements.{All-contains, All-map}
@@ -14,7 +14,7 @@ use Rattle.csp_match.specs.declared.host_key.HostKey.TheVariants as host_key
 use Rattle.csp_match.specs.Entries.{Entry, entry_parts, IsEntry}
 use Rattle.csp_match.specs.Keys.{host_of, IsHostKey, key_length, Parts}
 use Rattle.csp_match.specs.Under.{same_part, any_under, is_suffixed, any_suffixed, rest_matches}
-use Rattle.csp_match.proofs.AnyLaws.{both, first, second, found}
+use Rattle.csp_match.proofs.AnyLaws.{both, first, found, not_true, second}
 use Rattle.csp_match.proofs.KeyLaws.{same_part_is, same_part_itself}
 
 -- what is found under the tail behind a dot
@@ -55,10 +55,6 @@ suffix_of (host_part.Under suffix) domain h =
     let parted = (subdomain_Decides domain suffix).0 h in
     (suffix, parted.0, refl, parted.1)
 suffix_of (host_part.Exact text) domain h = absurd (false≢true h)
-
-not_true : (b : Bool) → (b ≡ true → ⊥) → b ≡ false
-not_true true none = absurd (none refl)
-not_true false none = refl
 
 get_seam : (front : List ℕ) (x : ℕ) (rest : List ℕ) → get_or (front ++ x ∷ rest) (length front) 0 ≡ x
 get_seam [] x rest = refl

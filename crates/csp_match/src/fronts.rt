@@ -2,7 +2,7 @@
 ghost use Rattle.std.specs.Prelude.{◌≡◌, ◌<◌, ◌≤◌, ◌+◌, true, false, ◌&&◌, Bool, All, length};
 ghost use Rattle.std.specs.List.{list_any};
 ghost use Rattle.std.specs.List.Sorted.{IsPartitionPoint, IsPartitionedBy};
-ghost use Rattle.std.specs.Ordering.{is_le};
+ghost use Rattle.std.specs.Ordering.{is_le, is_lt};
 ghost use Rattle.csp_match.specs.Entries.{target_fits, Entry, IsEntry};
 ghost use Rattle.csp_match.specs.Fronts.{goes_on, stands, whole_fits, IsFronted, Rises};
 
@@ -10,6 +10,9 @@ use crate::asked::Asked;
 use crate::host_key::HostKey;
 use crate::host_source::Target;
 use csp_model::Bytes;
+
+// How many targets are looked at first for the start of a piece's.
+const FEW: usize = 8;
 
 // Whether one of the targets is a URL's. Of those that begin with the first pieces of its path, those that begin
 // with one piece more are looked for by that piece alone.
@@ -64,9 +67,23 @@ fn narrowed<'a, 'b>(
         ≡ list_any (λ e. goes_on path.now depth e && p e) targets.now }
 {
     let piece = path[depth].as_slice();
-    let first = targets.partition_point(|pair| pair.1.pieces.compare_at(depth, piece).is_lt());
-    let rest = &targets[first..];
+    let rest = &targets[start_of_piece(targets, depth, piece)..];
     &rest[..end_of_piece(rest, depth, piece)]
+}
+
+// Where the targets with no lesser piece at a place begin. Often that is among the first few.
+fn start_of_piece(targets: &[(HostKey<'_>, Target<'_>)], depth: usize, piece: &[u8]) -> usize
+    requires { IsPartitionedBy (λ e. is_lt (stands e depth piece.now)) targets.now }
+    ensures bound { result ≤ length targets.now }
+    ensures start { IsPartitionPoint (λ e. is_lt (stands e depth piece.now) ≡ true)
+        (λ e. is_lt (stands e depth piece.now) ≡ false) targets.now result }
+{
+    match targets.get(FEW) {
+        Some(pair) if !pair.1.pieces.compare_at(depth, piece).is_lt() => {
+            targets[..FEW].partition_point(|pair| pair.1.pieces.compare_at(depth, piece).is_lt())
+        }
+        _ => targets.partition_point(|pair| pair.1.pieces.compare_at(depth, piece).is_lt()),
+    }
 }
 
 // Where the targets with a greater piece at a place begin. Often there are none, as the last target shows.

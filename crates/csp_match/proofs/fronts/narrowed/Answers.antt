@@ -1,8 +1,7 @@
-use Rattle.std.proofs.Common.{rules, of_calls, ◌≡◌, ◌-◌, Some, length, take, drop, take_all, is_lt, arith, length-drop, refl}
+use Rattle.std.proofs.Common.{rules, of_calls, ◌≡◌, ◌-◌, Some, length, take, drop, take_all, arith, length-drop, refl}
 use Rattle.std.specs.List.{slice_get}
 use Rattle.std.specs.Cmp.Lexicographic.{nat_list_cmp_total, options_total}
 use Rattle.std.proofs.lemmas.List.Elements.{All-drop, All-take}
-use Rattle.std.proofs.lemmas.List.Sorted.{IsPartitionPoint-from_clause}
 use Rattle.std.proofs.lemmas.Option.{slice_get_read}
 use Rattle.csp_match.specs.Entries.{Entry, entry_pieces, IsEntry}
 use Rattle.csp_match.specs.Fronts.{place_cmp}
@@ -10,10 +9,16 @@ use Rattle.csp_match.proofs.FrontLaws.{fronted_more, places_rise}
 use Rattle.csp_match.proofs.RunOfKey.{less_first, run_any, run_level, up_to_first}
 use Rattle.csp_match.proofs.fronts.narrowed.Goals as goal
 
+pub start_of_piece-requires : goal.start_of_piece-requires
+start_of_piece-requires c =
+    let xs = c.args.targets.now in
+    less_first (options_total nat_list_cmp_total) (λ (e : Entry). slice_get (entry_pieces e) c.args.depth) (Some c.as_slice-piece.result.now) xs
+    (places_rise c.args.path.now c.args.depth xs c.requires.fronted)
+
 pub end_of_piece-requires : goal.end_of_piece-requires
 end_of_piece-requires c =
     let xs = c.args.targets.now in
-    let i = c.partition_point-first.result in
+    let i = c.start_of_piece.result in
     let all : take (length xs - i) (drop i xs) ≡ drop i xs = take_all _ _ (omega (arith, length-drop i xs)) in
     rw all (up_to_first (options_total nat_list_cmp_total) (λ (e : Entry). slice_get (entry_pieces e) c.args.depth) (Some c.as_slice-piece.result.now) i xs
     (places_rise c.args.path.now c.args.depth xs c.requires.fronted))
@@ -23,7 +28,7 @@ returns c =
     let path = c.args.path.now in
     let depth = c.args.depth in
     let xs = c.args.targets.now in
-    let i = c.partition_point-first.result in
+    let i = c.start_of_piece.result in
     let j = c.end_of_piece.result in
     let piece = Some c.as_slice-piece.result.now in
     let key = λ (e : Entry). slice_get (entry_pieces e) depth in
@@ -31,8 +36,7 @@ returns c =
     let all : take (length xs - i) (drop i xs) ≡ drop i xs = take_all _ _ (omega (arith, length-drop i xs)) in
     let sorted = places_rise path depth xs c.requires.fronted in
     let total = options_total nat_list_cmp_total in
-    let less = IsPartitionPoint-from_clause (λ (e : Entry). is_lt (place_cmp (key e) piece)) xs i c.partition_point-first.ensures.partitioned
-    (less_first total key piece xs sorted) (λ a r f h. search (rules, of_calls)) in
+    let less = c.start_of_piece.ensures.start in
     let upto = rw all at c.end_of_piece.ensures.end in
     let level = run_level place_cmp key piece xs i j less upto in
     rw all (record {
