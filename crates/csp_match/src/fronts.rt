@@ -14,8 +14,8 @@ use csp_model::Bytes;
 // How many targets are looked at first for the start of a piece's.
 const FEW: usize = 8;
 
-// Whether one of the targets is a URL's. Of those that begin with the first pieces of its path, those that begin
-// with one piece more are looked for by that piece alone.
+// Whether one of the targets is a URL's. Of those that begin with the first pieces of its path, those that go
+// on as it does are looked for by its next piece alone.
 pub(crate) fn any_target_fits<'a>(targets: &[(HostKey<'a>, Target<'a>)], asked: &Asked<'_>) -> bool
     requires each { All IsEntry targets.now }
     requires rises { Rises targets.now }
@@ -35,7 +35,8 @@ pub(crate) fn any_target_fits<'a>(targets: &[(HostKey<'a>, Target<'a>)], asked: 
     any_whole_fits(fronted, path.len(), asked)
 }
 
-// Whether one of the targets is a URL's, whose pieces are the first pieces of its path, so many. They stand first.
+// Whether one of the targets is a URL's, whose pieces are the first ones of its path, so many. These stand
+// before the others.
 fn any_whole_fits(targets: &[(HostKey<'_>, Target<'_>)], depth: usize, asked: &Asked<'_>) -> bool
     requires { IsFronted asked.now.path.now depth targets.now }
     ensures { result ≡ list_any (whole_fits asked.now depth) targets.now }

@@ -62,8 +62,8 @@ impl Way<'_> {
     }
 }
 
-// Where the URLs of a host-source lie at its host, and how they are reached. Pieces come first in the order, so
-// paths with a common front stand together, and those that are this front stand before the longer ones.
+// Where the URLs of a host-source lie at its host, and how they are reached. Pieces come first in the order,
+// so paths with a common front stand together, and those that are this front stand before the longer ones.
 #[derive(Clone, Copy, PartialEq, Eq, PartialOrd, Ord)]
 pub(crate) struct Target<'a> {
     pub(crate) pieces: Pieces<'a>,

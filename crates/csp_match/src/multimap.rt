@@ -17,8 +17,8 @@ pub(crate) fn sorted_once<T: Ord + Drop>(mut items: Vec<T>) -> Vec<T>
     items
 }
 
-// Where the pairs of greater keys begin. Mostly no pair has the key itself, as the first pair shows, or all have it,
-// as the last one does.
+// Where the pairs of greater keys begin. Mostly no pair has the key itself, as the first pair shows, or all
+// have it, as the last one does.
 fn end_of_key<K: Ord, V>(pairs: &[(K, V)], key: &K) -> usize
     requires { IsPartitionedBy (λ (x : K × V). is_le (K.cmp x.0 key.now)) pairs.now }
     ensures bound { result ≤ length pairs.now }
