@@ -13,9 +13,11 @@ use Rattle.csp_match.specs.Keys.{Parts}
 use Rattle.csp_match.specs.Under.{parts_match, rest_matches, same_part, any_under, is_suffixed, any_suffixed}
 use Rattle.csp_match.proofs.AnyLaws.{or_false, any_or, any_alike}
 
-host_first : (a b c d : Bool) → (a && (b && (c && d))) ≡ (b && ((a && c) && d))
-host_first true b c d = refl
-host_first false true c d = refl
+host_first : (a b c d : Bool) → (a && (b && (c && d))) ≡ (b && ((c && a) && d))
+host_first true b true d = refl
+host_first true b false d = refl
+host_first false true true d = refl
+host_first false true false d = refl
 host_first false false c d = refl
 
 pub host_then_rest : (asked : Asked) (sources : List Parts)

@@ -38,8 +38,8 @@ IsEntry e = IsHostKey e.0 × IsPath e.1.kind (entry_pieces e)
 -- a URL's scheme and port are those that are asked for
 abbrev pub way_fits : Option (List ℕ) → PortPart → Asked → Bool
 way_fits scheme port asked =
-    own_scheme_matches scheme asked.origin.now (scheme_text asked.scheme)
-    && port_matches port asked.port asked.scheme
+    port_matches port asked.port asked.scheme
+    && own_scheme_matches scheme asked.origin.now (scheme_text asked.scheme)
 
 -- and its path is
 abbrev pub target_fits : Asked → Entry → Bool

@@ -57,8 +57,8 @@ impl Way<'_> {
         ensures { result
             ≡ entries.way_fits (entries.scheme_of self.now) (entries.way_port self.now) asked.now }
     {
-        own_scheme_matches(self.scheme, asked.origin, asked.scheme)
-            && port_matches(self.port.part(), asked.port, asked.scheme)
+        port_matches(self.port.part(), asked.port, asked.scheme)
+            && own_scheme_matches(self.scheme, asked.origin, asked.scheme)
     }
 }
 
