@@ -1,5 +1,6 @@
 pub mod Lines
 pub mod Names
+pub mod Pieces
 pub mod Reads
 pub mod Refusal
 pub mod Room

@@ -8,6 +8,7 @@ ghost use Rattle.csp_policy.specs.Room.{AreRead};
 
 use crate::error::BlockError;
 use crate::lines::{Line, read_line, without_status};
+use crate::pieces::Pieces;
 use crate::reader::Reader;
 use csp_model::{Memory, Origin, PolicyList};
 use std::alloc::Global;
@@ -23,7 +24,7 @@ fn read_lines(alloc: Global, bytes: &[u8], origin: &Origin) -> Result<Reader, Bl
 {
     let mut reader = Reader::new(alloc);
     let mut number = 0;
-    for line in without_status(bytes).split(|b| *b == b'\n') {
+    for line in Pieces::new(without_status(bytes), b'\n') {
         number += 1;
         match read_line(line) {
             Line::Skipped => {}

@@ -69,9 +69,11 @@ fn compare_folded(ours: &[u8], theirs: &[u8]) -> Ordering
         ours.split_first(),
         theirs.split_first(),
     ) {
-        let order = one.to_ascii_lowercase().cmp(&other.to_ascii_lowercase());
-        if order.is_ne() {
-            return order;
+        if one != other {
+            let order = one.to_ascii_lowercase().cmp(&other.to_ascii_lowercase());
+            if order.is_ne() {
+                return order;
+            }
         }
         ours = after;
         theirs = behind;

@@ -6,8 +6,9 @@ ghost use Rattle.csp_model.specs.Reading.{source_of};
 ghost use Rattle.csp_policy.specs.Room.{directive_with, shortened, kept_of, if_first, tokens_in, AreShortened};
 
 use crate::caseless_name::CaselessName;
-use crate::words::next_word;
-use csp_model::{Directive, List, Memory, Source, Text, is_ascii_text};
+use crate::pieces::Pieces;
+use crate::words::{is_ascii, next_word};
+use csp_model::{Directive, List, Memory, Source, Text};
 use csp_source::read_source;
 use std::alloc::Global;
 use std::collections::BTreeSet;
@@ -67,7 +68,7 @@ fn split_name(piece: &[u8]) -> Option<(&[u8], &[u8])>
     ensures ascii_name { IfSome result (λ found. is_ascii_text found.0.now ≡ true) }
     ensures ascii_text { IfSome result (λ found. is_ascii_text found.1.now ≡ true) }
 {
-    if !piece.is_empty() && is_ascii_text(piece) {
+    if !piece.is_empty() && is_ascii(piece) {
         next_word(piece)
     } else {
         None
@@ -133,7 +134,7 @@ pub(crate) fn read_directives(
 {
     let mut seen = BTreeSet::new(alloc);
     let mut made = Vec::new(alloc);
-    for piece in value.split(|b| *b == b';') {
+    for piece in Pieces::new(value, b';') {
         let Some((name, text)) = split_name(piece) else {
             continue;
         };

@@ -7,6 +7,7 @@ mod directive;
 mod error;
 mod lines;
 mod longest;
+mod pieces;
 mod print;
 mod reader;
 mod words;

@@ -9,6 +9,7 @@ ghost use Rattle.csp_policy.specs.Room.{AreRead, kept_of};
 use crate::directive::read_directives;
 use crate::error::BlockError;
 use crate::longest::longest_text;
+use crate::pieces::Pieces;
 use csp_model::{Disposition, Duplicate, List, Memory, Origin, Policy};
 use std::alloc::Global;
 
@@ -64,7 +65,8 @@ impl Reader {
         Ok(())
     }
 
-    // Reads the policies between a header's commas.
+    // Reads the policies between a header's commas. An empty piece is passed at once: a file may hold nothing
+    // else.
     fn add_policies(
         &mut self,
         alloc: Global,
@@ -75,8 +77,10 @@ impl Reader {
         ensures { OnOk result
             (ReadsOn self.old self.new (spec.policies_in origin.now disposition value.now)) }
     {
-        for piece in value.split(|b| *b == b',') {
-            self.add_policy(alloc, origin, disposition, false, piece)?;
+        for piece in Pieces::new(value, b',') {
+            if !piece.is_empty() {
+                self.add_policy(alloc, origin, disposition, false, piece)?;
+            }
         }
         Ok(())
     }

@@ -3,6 +3,13 @@ ghost use Rattle.std.specs.Prelude.{◌≡◌, ◌<◌, ◌∷◌, [], length, p
 ghost use Rattle.std.specs.Char.{is_ascii_whitespace};
 ghost use Rattle.csp_model.specs.Ascii.{words, is_ascii_text};
 
+// Whether each byte is below 128.
+pub(crate) fn is_ascii(text: &[u8]) -> bool
+    ensures { result ≡ is_ascii_text text.now }
+{
+    text.is_ascii()
+}
+
 fn space_at(text: &[u8]) -> Option<usize>
     ensures value { result ≡ position is_ascii_whitespace text.now }
     ensures bound { IfSome result (λ at. at < length text.now) }

@@ -1,14 +1,40 @@
-use Rattle.std.proofs.Common.{arith, rules, ◌∙◌, ◌==◌, ◌+◌, sym, ap, subst, refl, inr, Some, append-nil}
-use Rattle.std.specs.List.{flat_map, position_from}
+use Rattle.std.proofs.Common.{arith, rules, ◌∙◌, ◌==◌, ◌+◌, ◌≤◌, ℕ, Bool, true, false, List, cond, length, drop, codes, nat_eq, length-drop, le_refl, sym, ap, subst, refl, inr, Some, append-nil}
+use Rattle.std.specs.List.{flat_map, position_from, starts_with}
 use Rattle.std.proofs.lemmas.List.{length_push}
-use Rattle.std.proofs.lemmas.Iterator.Consumers.{YieldsList-at, YieldsList-end}
-use Rattle.std.proofs.lemmas.Iterator.Splits.{YieldsList-from_slice_split}
+use Rattle.std.proofs.lemmas.List.Splits.{length-slice_split}
+use Rattle.std.proofs.lemmas.List.Sums.{count_by-le-length}
+use Rattle.std.proofs.lemmas.Iterator.Consumers.{YieldsList-at, YieldsList-end, YieldsList-from_first}
 use Rattle.csp_model.specs.Ascii.{split_at}
-use Rattle.csp_model.specs.Policies.{Skipped, Header, policies, policies_of, is_bad}
+use Rattle.csp_model.specs.Policies.{Skipped, Header, policies, policies_of, is_bad, without_status}
+use Rattle.csp_policy.specs.Pieces.{pieces_left}
 use Rattle.csp_policy.specs.Room.{AreRead}
 use Rattle.csp_policy.specs.Refusal.{refusal_at}
 use Rattle.csp_policy.proofs.LinesSoFar.{says, said, still_good, read_more, bad_at, at_turn}
 use Rattle.csp_policy.proofs.block.read_lines.Goals as goal
+
+-- a text has no more lines than bytes, but for one
+few_lines : (bytes : List ℕ) → length (split_at 10 (without_status bytes)) ≤ length bytes + 1
+few_lines bytes =
+    let lines = length-slice_split (λ b. b == 10) (without_status bytes) in
+    let feeds = count_by-le-length (λ b. b == 10) (without_status bytes) in
+    let short : length (without_status bytes) ≤ length bytes = shorter (starts_with nat_eq bytes (codes "HTTP/")) _ bytes in
+    omega arith
+  where
+  shorter : (b : Bool) (n : ℕ) (bytes : List ℕ) → length (cond b (drop n bytes) bytes) ≤ length bytes
+  shorter true n bytes = let less = length-drop n bytes in omega arith
+  shorter false n bytes = le_refl (length bytes)
+
+pub overflow_add-number : goal.overflow_add-number
+overflow_add-number c =
+    let turn = at_turn (YieldsList-at c.into_iter-line-iterator.ensures.into_iter_gives
+    (YieldsList-from_first (λ x. x.now) pieces_left {s = c.new-line-items.result} (split_at 10 c.without_status.result.now) c.new-line-items.ensures))
+    c.loop-line.yielded _ c.loop-line.yielded_by _ _ c.in-Some.line c.in-Some.is c.next.ensures.steps in
+    let within = turn.1.0 in
+    let few = few_lines c.args.bytes.now in
+    let all = ap (λ t. length (split_at 10 t)) c.without_status.ensures in
+    let number = c.loop-line.invariant.number in
+    let short = c.requires in
+    omega arith
 
 pub loop-line-preserved-in-Skipped : goal.loop-line-preserved-in-Skipped
 loop-line-preserved-in-Skipped c =
@@ -36,7 +62,7 @@ loop-line-preserved c =
 pub returns-in-Bad-clause-bad : goal.returns-in-Bad-clause-bad
 returns-in-Bad-clause-bad c =
     let turn = at_turn (YieldsList-at c.into_iter-line-iterator.ensures.into_iter_gives
-    (YieldsList-from_slice_split _ (λ b. b == 10) c.without_status.result.now c.split-line-items.ensures.rest c.split-line-items.ensures.done c.split-line-items.ensures.closure (λ x b q k. search rules)))
+    (YieldsList-from_first (λ x. x.now) pieces_left {s = c.new-line-items.result} (split_at 10 c.without_status.result.now) c.new-line-items.ensures))
     c.loop-line.yielded _ c.loop-line.yielded_by _ _ c.in-Some.line c.in-Some.is c.next.ensures.steps in
     inr (ap (λ o. refusal_at o (policies c.args.bytes.now c.args.origin.now))
     (ap (λ bytes. position_from is_bad 1 (says (split_at 10 bytes))) (sym c.without_status.ensures)
@@ -46,7 +72,7 @@ returns-in-Bad-clause-bad c =
 pub returns-clause-read : goal.returns-clause-read
 returns-clause-read c =
     let all = YieldsList-end (YieldsList-at c.into_iter-line-iterator.ensures.into_iter_gives
-    (YieldsList-from_slice_split _ (λ b. b == 10) c.without_status.result.now c.split-line-items.ensures.rest c.split-line-items.ensures.done c.split-line-items.ensures.closure (λ x b q k. search rules)))
+    (YieldsList-from_first (λ x. x.now) pieces_left {s = c.new-line-items.result} (split_at 10 c.without_status.result.now) c.new-line-items.ensures))
     c.loop-line.yielded _ c.loop-line.yielded_by _ _ c.in-None.is c.next.ensures.steps in
     subst (λ parts. AreRead (flat_map (policies_of c.args.origin.now) (says parts)) c.loop-line.reader.policies c.loop-line.reader.room)
     (all.0 ∙ ap (split_at 10) c.without_status.ensures) c.loop-line.invariant.read
@@ -54,6 +80,6 @@ returns-clause-read c =
 pub returns-clause-good : goal.returns-clause-good
 returns-clause-good c =
     let all = YieldsList-end (YieldsList-at c.into_iter-line-iterator.ensures.into_iter_gives
-    (YieldsList-from_slice_split _ (λ b. b == 10) c.without_status.result.now c.split-line-items.ensures.rest c.split-line-items.ensures.done c.split-line-items.ensures.closure (λ x b q k. search rules)))
+    (YieldsList-from_first (λ x. x.now) pieces_left {s = c.new-line-items.result} (split_at 10 c.without_status.result.now) c.new-line-items.ensures))
     c.loop-line.yielded _ c.loop-line.yielded_by _ _ c.in-None.is c.next.ensures.steps in
     ap (λ parts. position_from is_bad 1 (says parts)) (sym (all.0 ∙ ap (split_at 10) c.without_status.ensures)) ∙ c.loop-line.invariant.good

@@ -1,10 +1,10 @@
 use Rattle.std.proofs.Common.{◌∙◌, ◌==◌, sym, ap, subst, rules, refl}
 use Rattle.std.specs.List.{filter_map}
-use Rattle.std.proofs.lemmas.Iterator.Consumers.{YieldsList-at, YieldsList-end}
-use Rattle.std.proofs.lemmas.Iterator.Splits.{YieldsList-from_slice_split}
-use Rattle.csp_model.specs.Ascii.{words}
+use Rattle.std.proofs.lemmas.Iterator.Consumers.{YieldsList-at, YieldsList-end, YieldsList-from_first}
+use Rattle.csp_model.specs.Ascii.{words, split_at}
 use Rattle.csp_model.specs.Policies.{directive_of, firsts}
 use Rattle.csp_policy.specs.Names.{folded}
+use Rattle.csp_policy.specs.Pieces.{pieces_left}
 use Rattle.csp_policy.specs.Room.{directive_with, kept_of, AreShortened}
 use Rattle.csp_policy.specs.declared.caseless_name.CaselessName.{CaselessName}
 use Rattle.csp_policy.proofs.Firsts.{has_name, found, found_none, found_some, firsts_push}
@@ -54,7 +54,7 @@ loop-piece-preserved-in-Continue-branch-2 c =
 pub returns : goal.returns
 returns c =
     let all = YieldsList-end (YieldsList-at c.into_iter-piece-iterator.ensures.into_iter_gives
-    (YieldsList-from_slice_split _ (λ b. b == 59) c.args.value.now c.split-piece-items.ensures.rest c.split-piece-items.ensures.done c.split-piece-items.ensures.closure (λ x b q k. search rules)))
+    (YieldsList-from_first (λ x. x.now) pieces_left {s = c.new-piece-items.result} (split_at 59 c.args.value.now) c.new-piece-items.ensures))
     c.loop-piece.yielded _ c.loop-piece.yielded_by _ _ c.in-None.is c.next.ensures.steps in
     subst (λ pieces. AreShortened (kept_of c.args.meta (firsts (filter_map directive_of pieces))) c.from_vec.result c.args.room.now c.loop-piece.room) all.0
     (subst (λ made. AreShortened (kept_of c.args.meta (firsts (found c.loop-piece.yielded))) made c.args.room.now c.loop-piece.room) (sym c.from_vec.ensures)

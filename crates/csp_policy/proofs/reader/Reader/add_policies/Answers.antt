@@ -1,12 +1,13 @@
-use Rattle.std.proofs.Common.{◌≡◌, ◌∙◌, ◌==◌, ◌∷◌, ◌++◌, [], sym, ap, subst, List as Items, Bor, ℕ, map, rules, false}
+use Rattle.std.proofs.Common.{arith, refl, append-nil, length, ◌≡◌, ◌∙◌, ◌==◌, ◌∷◌, ◌++◌, [], sym, ap, subst, List as Items, Bor, ℕ, map, rules, false}
 use Rattle.std.specs.List.{flat_map}
 use Rattle.std.proofs.lemmas.List.{map_push, flat_map_more}
-use Rattle.std.proofs.lemmas.Iterator.Consumers.{YieldsList-at, YieldsList-end}
-use Rattle.std.proofs.lemmas.Iterator.Splits.{YieldsList-from_slice_split}
-use Rattle.csp_model.specs.Policies.{policy_with, directives_of}
+use Rattle.std.proofs.lemmas.Iterator.Consumers.{YieldsList-at, YieldsList-end, YieldsList-from_first}
+use Rattle.csp_model.specs.Ascii.{split_at}
+use Rattle.csp_model.specs.Policies.{policy_with, directives_of, directive_of}
 use Rattle.csp_model.specs.declared.policy.Disposition.{Disposition}
 use Rattle.csp_model.specs.declared.policy.Policy.{Policy}
 use Rattle.csp_model.specs.declared.url.Origin.{Origin}
+use Rattle.csp_policy.specs.Pieces.{pieces_left}
 use Rattle.csp_policy.specs.Room.{AreRead}
 use Rattle.csp_policy.proofs.reader.Reader.add_policies.Goals as goal
 
@@ -20,13 +21,25 @@ one_more origin disposition ps pieces piece =
     flat_map_more (λ piece. policy_with origin disposition false (directives_of piece)) ps (map (λ (x : Bor (Items ℕ)). x.now) pieces) piece.now
     ∙ ap (λ xs. ps ++ of_pieces origin disposition xs) (sym (map_push (λ (x : Bor (Items ℕ)). x.now) pieces piece))
 
+-- an empty piece has no policy
+no_more : (origin : Origin) (disposition : Disposition) (piece : Items ℕ) → length piece ≡ 0 → policy_with origin disposition false (directives_of piece) ≡ []
+unfolding directive_of
+no_more origin disposition [] h = refl
+no_more origin disposition (b ∷ piece) h = absurd (omega (arith, h))
+
 pub loop-piece-preserved : goal.loop-piece-preserved
-loop-piece-preserved c ps h = subst (λ qs. AreRead qs c.add_policy.new.self.policies c.add_policy.new.self.room)
+loop-piece-preserved c ps h = subst (λ qs. AreRead qs c.loop-piece.self.policies c.loop-piece.self.room)
+    (sym (append-nil (ps ++ of_pieces c.args.origin.now c.args.disposition (map (λ (x : Bor (Items ℕ)). x.now) c.loop-piece.yielded)))
+    ∙ ap (λ qs. (ps ++ of_pieces c.args.origin.now c.args.disposition (map (λ (x : Bor (Items ℕ)). x.now) c.loop-piece.yielded)) ++ qs) (sym (no_more c.args.origin.now c.args.disposition c.in-Some.piece.now (let e = c.is_empty.ensures in let f = c.if-not-is_empty in grind (arith, e, f))))
+    ∙ one_more c.args.origin.now c.args.disposition ps c.loop-piece.yielded c.in-Some.piece) (c.loop-piece.invariant ps h)
+
+pub loop-piece-preserved-in-Continue-1 : goal.loop-piece-preserved-in-Continue-1
+loop-piece-preserved-in-Continue-1 c ps h = subst (λ qs. AreRead qs c.add_policy.new.self.policies c.add_policy.new.self.room)
     (one_more c.args.origin.now c.args.disposition ps c.loop-piece.yielded c.in-Some.piece) (c.in_ok-add_policy.ensures _ (c.loop-piece.invariant ps h))
 
 pub returns : goal.returns
 returns c ps h =
     let all = YieldsList-end (YieldsList-at c.into_iter-piece-iterator.ensures.into_iter_gives
-    (YieldsList-from_slice_split _ (λ b. b == 44) c.args.value.now c.split-piece-items.ensures.rest c.split-piece-items.ensures.done c.split-piece-items.ensures.closure (λ x b q k. search rules)))
+    (YieldsList-from_first (λ x. x.now) pieces_left {s = c.new-piece-items.result} (split_at 44 c.args.value.now) c.new-piece-items.ensures))
     c.loop-piece.yielded _ c.loop-piece.yielded_by _ _ c.in-None.is c.next.ensures.steps in
     subst (λ pieces. AreRead (ps ++ of_pieces c.args.origin.now c.args.disposition pieces) c.loop-piece.self.policies c.loop-piece.self.room) all.0 (c.loop-piece.invariant ps h)
