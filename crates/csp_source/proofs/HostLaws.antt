@@ -200,7 +200,7 @@ authority_takes scheme text s e = go (host_part_of (take_while is_host_char text
 parts_join : (p q : ℕ → Bool) (s : List ℕ) → s ≡ take_while p s ++ (take_while q (skip_while p s) ++ skip_while q (skip_while p s))
 parts_join p q s = take_skip p s ∙ ap (λ x. take_while p s ++ x) (take_skip q (skip_while p s))
 
-scheme_end : (s : List ℕ) → starts_with nat_eq s (codes "://") ≡ true → s ≡ codes "://" ++ drop 3 s
+pub scheme_end : (s : List ℕ) → starts_with nat_eq s (codes "://") ≡ true → s ≡ codes "://" ++ drop 3 s
 scheme_end [] h = cc
 scheme_end (c ∷ []) h = grind (arith, common_steps)
 scheme_end (c ∷ d ∷ []) h = grind (arith, common_steps)

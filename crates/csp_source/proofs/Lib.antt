@@ -1,9 +1,11 @@
+pub mod Folds
 mod HostLaws
 mod KindLaws
 mod LowerLaws
 mod PathLaws
 mod PortLaws
 mod QuotedLaws
+mod SchemeEnds
 mod SchemeLaws
 mod SegmentLaws
 mod SourceLaws

@@ -19,7 +19,7 @@ fn is_label_char(b: u8) -> bool
 fn all_label_chars(text: &[u8]) -> bool
     ensures { result ≡ list_all spec.is_label_char text.now }
 {
-    text.iter().all(|b| is_label_char(*b))
+    text.iter().fold(true, |all, b| all & is_label_char(*b))
 }
 
 fn is_label(text: &[u8]) -> bool

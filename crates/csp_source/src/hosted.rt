@@ -7,8 +7,8 @@ ghost use Rattle.csp_model.specs.Reading as spec;
 use crate::host::{host_len, host_part_of};
 use crate::path::{is_path, path_part_of};
 use crate::port::port_part_of;
-use crate::scheme::scheme_len;
-use csp_model::{Memory, Source, Text, is_scheme};
+use crate::scheme::split_scheme;
+use csp_model::{Memory, Source, Text};
 use std::alloc::Global;
 
 #[tactic(auto, unfolding(csp_model::specs::Reading::is_no_slash))]
@@ -72,11 +72,8 @@ pub(crate) fn host_source(alloc: Global, token: &[u8]) -> Result<Option<Source>,
     requires { IsTrue (is_ascii_text token.now) }
     ensures { IfOk result (λ found. found ≡ spec.host_source token.now) }
 {
-    let (letters, after) = token.split_at(scheme_len(token));
-    if is_scheme(letters) && after.starts_with(b"://") {
-        let (_, rest) = after.split_at(3);
-        authority(alloc, Some(letters), rest)
-    } else {
-        authority(alloc, None, token)
+    match split_scheme(token) {
+        Some((letters, rest)) => authority(alloc, Some(letters), rest),
+        None => authority(alloc, None, token),
     }
 }
