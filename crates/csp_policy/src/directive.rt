@@ -68,10 +68,12 @@ fn split_name(piece: &[u8]) -> Option<(&[u8], &[u8])>
     ensures ascii_name { IfSome result (λ found. is_ascii_text found.0.now ≡ true) }
     ensures ascii_text { IfSome result (λ found. is_ascii_text found.1.now ≡ true) }
 {
-    if !piece.is_empty() && is_ascii(piece) {
-        next_word(piece)
-    } else {
-        None
+    if piece.is_empty() {
+        return None;
+    }
+    match next_word(piece) {
+        Some(found) if is_ascii(piece) => Some(found),
+        _ => None,
     }
 }
 

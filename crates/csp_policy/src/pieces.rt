@@ -1,6 +1,7 @@
 //! The pieces of a text between bytes of one kind.
 ghost use Rattle.std.specs.Prelude.{◌≡◌, ◌∷◌, option_copied};
 ghost use Rattle.std.specs.Iterator.{YieldsFirstRef, item_count};
+ghost use Rattle.memchr.specs.Find.{IsFirstByte, is_byte};
 ghost use Rattle.csp_model.specs.Ascii.{split_at};
 ghost use Rattle.csp_policy.specs.Pieces.{pieces_behind, pieces_left};
 
@@ -45,6 +46,21 @@ impl<'a> Iterator for Pieces<'a> {
     }
 }
 
+// How many bytes are looked at before a search for the separator begins.
+const NEAR: usize = 4;
+
+// Where the first separator is. One that ends a short piece is found without a search.
+fn separator_at(text: &[u8], separator: u8) -> Option<usize>
+    ensures { IsFirstByte (is_byte separator) text.now result }
+{
+    for at in 0..text.len().min(NEAR) {
+        if text[at] == separator {
+            return Some(at);
+        }
+    }
+    memchr(separator, text)
+}
+
 // The first piece, and the text behind its separator. An empty piece is found without a search, since a file
 // may hold nothing else.
 fn split_piece(text: &[u8], separator: u8) -> (&[u8], Option<&[u8]>)
@@ -53,7 +69,7 @@ fn split_piece(text: &[u8], separator: u8) -> (&[u8], Option<&[u8]>)
 {
     match text.split_first() {
         Some((first, after)) if *first == separator => (&[], Some(after)),
-        _ => match memchr(separator, text) {
+        _ => match separator_at(text, separator) {
             None => (text, None),
             Some(at) => (text.split_at(at).0, Some(text.split_at(at + 1).1)),
         },

@@ -5,19 +5,8 @@ use Rattle.std.proofs.lemmas.Grind.{common_steps}
 use Rattle.std.proofs.lemmas.Iterator.{YieldsList-from_slice}
 use Rattle.std.proofs.lemmas.Iterator.Consumers.{fold_from_yields_List}
 use Rattle.csp_model.specs.Policies.{is_field_value}
+use Rattle.csp_source.proofs.Folds.{folded}
 use Rattle.csp_policy.proofs.lines.is_field_value.Goals as goal
-
-stays_false : (p : ℕ → Bool) (xs : List ℕ) → fold (λ good x. good && p x) false xs ≡ false
-stays_false p [] = refl
-stays_false p (x ∷ xs) = stays_false p xs
-
--- a fold that looks at each byte, as the test of all bytes
-folded : (p : ℕ → Bool) (xs : List ℕ) → fold (λ good x. good && p x) true xs ≡ list_all p xs
-folded p [] = refl
-folded p (x ∷ xs) = elim (p x) as (λ b. fold (λ good x. good && p x) b xs ≡ (b && list_all p xs)) [
-  | true ↦ folded p xs
-  | false ↦ stays_false p xs
-]
 
 pub returns : goal.returns
 unfolding is_field_value

@@ -25,8 +25,8 @@ first_piece c text at found =
 pub returns-in-None : goal.returns-in-None
 returns-in-None c = one_piece c.args.separator c.args.text.now c.in-None.ensures
 
-pub returns-in-Some-memchr : goal.returns-in-Some-memchr
-returns-in-Some-memchr c =
+pub returns-in-Some-separator_at : goal.returns-in-Some-separator_at
+returns-in-Some-separator_at c =
     let front = c.split_at.ensures.front in
-    let back = c.split_at-in-Some-memchr.ensures.back in
-    first_piece c.args.separator c.args.text.now c.in-Some-memchr.at c.in-Some-memchr.ensures ∙ cc
+    let back = c.split_at-in-Some-separator_at.ensures.back in
+    first_piece c.args.separator c.args.text.now c.in-Some-separator_at.at c.in-Some-separator_at.ensures ∙ cc
