@@ -136,7 +136,7 @@ pub(crate) fn read_directives(
 {
     let mut seen = BTreeSet::new(alloc);
     let mut made = Vec::new(alloc);
-    for piece in Pieces::new(value, b';') {
+    for piece in Pieces::new_short(value, b';') {
         let Some((name, text)) = split_name(piece) else {
             continue;
         };

@@ -12,6 +12,7 @@ use memchr::memchr;
 pub(crate) struct Pieces<'a> {
     rest: Option<&'a [u8]>,
     separator: u8,
+    near: usize,
 }
 
 #[tactic(auto, unfolding(crate::specs::Pieces::pieces_left))]
@@ -22,6 +23,18 @@ impl<'a> Pieces<'a> {
         Pieces {
             rest: Some(text),
             separator,
+            near: 0,
+        }
+    }
+
+    // The same, where many pieces may be of a few bytes: these are looked at before a search begins.
+    pub(crate) fn new_short(text: &'a [u8], separator: u8) -> Pieces<'a>
+        ensures { pieces_left result ≡ split_at separator text.now }
+    {
+        Pieces {
+            rest: Some(text),
+            separator,
+            near: 4,
         }
     }
 }
@@ -36,7 +49,7 @@ impl<'a> Iterator for Pieces<'a> {
 
     fn next(&mut self) -> Option<&'a [u8]> {
         let text = self.rest?;
-        let (piece, rest) = split_piece(text, self.separator);
+        let (piece, rest) = split_piece(text, self.separator, self.near);
         self.rest = rest;
         Some(piece)
     }
@@ -46,14 +59,11 @@ impl<'a> Iterator for Pieces<'a> {
     }
 }
 
-// How many bytes are looked at before a search for the separator begins.
-const NEAR: usize = 4;
-
-// Where the first separator is. One that ends a short piece is found without a search.
-fn separator_at(text: &[u8], separator: u8) -> Option<usize>
+// Where the first separator is. So many bytes are looked at before a search for it begins.
+fn separator_at(text: &[u8], separator: u8, near: usize) -> Option<usize>
     ensures { IsFirstByte (is_byte separator) text.now result }
 {
-    for at in 0..text.len().min(NEAR) {
+    for at in 0..text.len().min(near) {
         if text[at] == separator {
             return Some(at);
         }
@@ -63,13 +73,13 @@ fn separator_at(text: &[u8], separator: u8) -> Option<usize>
 
 // The first piece, and the text behind its separator. An empty piece is found without a search, since a file
 // may hold nothing else.
-fn split_piece(text: &[u8], separator: u8) -> (&[u8], Option<&[u8]>)
+fn split_piece(text: &[u8], separator: u8, near: usize) -> (&[u8], Option<&[u8]>)
     ensures { split_at separator text.now
         ≡ result.0.now ∷ pieces_behind separator (option_copied result.1) }
 {
     match text.split_first() {
         Some((first, after)) if *first == separator => (&[], Some(after)),
-        _ => match separator_at(text, separator) {
+        _ => match separator_at(text, separator, near) {
             None => (text, None),
             Some(at) => (text.split_at(at).0, Some(text.split_at(at + 1).1)),
         },

@@ -77,7 +77,7 @@ impl Reader {
         ensures { OnOk result
             (ReadsOn self.old self.new (spec.policies_in origin.now disposition value.now)) }
     {
-        for piece in Pieces::new(value, b',') {
+        for piece in Pieces::new_short(value, b',') {
             if !piece.is_empty() {
                 self.add_policy(alloc, origin, disposition, false, piece)?;
             }

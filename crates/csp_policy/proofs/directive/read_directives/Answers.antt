@@ -54,7 +54,7 @@ loop-piece-preserved-in-Continue-branch-2 c =
 pub returns : goal.returns
 returns c =
     let all = YieldsList-end (YieldsList-at c.into_iter-piece-iterator.ensures.into_iter_gives
-    (YieldsList-from_first (λ x. x.now) pieces_left {s = c.new-piece-items.result} (split_at 59 c.args.value.now) c.new-piece-items.ensures))
+    (YieldsList-from_first (λ x. x.now) pieces_left {s = c.new_short-piece-items.result} (split_at 59 c.args.value.now) c.new_short-piece-items.ensures))
     c.loop-piece.yielded _ c.loop-piece.yielded_by _ _ c.in-None.is c.next.ensures.steps in
     subst (λ pieces. AreShortened (kept_of c.args.meta (firsts (filter_map directive_of pieces))) c.from_vec.result c.args.room.now c.loop-piece.room) all.0
     (subst (λ made. AreShortened (kept_of c.args.meta (firsts (found c.loop-piece.yielded))) made c.args.room.now c.loop-piece.room) (sym c.from_vec.ensures)

@@ -40,6 +40,6 @@ loop-piece-preserved-in-Continue-1 c ps h = subst (λ qs. AreRead qs c.add_polic
 pub returns : goal.returns
 returns c ps h =
     let all = YieldsList-end (YieldsList-at c.into_iter-piece-iterator.ensures.into_iter_gives
-    (YieldsList-from_first (λ x. x.now) pieces_left {s = c.new-piece-items.result} (split_at 44 c.args.value.now) c.new-piece-items.ensures))
+    (YieldsList-from_first (λ x. x.now) pieces_left {s = c.new_short-piece-items.result} (split_at 44 c.args.value.now) c.new_short-piece-items.ensures))
     c.loop-piece.yielded _ c.loop-piece.yielded_by _ _ c.in-None.is c.next.ensures.steps in
     subst (λ pieces. AreRead (ps ++ of_pieces c.args.origin.now c.args.disposition pieces) c.loop-piece.self.policies c.loop-piece.self.room) all.0 (c.loop-piece.invariant ps h)
