@@ -1,11 +1,12 @@
 //! The lines of a header block (RFC 9110, sections 5.1, 5.5 and 5.6.2).
-ghost use Rattle.std.specs.Prelude.{◌≡◌, ◌==◌, ◌<◌, length, IfSome, position};
+ghost use Rattle.std.specs.Prelude.{◌≡◌, ◌==◌, ◌<◌, ◌≤◌, ◌&&◌, if◌then◌else◌, true, length, IfSome, position};
+ghost use Rattle.std.specs.List.{list_all, prefix_len};
 ghost use Rattle.std.specs.Str.Lines.{strip_carriage_return};
 ghost use Rattle.csp_model.specs.Ascii.{code};
 ghost use Rattle.csp_model.specs.Policies as spec;
 ghost use Rattle.csp_policy.specs.Lines.{line_said};
 
-use http_header::is_token;
+use http_header::is_token_char;
 
 // What a line of a header block says.
 #[derive(Clone, Copy, Debug)]
@@ -15,11 +16,19 @@ pub(crate) enum Line<'a> {
     Header { name: &'a [u8], value: &'a [u8] },
 }
 
-#[tactic(auto, unfolding(csp_model::specs::Policies::is_field_name))]
-fn is_field_name(name: &[u8]) -> bool
-    ensures { result ≡ spec.is_field_name name.now }
+#[tactic(auto, unfolding(csp_model::specs::Policies::is_token_char, http_header::specs::Token::is_token_byte))]
+fn is_name_char(b: u8) -> bool
+    ensures { result ≡ spec.is_token_char b }
 {
-    name.len() < 65536 && is_token(name)
+    is_token_char(b)
+}
+
+// How many bytes of a name the line begins with.
+fn name_len(line: &[u8]) -> usize
+    ensures value { result ≡ prefix_len spec.is_token_char line.now }
+    ensures bound { result ≤ length line.now }
+{
+    line.iter().take_while(|b| is_name_char(**b)).count()
 }
 
 // A tab, or no control. Each byte is looked at, since that takes no branch.
@@ -32,29 +41,29 @@ fn is_field_value(value: &[u8]) -> bool
         .fold(true, |good, b| good & (*b == b'\t' || !b.is_ascii_control()))
 }
 
-fn colon_at(line: &[u8]) -> Option<usize>
-    ensures value { result ≡ position (λ c. c == code ":") line.now }
-    ensures bound { IfSome result (λ at. at < length line.now) }
+// The header of this value and of a name that has no byte but those of a name.
+#[tactic(auto, unfolding(csp_model::specs::Policies::is_field_name))]
+fn header_named<'a>(name: &'a [u8], value: &'a [u8]) -> Line<'a>
+    requires { list_all spec.is_token_char name.now ≡ true }
+    ensures { line_said result
+        ≡ (if spec.is_field_name name.now && spec.is_field_value value.now
+        then spec.Header name.now value.now else spec.Bad) }
 {
-    line.iter().position(|b| *b == b':')
+    if !name.is_empty() && name.len() < 65536 && is_field_value(value) {
+        Line::Header { name, value }
+    } else {
+        Line::Bad
+    }
 }
 
 // What a line that isn't empty says.
-#[tactic(auto, unfolding(csp_model::specs::Policies::header_of))]
 fn header(line: &[u8]) -> Line<'_>
     ensures { line_said result ≡ spec.header_of line.now }
 {
-    match colon_at(line) {
-        None => Line::Bad,
-        Some(at) => {
-            let (name, _) = line.split_at(at);
-            let (_, value) = line.split_at(at + 1);
-            if is_field_name(name) && is_field_value(value) {
-                Line::Header { name, value }
-            } else {
-                Line::Bad
-            }
-        }
+    let (name, rest) = line.split_at(name_len(line));
+    match rest.split_first() {
+        Some((first, value)) if *first == b':' => header_named(name, value),
+        _ => Line::Bad,
     }
 }
 
