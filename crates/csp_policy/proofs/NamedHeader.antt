@@ -1,10 +1,10 @@
 -- A line's header, whose name is the longest front of name characters.
-use Rattle.std.proofs.Common.{arith, ◌≡◌, ◌∙◌, ◌&&◌, ◌==◌, ◌<◌, ◌≤◌, ◌+◌, if◌then◌else◌, sym, ap, subst, refl, cond, ℕ, Bool, true, false, List, [], ◌∷◌, length, take, drop, position, Some, None, nat_lt, get_or, length-drop}
+use Rattle.std.proofs.Common.{arith, ◌≡◌, ◌∙◌, ◌&&◌, ◌==◌, ◌<◌, ◌+◌, if◌then◌else◌, sym, ap, refl, cond, ℕ, true, false, List, ◌∷◌, length, take, drop, Some, None, nat_lt, get_or, length-drop}
 use Rattle.std.specs.List.{list_all, prefix_len, position_or_len}
 use Rattle.std.proofs.lemmas.Bool.{eqb-true, false≢true}
 use Rattle.std.proofs.lemmas.List.{get_or-take, length-take, drop_more}
 use Rattle.std.proofs.lemmas.List.Sums.{position_or_len_is, prefix_len_is, prefix_len_passes, passes_at_first, list_all-from_AllPass, AllPass-from_list_all}
-use Rattle.csp_model.specs.Policies.{is_token_char, is_field_name, is_field_value, header_at, header_of, Line, Bad, Header}
+use Rattle.csp_model.specs.Policies.{is_token_char, is_field_name, is_field_value, header_at, header_of, Bad, Header}
 
 abbrev pub name_end : List ℕ → ℕ
 name_end line = prefix_len is_token_char line
@@ -30,7 +30,7 @@ first_colon : (line : List ℕ) → name_end line < length line → get_or line 
 unfolding header_of
 first_colon line within colon =
     let place : position_or_len (λ c. c == 58) line ≡ name_end line = position_or_len_is (λ c. c == 58) line (name_end line) 0 (omega arith)
-        (λ k below. no_colon (get_or line k 0) (prefix_len_passes is_token_char line k 0 below)) (λ _. ap (λ c. c == 58) colon) in
+    (λ k below. no_colon (get_or line k 0) (prefix_len_passes is_token_char line k 0 below)) (λ _. ap (λ c. c == 58) colon) in
     let there : nat_lt (name_end line) (length line) ≡ true = grind (arith, within) in
     ap (header_at line) (ap (λ m. cond (nat_lt m (length line)) (Some m) None) place ∙ ap (λ b. cond b (Some (name_end line)) None) there)
 
@@ -52,7 +52,7 @@ no_name line place within colon other = elim (list_all is_token_char (take place
       let long = length-take place line in
       let all = AllPass-from_list_all is_token_char (take place line) h in
       let same : name_end line ≡ place = prefix_len_is is_token_char line place 0 (omega arith)
-          (λ k below. sym (ap is_token_char (get_or-take place line k 0 below)) ∙ all k 0 (omega arith)) (λ _. ap is_token_char colon ∙ colon_apart) in
+      (λ k below. sym (ap is_token_char (get_or-take place line k 0 below)) ∙ all k 0 (omega arith)) (λ _. ap is_token_char colon ∙ colon_apart) in
       absurd (other (omega arith) (ap (λ n. get_or line n 0) same ∙ colon))
   | false ↦ λ h. grind (arith, h)
 ] refl

@@ -36,9 +36,10 @@ fn name_len(line: &[u8]) -> usize
 fn is_field_value(value: &[u8]) -> bool
     ensures { result ≡ spec.is_field_value value.now }
 {
-    value
-        .iter()
-        .fold(true, |good, b| good & (*b == b'\t' || !b.is_ascii_control()))
+    value.iter().fold(
+        true,
+        |good, b| good & (*b == b'\t' || !b.is_ascii_control()),
+    )
 }
 
 // The header of this value and of a name that has no byte but those of a name.

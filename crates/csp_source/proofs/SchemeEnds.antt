@@ -1,7 +1,7 @@
 -- Where a token's scheme ends: at its first colon.
-use Rattle.std.proofs.Common.{arith, ◌≡◌, ◌∙◌, ◌&&◌, ◌==◌, ◌<◌, ◌+◌, sym, ap, refl, subst, ℕ, Bool, true, false, List, ◌++◌, length, take, drop, Option, Some, None, nat_eq, get_or, get_or-drop, length-drop}
+use Rattle.std.proofs.Common.{arith, ◌≡◌, ◌∙◌, ◌&&◌, ◌==◌, ◌<◌, sym, ap, refl, subst, ℕ, Bool, true, false, List, ◌++◌, length, take, drop, Option, Some, None, nat_eq, get_or, get_or-drop, length-drop}
 use Rattle.std.specs.Prelude.{codes}
-use Rattle.std.specs.List.{list_all, starts_with, prefix_len, take_while}
+use Rattle.std.specs.List.{starts_with, prefix_len, take_while}
 use Rattle.std.proofs.lemmas.List.{take-append-drop}
 use Rattle.std.proofs.lemmas.Bool.{eqb-true}
 use Rattle.std.proofs.lemmas.List.Sums.{prefix_len_passes}

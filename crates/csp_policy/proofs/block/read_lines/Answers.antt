@@ -1,4 +1,4 @@
-use Rattle.std.proofs.Common.{arith, rules, ◌∙◌, ◌==◌, ◌+◌, ◌≤◌, ℕ, Bool, true, false, List, cond, length, drop, codes, nat_eq, length-drop, le_refl, sym, ap, subst, refl, inr, Some, append-nil}
+use Rattle.std.proofs.Common.{arith, ◌∙◌, ◌==◌, ◌+◌, ◌≤◌, ℕ, Bool, true, false, List, cond, length, drop, codes, nat_eq, length-drop, le_refl, sym, ap, subst, refl, inr, Some, append-nil}
 use Rattle.std.specs.List.{flat_map, position_from, starts_with}
 use Rattle.std.proofs.lemmas.List.{length_push}
 use Rattle.std.proofs.lemmas.List.Splits.{length-slice_split}
@@ -20,9 +20,9 @@ few_lines bytes =
     let short : length (without_status bytes) ≤ length bytes = shorter (starts_with nat_eq bytes (codes "HTTP/")) _ bytes in
     omega arith
   where
-  shorter : (b : Bool) (n : ℕ) (bytes : List ℕ) → length (cond b (drop n bytes) bytes) ≤ length bytes
-  shorter true n bytes = let less = length-drop n bytes in omega arith
-  shorter false n bytes = le_refl (length bytes)
+    shorter : (b : Bool) (n : ℕ) (bytes : List ℕ) → length (cond b (drop n bytes) bytes) ≤ length bytes
+    shorter true n bytes = let less = length-drop n bytes in omega arith
+    shorter false n bytes = le_refl (length bytes)
 
 pub overflow_add-number : goal.overflow_add-number
 overflow_add-number c =

@@ -1,4 +1,4 @@
-use Rattle.std.proofs.Common.{arith, ◌≡◌, ◌∙◌, ◌&&◌, ◌∷◌, if◌then◌else◌, sym, ap, take, drop, length, List, ℕ}
+use Rattle.std.proofs.Common.{◌≡◌, ◌∙◌, ◌&&◌, ◌∷◌, if◌then◌else◌, sym, ap, take, drop, length}
 use Rattle.std.specs.List.{list_all}
 use Rattle.csp_model.specs.Policies.{is_token_char, is_field_name, is_field_value, Header, Bad}
 use Rattle.csp_policy.proofs.NamedHeader.{name_end, name_passes, header_found, nothing_behind, other_behind}

@@ -1,7 +1,5 @@
-use Rattle.std.proofs.Common.{arith, rules, tests, ◌≡◌, ◌∙◌, ◌&&◌, ◌||◌, ◌==◌, not, refl, sym, ℕ, Bool, true, false, List, [], ◌∷◌}
+use Rattle.std.proofs.Common.{rules, tests, ◌∙◌, ◌&&◌, ◌||◌, ◌==◌, not, true}
 use Rattle.std.specs.Char.{is_ascii_control}
-use Rattle.std.specs.List.{fold, list_all}
-use Rattle.std.proofs.lemmas.Grind.{common_steps}
 use Rattle.std.proofs.lemmas.Iterator.{YieldsList-from_slice}
 use Rattle.std.proofs.lemmas.Iterator.Consumers.{fold_from_yields_List}
 use Rattle.csp_model.specs.Policies.{is_field_value}

@@ -1,4 +1,4 @@
-use Rattle.std.proofs.Common.{arith, refl, append-nil, length, ◌≡◌, ◌∙◌, ◌==◌, ◌∷◌, ◌++◌, [], sym, ap, subst, List as Items, Bor, ℕ, map, rules, false}
+use Rattle.std.proofs.Common.{arith, refl, append-nil, length, ◌≡◌, ◌∙◌, ◌∷◌, ◌++◌, [], sym, ap, subst, List as Items, Bor, ℕ, map, false}
 use Rattle.std.specs.List.{flat_map}
 use Rattle.std.proofs.lemmas.List.{map_push, flat_map_more}
 use Rattle.std.proofs.lemmas.Iterator.Consumers.{YieldsList-at, YieldsList-end, YieldsList-from_first}
