@@ -24,6 +24,16 @@ fn same_formula(one: &PlacedFormula, other: &PlacedFormula) -> bool
         (PlacedFormula::Not(one), PlacedFormula::Not(other)) => same_formula(one, other),
         (PlacedFormula::Every(one), PlacedFormula::Every(other)) => same_formulas(one, other),
         (PlacedFormula::OneOf(one), PlacedFormula::OneOf(other)) => same_formulas(one, other),
+        (
+            PlacedFormula::FactAnd {
+                place: one,
+                parts: ones,
+            },
+            PlacedFormula::FactAnd {
+                place: other,
+                parts: others,
+            },
+        ) => one == other && same_formulas(ones, others),
         _ => false,
     }
 }

@@ -1,22 +1,27 @@
 -- One layer of a formula over places, and the formulas of a list one after another.
-use Rattle.std.proofs.Common.{◌≡◌, ◌∙◌, sym, ap, subst, refl, ℕ, suc, ◌<◌, ◌+◌, List, [], ◌∷◌, ◌++◌, map, drop, drop-cons, get_or, length, add-one, append_assoc, zero, arith}
+use Rattle.std.proofs.Common.{◌≡◌, ◌∙◌, sym, ap, subst, refl, ℕ, suc, ◌<◌, ◌+◌, List, [], ◌∷◌, ◌++◌, map, drop, drop-cons, get_or, slice_get, Option, Some, length, add-one, append_assoc, zero, arith}
 use Rattle.std.proofs.lemmas.List.Elements.{Contains-append_left, Contains-append_right}
 use Rattle.std.specs.List.{Contains}
 use Rattle.csp_atom.specs.declared.atom.Atom.{Atom}
-use Rattle.csp_formula.specs.Sentences.{Sentence, all_of, any_of, sentence_of}
+use Rattle.csp_formula.specs.Sentences.{Sentence, Both, all_of, any_of, sentence_of}
 use Rattle.csp_formula.specs.declared.formula.Formula.{Formula}
+use Rattle.csp_formula.specs.declared.formula.Formula.TheVariants.{Fact}
 use Rattle.csp_formula.specs.Values.{atoms_in}
 use Rattle.csp_valuation.specs.Facts.{IsListOf, facts_of}
-use Rattle.csp_valuation.specs.Placed.{placed_step, sentence_at}
+use Rattle.csp_valuation.specs.Placed.{fact, placed_step, sentence_at}
 use Rattle.csp_valuation.specs.declared.placed.PlacedFormula.{PlacedFormula}
-use Rattle.csp_valuation.specs.declared.placed.PlacedFormula.TheVariants.{Every, OneOf, rolls-Every, rolls-OneOf}
+use Rattle.csp_valuation.specs.declared.placed.PlacedFormula.TheVariants.{FactAnd, Every, OneOf, rolls-FactAnd, rolls-Every, rolls-OneOf}
 use Rattle.csp_valuation.specs.declared.placed.PlacedFormula.TheOpen.{PlacedFormula-F}
 use Rattle.csp_valuation.specs.declared.placed.PlacedFormula.TheFolds.{fold-roll-PlacedFormula}
+use Rattle.csp_valuation.proofs.Gaining.{says_Fact}
 
 -- One layer
 
 pub placed_Every : (atoms : List Atom) (v : _) → sentence_at atoms (Every v) ≡ all_of (map (sentence_at atoms) v.items)
 placed_Every atoms v = ap (sentence_at atoms) (sym (rolls-Every v)) ∙ fold-roll-PlacedFormula Sentence (placed_step atoms) (PlacedFormula-F.Every v)
+
+pub placed_FactAnd : (atoms : List Atom) (place : ℕ) (v : _) → sentence_at atoms (FactAnd place v) ≡ Both (fact (slice_get atoms place)) (all_of (map (sentence_at atoms) v.items))
+placed_FactAnd atoms place v = ap (sentence_at atoms) (sym (rolls-FactAnd place v)) ∙ fold-roll-PlacedFormula Sentence (placed_step atoms) (PlacedFormula-F.FactAnd place v)
 
 pub placed_OneOf : (atoms : List Atom) (v : _) → sentence_at atoms (OneOf v) ≡ any_of (map (sentence_at atoms) v.items)
 placed_OneOf atoms v = ap (sentence_at atoms) (sym (rolls-OneOf v)) ∙ fold-roll-PlacedFormula Sentence (placed_step atoms) (PlacedFormula-F.OneOf v)
@@ -50,3 +55,22 @@ is_list_of_part atoms formulas i f all h at = record {
   ascends = all.ascends;
   has = λ a has. all.has a (fact_among formulas i f a h (subst (λ (g : Formula). Contains (atoms_in (sentence_of g)) a) at has));
 }
+
+-- An and that begins with a fact
+
+pub fact_listed : (atoms : List Atom) (formulas others : List Formula) (f : Formula) (a : Atom) → formulas ≡ f ∷ others → f ≡ Fact a → IsListOf atoms (facts_of formulas) → Contains atoms a
+fact_listed atoms formulas others f a e is list =
+    let here : Contains (atoms_in (sentence_of f)) a = subst (λ (s : Sentence). Contains (atoms_in s) a) (sym (ap sentence_of is ∙ says_Fact a)) (0, omega arith, refl) in
+    list.has a (subst (λ (fs : List Formula). Contains (facts_of fs) a) (sym e) (Contains-append_left (atoms_in (sentence_of f)) (facts_of others) a here))
+
+pub others_listed : (atoms : List Atom) (formulas others : List Formula) (f : Formula) → formulas ≡ f ∷ others → IsListOf atoms (facts_of formulas) → IsListOf atoms (facts_of others)
+others_listed atoms formulas others f e list = record {
+  ascends = list.ascends;
+  has = λ a has. list.has a (subst (λ (fs : List Formula). Contains (facts_of fs) a) (sym e) (Contains-append_right (atoms_in (sentence_of f)) (facts_of others) a has));
+}
+
+pub says_with_fact : (atoms : List Atom) (place : ℕ) (formulas others : List Formula) (f : Formula) (a : Atom) (s : Sentence) (said : List Sentence) → formulas ≡ f ∷ others → f ≡ Fact a
+    → slice_get atoms place ≡ Some a → said ≡ map sentence_of others → s ≡ Both (fact (slice_get atoms place)) (all_of said) → s ≡ all_of (map sentence_of formulas)
+says_with_fact atoms place formulas others f a s said e is at says layer =
+    layer ∙ ap (λ (o : Option Atom). Both (fact o) (all_of said)) at ∙ ap (λ (xs : List Sentence). Both (Sentence.Fact a) (all_of xs)) says
+    ∙ ap (λ (x : Sentence). Both x (all_of (map sentence_of others))) (sym (ap sentence_of is ∙ says_Fact a)) ∙ ap (λ (fs : List Formula). all_of (map sentence_of fs)) (sym e)

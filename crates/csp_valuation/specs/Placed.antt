@@ -1,7 +1,7 @@
 -- What a formula over the places of a list of atoms says.
 use Rattle.std.specs.Prelude.{false, List, Option, Some, None, slice_get}
 use Rattle.csp_atom.specs.declared.atom.Atom.{Atom}
-use Rattle.csp_formula.specs.Sentences.{Sentence, Known, Fact, Not, all_of, any_of}
+use Rattle.csp_formula.specs.Sentences.{Sentence, Known, Fact, Not, Both, all_of, any_of}
 use Rattle.csp_valuation.specs.declared.placed.PlacedFormula.{PlacedFormula}
 use Rattle.csp_valuation.specs.declared.placed.PlacedFormula.TheOpen.{PlacedFormula-F}
 use Rattle.csp_valuation.specs.declared.placed.PlacedFormula.TheFolds.{fold-PlacedFormula}
@@ -15,6 +15,7 @@ abbrev pub placed_step : List Atom → PlacedFormula-F Sentence → Sentence
 placed_step atoms (PlacedFormula-F.Constant b) = Known b
 placed_step atoms (PlacedFormula-F.Fact place) = fact (slice_get atoms place)
 placed_step atoms (PlacedFormula-F.Not x) = Not x.value
+placed_step atoms (PlacedFormula-F.FactAnd place xs) = Both (fact (slice_get atoms place)) (all_of xs.items)
 placed_step atoms (PlacedFormula-F.Every xs) = all_of xs.items
 placed_step atoms (PlacedFormula-F.OneOf xs) = any_of xs.items
 

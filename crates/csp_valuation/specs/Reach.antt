@@ -59,6 +59,13 @@ pub record Covers (literal : Literal) (atoms : List Atom) (start end : ℕ) : Ty
   pub before : AllWithin (λ atom. follows literal atom ≡ None) atoms 0 start
   pub after : AllWithin (λ atom. follows literal atom ≡ None) atoms end (length atoms)
 
+-- the same of places of which some may be past the end
+pub record IsNear (literal : Literal) (atoms : List Atom) (start end : ℕ) : Type 0 where
+  pub before : (j : ℕ) (d : Atom) → j < start → j < length atoms
+      → follows literal (slice_index_or atoms j d) ≡ None
+  pub after : (j : ℕ) (d : Atom) → end ≤ j → j < length atoms
+      → follows literal (slice_index_or atoms j d) ≡ None
+
 -- the literal of this number gave none of the marks outside of these places
 pub record KeepsOutside (by : ℕ) (marks : List (Option Decision)) (start end : ℕ) : Type 0 where
   pub ordered : start ≤ end

@@ -1,8 +1,9 @@
 //! What is decided of each atom of a list, and which literal of the path decided it.
-ghost use Rattle.std.specs.Prelude.{◌≡◌, length, map};
+ghost use Rattle.std.specs.Prelude.{◌≡◌, None, false, length, map};
+ghost use Rattle.csp_atom.specs.Follows.{follows};
 ghost use Rattle.csp_valuation.specs.Marks.{all_marked, cleared, forgotten};
-ghost use Rattle.csp_valuation.specs.Paths.{literal_of};
-ghost use Rattle.csp_valuation.specs.Reach.{Covers, KeepsOutside};
+ghost use Rattle.csp_valuation.specs.Paths.{denial_of, literal_of};
+ghost use Rattle.csp_valuation.specs.Reach.{Covers, IsNear, KeepsOutside};
 
 use crate::reach::Reach;
 use crate::taken::Taken;
@@ -15,9 +16,11 @@ pub(crate) struct Decision {
     pub by: usize,
 }
 
-// Marks the atoms that are not decided and that this literal decides, which stand within the reach.
+// Marks the atoms that are not decided and that this literal decides, which stand within the reach. Those that
+// aren't near can't be the literal's own atom.
 pub(crate) fn mark_within(
     reach: Reach,
+    near: Reach,
     marks: &mut [Option<Decision>],
     atoms: &[Atom],
     literal: Taken,
@@ -25,23 +28,66 @@ pub(crate) fn mark_within(
 )
     requires long { length marks.old ≡ length atoms.now }
     requires covers { Covers (literal_of literal) atoms.now reach.start reach.end }
+    requires near { Covers (denial_of literal) atoms.now near.start near.end }
     ensures { marks.new ≡ all_marked (literal_of literal.entry) by marks.old atoms.now }
 {
     let Reach { start, end } = reach;
-    mark_all(&mut marks[start..end], &atoms[start..end], literal, by);
+    let near = Reach {
+        start: near.start.saturating_sub(start),
+        end: near.end.saturating_sub(start),
+    };
+    mark_all(
+        near,
+        &mut marks[start..end],
+        &atoms[start..end],
+        literal,
+        by,
+    );
 }
 
-fn mark_all(marks: &mut [Option<Decision>], atoms: &[Atom], literal: Taken, by: usize)
-    requires { length marks.old ≡ length atoms.now }
+fn mark_all(near: Reach, marks: &mut [Option<Decision>], atoms: &[Atom], literal: Taken, by: usize)
+    requires long { length marks.old ≡ length atoms.now }
+    requires near { IsNear (denial_of literal) atoms.now near.start near.end }
     ensures { marks.new ≡ all_marked (literal_of literal.entry) by marks.old atoms.now }
 {
     for place in 0..marks.len() {
         if let Some(_) = marks[place] {
             continue;
         }
-        if let Some(value) = follows_as(literal.atom, literal.positive, &atoms[place]) {
+        if let Some(value) = says_of(literal, &atoms[place], near.has(place)) {
             marks[place] = Some(Decision { value, by });
         }
+    }
+}
+
+// What the literal says of an atom, which is not its own unless it is near.
+fn says_of(literal: Taken, atom: &Atom, is_near: bool) -> Option<bool>
+    requires { is_near ≡ false → follows (denial_of literal) atom.now ≡ None }
+    ensures { result ≡ follows (literal_of literal.entry) atom.now }
+{
+    if is_near {
+        follows_as(literal.atom, literal.positive, atom)
+    } else {
+        follows_apart(literal, atom)
+    }
+}
+
+// What the literal says of an atom of which its denial says nothing: of another atom of a kind of which one
+// holds that it doesn't hold, and no text needs to be compared.
+fn follows_apart(literal: Taken, atom: &Atom) -> Option<bool>
+    requires { follows (denial_of literal) atom.now ≡ None }
+    ensures { result ≡ follows (literal_of literal.entry) atom.now }
+{
+    if !literal.positive {
+        return None;
+    }
+    match (literal.atom, atom) {
+        (Atom::HostIs(_), Atom::HostIs(_))
+        | (Atom::PortIs(_), Atom::PortIs(_))
+        | (Atom::PathIs(_), Atom::PathIs(_))
+        | (Atom::SchemeIs(_), Atom::SchemeIs(_))
+        | (Atom::NonceIs(_), Atom::NonceIs(_)) => Some(false),
+        _ => follows_as(literal.atom, true, atom),
     }
 }
 

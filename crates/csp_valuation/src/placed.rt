@@ -6,6 +6,11 @@ pub enum PlacedFormula {
     /// The atom at this place. What stands at no place doesn't hold.
     Fact(usize),
     Not(Box<PlacedFormula>),
+    /// The and of the atom at this place and of the parts.
+    FactAnd {
+        place: usize,
+        parts: Vec<PlacedFormula>,
+    },
     /// The and of its parts.
     Every(Vec<PlacedFormula>),
     /// The or of its parts.

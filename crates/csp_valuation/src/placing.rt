@@ -2,7 +2,7 @@
 ghost use Rattle.std.specs.Prelude.{◌≡◌, ◌≢◌, ◌↔◌, ◌++◌, IfOk, Some, map, slice_get};
 ghost use Rattle.std.specs.List.{AllPairs, Contains};
 ghost use Rattle.csp_atom.specs.declared.atom.Atom.{Atom as AtomValue};
-ghost use Rattle.csp_formula.specs.Sentences.{sentence_of};
+ghost use Rattle.csp_formula.specs.Sentences.{all_of, sentence_of};
 ghost use Rattle.csp_formula.specs.Values.{atoms_in};
 ghost use Rattle.csp_valuation.specs.Facts.{IsListOf, facts_of};
 ghost use Rattle.csp_valuation.specs.Placed.{sentence_at};
@@ -67,8 +67,24 @@ fn place(alloc: Global, formula: &Formula, atoms: &[Atom]) -> Result<PlacedFormu
             let placed = place(alloc, part, atoms)?;
             Ok(PlacedFormula::Not(Box::new(alloc, placed)?))
         }
-        Formula::Every(parts) => Ok(PlacedFormula::Every(place_all(alloc, parts, atoms)?)),
+        Formula::Every(parts) => place_every(alloc, parts, atoms),
         Formula::OneOf(parts) => Ok(PlacedFormula::OneOf(place_all(alloc, parts, atoms)?)),
+    }
+}
+
+// The and of formulas. Where a fact comes first its place stands beside the others, since a look at it tells of
+// most ands what they come to.
+#[cycle(place)]
+fn place_every(alloc: Global, formulas: &[Formula], atoms: &[Atom]) -> Result<PlacedFormula, Memory>
+    ensures { IsListOf atoms.now (facts_of formulas.now)
+        → IfOk result (λ placed. sentence_at atoms.now placed ≡ all_of (map sentence_of formulas.now)) }
+{
+    match formulas.split_first() {
+        Some((Formula::Fact(atom), others)) => Ok(PlacedFormula::FactAnd {
+            place: place_of(atom, atoms),
+            parts: place_all(alloc, others, atoms)?,
+        }),
+        _ => Ok(PlacedFormula::Every(place_all(alloc, formulas, atoms)?)),
     }
 }
 

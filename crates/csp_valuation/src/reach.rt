@@ -1,6 +1,6 @@
 //! The places of the atoms that a literal can decide, where the atoms of a list ascend.
-ghost use Rattle.std.specs.Prelude.{◌≡◌, true};
-ghost use Rattle.csp_valuation.specs.Paths.{literal_of};
+ghost use Rattle.std.specs.Prelude.{◌≡◌, ◌≤◌, ◌<◌, ◌↔◌, IsTrue, true};
+ghost use Rattle.csp_valuation.specs.Paths.{denial_of, literal_of};
 ghost use Rattle.csp_valuation.specs.Reach as spec;
 
 use crate::taken::Taken;
@@ -12,6 +12,14 @@ use csp_atom::order::{compare, rank};
 pub(crate) struct Reach {
     pub(crate) start: usize,
     pub(crate) end: usize,
+}
+
+impl Reach {
+    pub(crate) fn has(self, place: usize) -> bool
+        ensures { IsTrue result ↔ ((self.start ≤ place) × (place < self.end)) }
+    {
+        self.start <= place && place < self.end
+    }
 }
 
 // Whether no atom is above a later one.
@@ -39,6 +47,22 @@ pub(crate) fn reach_of(literal: Taken, atoms: &[Atom], ascending: bool) -> Reach
             end: atoms.len(),
         }
     }
+}
+
+// Places outside of which the denial of the literal's atom decides no atom, where this is the literal's reach.
+pub(crate) fn near_of(literal: Taken, reach: Reach, atoms: &[Atom], ascending: bool) -> Reach
+    requires ascends { ascending ≡ true → spec.Ascends atoms.now }
+    requires covers { spec.Covers (literal_of literal) atoms.now reach.start reach.end }
+    ensures { spec.Covers (denial_of literal.entry) atoms.now result.start result.end }
+{
+    if !literal.positive {
+        return reach;
+    }
+    let denial = Taken {
+        atom: literal.atom,
+        positive: false,
+    };
+    reach_of(denial, atoms, ascending)
 }
 
 fn reach_by_order(literal: Taken, atoms: &[Atom]) -> Reach

@@ -1,5 +1,6 @@
 //! What the path of a valuation decides of a formula, and what the rest waits on: both in one walk.
-ghost use Rattle.std.specs.Prelude.{◌≡◌, Some, true};
+ghost use Rattle.std.specs.Prelude.{◌≡◌, Some, map, true};
+ghost use Rattle.csp_formula.specs.Sentences.{all_of};
 ghost use Rattle.csp_formula.specs.Surely.{surely, maybe_and, maybe_or, maybe_not};
 ghost use Rattle.csp_valuation.specs.Placed.{sentence_at};
 ghost use Rattle.csp_valuation.specs.Standings.{IsOpenAt, value_in};
@@ -30,15 +31,11 @@ pub(crate) fn standing_under(valuation: &Valuation, formula: &PlacedFormula) -> 
         PlacedFormula::Constant(known) => Standing::Decided(*known),
         PlacedFormula::Fact(place) => standing_at(valuation, *place),
         PlacedFormula::Not(part) => denied(standing_under(valuation, part)),
+        PlacedFormula::FactAnd { place, parts } => {
+            standing_of_all(valuation, standing_at(valuation, *place), parts)
+        }
         PlacedFormula::Every(parts) => {
-            let mut so_far = Standing::Decided(true);
-            'every: for part in parts {
-                so_far = both(so_far, standing_of_part(valuation, part));
-                if let Standing::Decided(false) = so_far {
-                    return so_far;
-                }
-            }
-            so_far
+            standing_of_all(valuation, Standing::Decided(true), parts)
         }
         PlacedFormula::OneOf(parts) => {
             let mut so_far = Standing::Decided(false);
@@ -56,7 +53,26 @@ pub(crate) fn standing_under(valuation: &Valuation, formula: &PlacedFormula) -> 
     }
 }
 
-// The same, with no further call for a fact, as most parts are.
+// What the path decides of an and of which this is known, and these parts are left.
+#[cycle(standing_under)]
+#[tactic(auto, using(crate::proofs::Values::values))]
+fn standing_of_all(valuation: &Valuation, known: Standing, parts: &[PlacedFormula]) -> Standing
+    requires { IsOpenAt valuation.now known }
+    ensures value { value_in result ≡ maybe_and (value_in known)
+        (surely valuation.now.literals (all_of (map (sentence_at valuation.now.atoms) parts.now))) }
+    ensures open { IsOpenAt valuation.now result }
+{
+    let mut so_far = known;
+    'every: for part in parts {
+        so_far = both(so_far, standing_of_part(valuation, part));
+        if let Standing::Decided(false) = so_far {
+            return so_far;
+        }
+    }
+    so_far
+}
+
+// What it decides of a part, with no further call for a fact, as most are.
 #[cycle(standing_under)]
 #[tactic(auto, using(crate::proofs::Values::values))]
 fn standing_of_part(valuation: &Valuation, formula: &PlacedFormula) -> Standing
@@ -80,21 +96,22 @@ fn standing_at(valuation: &Valuation, place: usize) -> Standing
     }
 }
 
-// Whether the first fact of an and tells that the and changes no or that stands so far as it does.
+// Whether a part that is a constant or a fact, or begins with a fact, tells by that alone that it changes no or
+// that stands so far as it does.
 #[tactic(auto, using(crate::proofs::Values::values))]
 fn adds_nothing(valuation: &Valuation, so_far: Standing, part: &PlacedFormula) -> bool
     ensures { result ≡ true → maybe_or (value_in so_far)
         (surely valuation.now.literals (sentence_at valuation.now.atoms part.now)) ≡ value_in so_far }
 {
-    let PlacedFormula::Every(parts) = part else {
-        return false;
-    };
-    let Some(PlacedFormula::Fact(place)) = parts.first() else {
-        return false;
-    };
-    match valuation.value(*place) {
-        Some(known) => !known,
-        None => matches!(so_far, Standing::Open { .. }),
+    match part {
+        PlacedFormula::Constant(known) => !known,
+        PlacedFormula::Fact(place) | PlacedFormula::FactAnd { place, .. } => {
+            match valuation.value(*place) {
+                Some(known) => !known,
+                None => matches!(so_far, Standing::Open { .. }),
+            }
+        }
+        _ => false,
     }
 }
 

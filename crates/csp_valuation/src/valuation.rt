@@ -8,7 +8,7 @@ ghost use Rattle.csp_valuation.specs.Valuations.{value_at};
 
 use crate::marks::{Decision, clear_within, forget_all, mark_within};
 use crate::placed::PlacedFormula;
-use crate::reach::{ascends, reach_of};
+use crate::reach::{ascends, near_of, reach_of};
 use crate::standing::{Standing, standing_under};
 use crate::taken::Taken;
 use csp_atom::Atom;
@@ -76,8 +76,10 @@ impl<'a> Valuation<'a> {
             ≡ record self.old { literals = self.old.literals ++ literal_of literal.entry ∷ [] } }
     {
         let reach = reach_of(literal, &self.atoms, self.ascending);
+        let near = near_of(literal, reach, &self.atoms, self.ascending);
         mark_within(
             reach,
+            near,
             &mut self.marks,
             &self.atoms,
             literal,

@@ -1,8 +1,8 @@
-use Rattle.std.proofs.Common.{◌∙◌, ap, sym, map, arith}
+use Rattle.std.proofs.Common.{◌≡◌, ◌∙◌, ap, sym, map, slice_get, ℕ, List, arith}
 use Rattle.std.proofs.lemmas.List.{take_all}
-use Rattle.csp_formula.specs.Sentences.{Not, all_of, any_of}
-use Rattle.csp_valuation.specs.Placed.{sentence_at}
-use Rattle.csp_valuation.proofs.Layers.{placed_Every, placed_OneOf}
+use Rattle.csp_formula.specs.Sentences.{Sentence, Not, Both, all_of, any_of}
+use Rattle.csp_valuation.specs.Placed.{fact, sentence_at}
+use Rattle.csp_valuation.proofs.Layers.{placed_FactAnd, placed_Every, placed_OneOf}
 use Rattle.csp_table.proofs.Alike.{placed_Not, alike_more}
 use Rattle.csp_table.proofs.same.+same.Goals as goal
 
@@ -39,3 +39,13 @@ same_formulas-returns t c is atoms =
     let says = map (sentence_at atoms) in
     ap says (sym (take_all c.loop-place.place c.args.one.now c.loop-place-test.false)) ∙ c.loop-place.invariant atoms
     ∙ ap says (take_all c.loop-place.place c.args.other.now (omega arith))
+
+pub same_formula-returns-then-one-other : goal.same_formula-returns-then-one-other
+same_formula-returns-then-one-other t c is atoms =
+    let says = sentence_at atoms in
+    let at = c.in-FactAnd-FactAnd in
+    let place : at.one ≡ at.other = omega arith in
+    let parts = ap (map says) (sym c.deref-then-one-other.ensures.value) ∙ c.same_formulas-then-one-other.ensures is atoms
+    ∙ ap (map says) c.deref-then-one-other-2.ensures.value in
+    ap says at.is-0 ∙ placed_FactAnd atoms at.one at.ones ∙ ap (λ (n : ℕ). Both (fact (slice_get atoms n)) (all_of (map says at.ones.items))) place
+    ∙ ap (λ (xs : List Sentence). Both (fact (slice_get atoms at.other)) (all_of xs)) parts ∙ sym (placed_FactAnd atoms at.other at.others) ∙ sym (ap says at.is-1)

@@ -5,9 +5,10 @@ use Rattle.csp_valuation.specs.Placed.{sentence_at}
 use Rattle.csp_valuation.specs.Standings.{IsOpenAt, value_in}
 use Rattle.csp_valuation.proofs.standing.+standing_under.Given as goal
 
-abbrev pub invariant-standing_under-every : goal.invariant-standing_under-every
-invariant-standing_under-every l = record {
-  value : maybe_and (value_in l.so_far) (surely l.valuation.literals (all_of (map (sentence_at l.valuation.atoms) (drop l.part-index l.part-items)))) ≡ surely l.valuation.literals (sentence_at l.valuation.atoms l.formula);
+abbrev pub invariant-standing_of_all-every : goal.invariant-standing_of_all-every
+invariant-standing_of_all-every l = record {
+  value : maybe_and (value_in l.so_far) (surely l.valuation.literals (all_of (map (sentence_at l.valuation.atoms) (drop l.part-index l.parts))))
+      ≡ maybe_and (value_in l.fn.known) (surely l.valuation.literals (all_of (map (sentence_at l.valuation.atoms) l.parts)));
   waits : IsOpenAt l.valuation l.so_far;
 }
 

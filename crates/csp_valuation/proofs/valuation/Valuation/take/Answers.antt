@@ -6,7 +6,7 @@ pub invariant_of-self : goal.invariant_of-self
 invariant_of-self c =
     let inside = c.self.inside in
     let all : inside.marks.len ≡ length c.mark_within.new.marks = omega arith in
-    let done = rw (c.deref_mut.ensures.value, c.deref-2.ensures.value) at c.mark_within.ensures in
+    let done = rw (c.deref_mut.ensures.value, c.deref-3.ensures.value) at c.mark_within.ensures in
     let pushed = rw c.unwrap.ensures at c.push.ensures.items in (
       rw (written inside.marks.len c.mark_within.new.marks (drop (length c.mark_within.new.marks) inside.marks.items) all)
           (marks_taken inside.path.items c.push.new.self.items c.args.literal c.len.result inside.atoms.items inside.marks.items c.mark_within.new.marks c.self.invariant.0 (omega (arith, inside.path.ok.0)) done pushed),
