@@ -1,12 +1,14 @@
 //! The leaves of a tree of cases, and what a branch waits on that none ends.
-ghost use Rattle.std.specs.Prelude.{◌≡◌, MatchOption, false, option_copied, slice_get, true, ⊤};
+ghost use Rattle.std.specs.Prelude.{◌≡◌, MatchOption, None, false, option_copied, slice_get, true, ⊤};
 ghost use Rattle.csp_proof.specs.Accepts as rules;
 ghost use Rattle.csp_proof.specs.Accepts.{hashes_in, is_surely};
 ghost use Rattle.csp_search.specs.Leaves as spec;
 ghost use Rattle.csp_search.specs.Questions.{IsPosed, lists_of, pair_of};
 ghost use Rattle.csp_valuation.specs.Standings.{IsOpenAt, value_in};
+ghost use Rattle.csp_valuation.specs.Valuations.{value_at};
 
 use crate::searching::Question;
+use crate::witness::{Witness, may_hold};
 use csp_model::{Disposition, Policy};
 use csp_proof::Node;
 use csp_valuation::{PlacedFormula, Standing, Valuation};
@@ -105,19 +107,81 @@ pub(crate) enum Step {
     Leave,
 }
 
-// What a branch calls for. Each policy's formula is evaluated once.
-pub(crate) fn next_step(question: Question, valuation: &Valuation) -> Step
+// What a branch calls for. The witnesses are those of the policies of the first list.
+pub(crate) fn next_step(
+    question: Question,
+    valuation: &Valuation,
+    witnesses: &mut [Witness],
+) -> Step
     requires posed { IsPosed question }
     requires atoms { valuation.now.atoms ≡ question.formulas.now.atoms }
     ensures { spec.IsStep
         (lists_of question.entry) (pair_of question.entry) valuation.now result }
 {
-    let mut wanted = None;
     match second_standing(question, valuation) {
-        Standing::Decided(true) => return Step::Close { leaf: Node::Met },
-        Standing::Decided(false) => {}
-        Standing::Open { place } => wanted = Some(place),
+        Standing::Decided(true) => Step::Close { leaf: Node::Met },
+        Standing::Decided(false) => step_of_first(question, valuation),
+        Standing::Open { place } => step_of_open(question, valuation, place, witnesses),
     }
+}
+
+// What a branch calls for whose policy of the second list waits on the atom at this place. Of the first list only
+// those count that surely allow nothing more.
+fn step_of_open(
+    question: Question,
+    valuation: &Valuation,
+    place: usize,
+    witnesses: &mut [Witness],
+) -> Step
+    requires posed { IsPosed question }
+    requires atoms { valuation.now.atoms ≡ question.formulas.now.atoms }
+    requires open { value_at valuation.now place ≡ None }
+    ensures { spec.IsStep
+        (lists_of question.entry) (pair_of question.entry) valuation.now result }
+{
+    for policy in 0..question.first.policies.len() {
+        if has_witness(question, valuation, policy, witnesses) {
+            continue;
+        }
+        if let Standing::Decided(false) = first_standing(question, valuation, policy) {
+            let policy = policy as u32;
+            return Step::Close {
+                leaf: Node::Blocked { policy },
+            };
+        }
+    }
+    Step::Split { place }
+}
+
+// Whether a part of the formula of a policy of the first list is known to leave it more than false.
+fn has_witness(
+    question: Question,
+    valuation: &Valuation,
+    policy: usize,
+    witnesses: &mut [Witness],
+) -> bool {
+    match (
+        question.formulas.first.get(policy),
+        witnesses.get_mut(policy),
+    ) {
+        (Some(formula), Some(witness)) => may_hold(formula, valuation, witness),
+        _ => false,
+    }
+}
+
+// What a branch calls for that the policy of the second list surely refuses. Each policy's formula is evaluated once.
+fn step_of_first(question: Question, valuation: &Valuation) -> Step
+    requires posed { IsPosed question }
+    requires atoms { valuation.now.atoms ≡ question.formulas.now.atoms }
+    requires unmet { rules.is_met
+        (lists_of question) (pair_of question) valuation.now.literals ≡ false }
+    requires decided { spec.IsDecided
+        (hashes_in (lists_of question)) question.shape valuation.now.literals
+        (slice_get question.second.now.policies question.policy) }
+    ensures { spec.IsStep
+        (lists_of question.entry) (pair_of question.entry) valuation.now result }
+{
+    let mut wanted = None;
     for policy in 0..question.first.policies.len() {
         match first_standing(question, valuation, policy) {
             Standing::Decided(false) => {

@@ -6,5 +6,6 @@ mod leaf;
 mod open;
 mod searching;
 mod tree;
+mod witness;
 
 pub use searching::{Found, Question, search};

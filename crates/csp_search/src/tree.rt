@@ -9,6 +9,7 @@ ghost use Rattle.csp_search.specs.Questions.{IsPosed, lists_of, pair_of};
 
 use crate::leaf::{Step, next_step};
 use crate::searching::Question;
+use crate::witness::Witness;
 use csp_model::{Duplicate, List, Memory};
 use csp_proof::Node;
 use csp_valuation::{Taken, Valuation};
@@ -36,9 +37,10 @@ pub(crate) fn find_tree<'a>(
 {
     let atoms = question.formulas.atoms.as_slice();
     let mut nodes = List::new(alloc);
+    let mut witnesses = vec![in alloc; Witness::first(); question.first.policies.len()]?;
     valuation.clear();
     'steps: loop {
-        match next_step(question, valuation) {
+        match next_step(question, valuation, &mut witnesses) {
             Step::Close { leaf } => {
                 nodes.push(leaf)?;
                 if !next_branch(valuation) {

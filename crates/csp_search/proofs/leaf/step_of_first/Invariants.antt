@@ -3,7 +3,7 @@ use Rattle.csp_proof.specs.Accepts.{blocks, hashes_in, is_met}
 use Rattle.csp_valuation.specs.Valuations.{value_at}
 use Rattle.csp_search.specs.Leaves.{IsDecided}
 use Rattle.csp_search.specs.Questions.{lists_of, pair_of}
-use Rattle.csp_search.proofs.leaf.next_step.Given as goal
+use Rattle.csp_search.proofs.leaf.step_of_first.Given as goal
 
 abbrev pub invariant-loop-policy : goal.invariant-loop-policy
 invariant-loop-policy l = record {

@@ -4,8 +4,8 @@ use Rattle.csp_proof.specs.Accepts.{blocks, hashes_in}
 use Rattle.csp_search.specs.Leaves.{IsDecided}
 use Rattle.csp_search.specs.Questions.{lists_of, pair_of}
 use Rattle.csp_search.proofs.Saying.{decided_more, open_more}
-use Rattle.csp_search.proofs.leaf.next_step.Goals as goal
-use Rattle.csp_search.proofs.leaf.next_step.Goals.{in-Decided-true-first_standing, in-Open-first_standing}
+use Rattle.csp_search.proofs.leaf.step_of_first.Goals as goal
+use Rattle.csp_search.proofs.leaf.step_of_first.Goals.{in-Decided-true, in-Open}
 
 pub loop-policy-preserved : goal.loop-policy-preserved
 loop-policy-preserved c =
@@ -15,19 +15,19 @@ loop-policy-preserved c =
     let allowed = λ (policy : ℕ). blocks (lists_of q) (pair_of q) v.literals policy ≡ false in
     let known = λ (policy : ℕ). IsDecided (hashes_in (lists_of q)) q.shape v.literals (slice_get q.first.now.policies policy) in
     elim c.match-first_standing.branch [
-      | in-Decided-true-first_standing w ↦
-          let here = rw (w.in-Decided-true-first_standing.is, w.in-Decided-true-first_standing.field-0-test) at c.first_standing.ensures in
+      | in-Decided-true w ↦
+          let here = rw (w.in-Decided-true.is, w.in-Decided-true.field-0-test) at c.first_standing.ensures in
           record {
             met = c.loop-policy.invariant.met;
             none = below_more allowed n c.loop-policy.invariant.none (sym here.blocked);
             wanted = rw w.wanted-is (decided_more _ known n _ c.loop-policy.wanted c.loop-policy.invariant.wanted here.waits);
           }
-      | in-Open-first_standing w ↦
-          let here = rw w.in-Open-first_standing.is at c.first_standing.ensures in
+      | in-Open w ↦
+          let here = rw w.in-Open.is at c.first_standing.ensures in
           record {
             met = c.loop-policy.invariant.met;
             none = below_more allowed n c.loop-policy.invariant.none (sym here.blocked);
-            wanted = rw (w.wanted-is, w.or-wanted.ensures) (open_more _ _ _ c.loop-policy.wanted w.in-Open-first_standing.place c.loop-policy.invariant.wanted here.open);
+            wanted = rw (w.wanted-is, w.or-wanted.ensures) (open_more _ _ _ c.loop-policy.wanted w.in-Open.place c.loop-policy.invariant.wanted here.open);
           }
     ]
 
