@@ -7,7 +7,7 @@ use Rattle.csp_formula.specs.Values.{atoms_in}
 use Rattle.csp_valuation.specs.Facts.{IsListOf, facts_of}
 use Rattle.csp_valuation.specs.Placed.{sentence_at}
 use Rattle.csp_valuation.proofs.Gaining.{says_Every, says_OneOf, all_facts, any_facts}
-use Rattle.csp_valuation.proofs.Layers.{placed_FactAnd, placed_Every, placed_OneOf, says_more, is_list_of_part, fact_listed, others_listed, says_with_fact}
+use Rattle.csp_valuation.proofs.Layers.{placed_FactAnd, placed_OneOf, says_more, is_list_of_part, fact_listed, others_listed, says_with_fact}
 use Rattle.csp_valuation.proofs.placing.+place.Goals as goal
 
 pub place-returns-in-Every : goal.place-returns-in-Every
