@@ -12,7 +12,7 @@ use Rattle.csp_desk.proofs.GrowthLaws.{all_grown-append, GrewInPart-all, GrewInP
 use Rattle.csp_model.specs.declared.verdict.Violation.{Violation}
 use Rattle.csp_run.specs.declared.fault.Fault.{Fault}
 use Rattle.csp_run.specs.declared.fault.Fault.TheVariants as fault
-use Rattle.csp_run.specs.declared.output.Built.{Built}
+use Rattle.csp_output.specs.declared.built.Built.{Built}
 use Rattle.csp_run.specs.Desk.{Desk}
 use Rattle.csp_run.specs.Reports.{IsReport}
 use Rattle.csp_run.specs.Shown.{HasStopped, desk_fault}

@@ -17,10 +17,10 @@ use Rattle.csp_request.specs.declared.error.DescriptionError.{DescriptionError}
 use Rattle.csp_request.specs.declared.error.RequestError.{RequestError}
 use Rattle.csp_token.specs.Digests.{digests_of}
 use Rattle.csp_run.specs.declared.fault.Fault.{Fault}
-use Rattle.csp_run.specs.declared.output.Built.{Built}
-use Rattle.csp_run.specs.declared.status.Status.{Status}
-use Rattle.csp_run.specs.declared.status.Status.TheVariants.{Clean, Found}
-use Rattle.csp_run.specs.Lines.{lines_from, verdict_line}
+use Rattle.csp_output.specs.declared.built.Built.{Built}
+use Rattle.csp_output.specs.declared.status.Status.{Status}
+use Rattle.csp_output.specs.declared.status.Status.TheVariants.{Clean, Found}
+use Rattle.csp_output.specs.Lines.{lines_from, verdict_line}
 use Rattle.csp_run.specs.Outputs.{judged, request_fault}
 use Rattle.csp_run.specs.Shown.{verdict_on}
 

@@ -10,7 +10,3 @@ pub mod Statuses
 pub mod Untouched
 pub mod Usage
 pub mod ToldFault
-pub mod ExitCodes
-pub mod DrillTexts
-pub mod DrillLists
-pub mod OneStatus

@@ -12,8 +12,8 @@ use Rattle.csp_run.specs.declared.fault.Fault.TheVariants as fault
 use Rattle.csp_run.specs.declared.files.Content.TheVariants as content
 use Rattle.csp_run.specs.declared.plan.Form.{Form}
 use Rattle.csp_run.specs.declared.plan.Form.TheVariants.{Judge, Report, Compare, Check, Drill}
-use Rattle.csp_run.specs.declared.status.Status.{Status}
-use Rattle.csp_run.specs.declared.status.Status.TheVariants.{NoMemory}
+use Rattle.csp_output.specs.declared.status.Status.{Status}
+use Rattle.csp_output.specs.declared.status.Status.TheVariants.{NoMemory}
 use Rattle.csp_run.specs.Desk.{Desk, NoneRefused, without_refusals}
 use Rattle.csp_run.specs.Due.{End, IsEndOf, NoneRose}
 use Rattle.csp_run.specs.Files.{World, without_faults, IsRead, AreRead}

@@ -9,17 +9,17 @@ use Rattle.csp_request.specs.declared.error.RequestError.{RequestError}
 use Rattle.csp_run.specs.declared.fault.Fault.{Fault}
 use Rattle.csp_run.specs.declared.files.Content.{Content}
 use Rattle.csp_run.specs.declared.files.Content.TheVariants as content
-use Rattle.csp_run.specs.declared.output.Built.{Built}
+use Rattle.csp_output.specs.declared.built.Built.{Built}
 use Rattle.csp_run.specs.declared.plan.Form.{Form}
 use Rattle.csp_run.specs.declared.plan.Form.TheVariants.{Judge, Report, Compare, Check, Drill}
-use Rattle.csp_run.specs.declared.status.Status.{Status}
-use Rattle.csp_run.specs.declared.status.Status.TheVariants.{Clean, Found}
-use Rattle.csp_run.specs.Checks.{checked}
-use Rattle.csp_run.specs.Comparisons.{IsAnswerWith}
+use Rattle.csp_output.specs.declared.status.Status.{Status}
+use Rattle.csp_output.specs.declared.status.Status.TheVariants.{Clean, Found}
+use Rattle.csp_output.specs.Checks.{checked}
+use Rattle.csp_output.specs.Comparisons.{IsAnswerWith}
 use Rattle.csp_run.specs.Desk.{Desk}
 use Rattle.csp_run.specs.Due.{IsEndOf}
 use Rattle.csp_run.specs.Files.{World}
-use Rattle.csp_run.specs.Lines.{judgment}
+use Rattle.csp_output.specs.Lines.{judgment}
 use Rattle.csp_run.specs.Outputs.{IsOutput, IsReportOn, judged}
 use Rattle.csp_run.specs.Words.{Plan}
 

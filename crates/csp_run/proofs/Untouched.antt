@@ -8,7 +8,7 @@ use Rattle.csp_run.specs.declared.fault.Fault.{Fault}
 use Rattle.csp_run.specs.declared.fault.Fault.TheVariants as fault
 use Rattle.csp_run.specs.declared.files.Content.{Content}
 use Rattle.csp_run.specs.declared.files.Content.TheVariants as content
-use Rattle.csp_run.specs.declared.output.Built.{Built}
+use Rattle.csp_output.specs.declared.built.Built.{Built}
 use Rattle.csp_run.specs.declared.plan.Form.{Form}
 use Rattle.csp_run.specs.declared.plan.Form.TheVariants.{Judge, Report, Compare, Check, Drill}
 use Rattle.csp_run.specs.Desk.{Desk, IsUntouched}

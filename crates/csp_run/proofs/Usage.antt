@@ -20,12 +20,12 @@ use Rattle.csp_run.specs.declared.plan.Form.{Form}
 use Rattle.csp_run.specs.declared.plan.Form.TheVariants.{Judge, Report, Compare, Check, Drill}
 use Rattle.csp_request.specs.declared.error.RequestError.{RequestError}
 use Rattle.csp_request.specs.declared.error.RequestError.TheVariants as request
-use Rattle.csp_run.specs.declared.status.Status.TheVariants as status
+use Rattle.csp_output.specs.declared.status.Status.TheVariants as status
 use Rattle.csp_run.specs.Desk.{Desk}
 use Rattle.csp_run.specs.Due.{End, IsDue, IsEndOf, end_status}
 use Rattle.csp_run.specs.Files.{World, AreRead, file_limit, read_as, read_within}
 use Rattle.csp_run.specs.Files.{policies_or_fault}
-use Rattle.csp_run.specs.declared.output.Built.{Built}
+use Rattle.csp_output.specs.declared.built.Built.{Built}
 use Rattle.csp_run.specs.Outputs.{IsOutput, IsReportOn, judged, request_fault}
 use Rattle.csp_run.specs.Texts.{status_of}
 use Rattle.csp_run.specs.Words.{File, Plan, plan_of}

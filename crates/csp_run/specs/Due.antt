@@ -2,10 +2,10 @@
 use Rattle.std.specs.Prelude.{◌≡◌, ◌≢◌, ◌⊎◌, ℕ, List, [], ◌∷◌, Result, Ok, Err}
 use Rattle.csp_io.specs.Told.{Rose}
 use Rattle.csp_run.specs.declared.files.Content.{Content}
-use Rattle.csp_run.specs.declared.output.Built.{Built}
+use Rattle.csp_output.specs.declared.built.Built.{Built}
 use Rattle.csp_run.specs.declared.fault.Fault.{Fault}
 use Rattle.csp_run.specs.declared.fault.Fault.TheVariants.{Memory}
-use Rattle.csp_run.specs.declared.status.Status.{Status}
+use Rattle.csp_output.specs.declared.status.Status.{Status}
 use Rattle.csp_run.specs.Desk.{Desk, without_refusals, IsUntouched, NoneRefused}
 use Rattle.csp_run.specs.Files.{World, without_faults, HasStarted, AreRead}
 use Rattle.csp_run.specs.Outputs.{IsOutput, GrewOn}

@@ -5,8 +5,8 @@ use Rattle.csp_model.specs.declared.url.Origin.{Origin}
 use Rattle.csp_run.specs.declared.fault.Fault.{Fault}
 use Rattle.csp_run.specs.declared.plan.Form.{Form}
 use Rattle.csp_run.specs.declared.plan.Form.TheVariants.{Report}
-use Rattle.csp_run.specs.declared.status.Status.{Status}
-use Rattle.csp_run.specs.declared.status.Status.TheVariants as status
+use Rattle.csp_output.specs.declared.status.Status.{Status}
+use Rattle.csp_output.specs.declared.status.Status.TheVariants as status
 use Rattle.csp_run.specs.Files.{World, read_as}
 use Rattle.csp_run.specs.Words.{File, Plan}
 

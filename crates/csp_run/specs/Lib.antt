@@ -1,11 +1,7 @@
-pub mod Checks
-pub mod Comparisons
 pub mod Desk
-pub mod Drills
 pub mod Due
 pub mod Files
 pub mod Laws
-pub mod Lines
 pub mod Outputs
 pub mod Reports
 pub mod Shown

@@ -1,9 +1,10 @@
 -- What each command prints of what its files hold.
-use Rattle.std.specs.Prelude.{◌≡◌, List, [], ◌∷◌, map, Result, Ok, Err}
+use Rattle.std.specs.Prelude.{◌≡◌, ℕ, List, [], ◌∷◌, map, Result, Ok, Err}
 use Rattle.csp_desk.specs.Growth.{GrewInPart}
 use Rattle.csp_model.specs.declared.policy.PolicyList.{PolicyList}
 use Rattle.csp_model.specs.declared.verdict.Described.{Described}
 use Rattle.csp_model.specs.declared.verdict.Violation.{Violation}
+use Rattle.csp_proof.specs.Texts.{IsRefused}
 use Rattle.csp_request.specs.Requests.{requests_of}
 use Rattle.csp_request.specs.declared.error.RequestError.{RequestError}
 use Rattle.csp_request.specs.declared.error.RequestError.TheVariants as request
@@ -13,14 +14,14 @@ use Rattle.csp_run.specs.declared.fault.Limit.TheVariants as limit
 use Rattle.csp_run.specs.declared.fault.Role.TheVariants as role
 use Rattle.csp_run.specs.declared.files.Content.{Content}
 use Rattle.csp_run.specs.declared.files.Content.TheVariants as content
-use Rattle.csp_run.specs.declared.output.Built.{Built}
+use Rattle.csp_output.specs.declared.built.Built.{Built}
 use Rattle.csp_run.specs.declared.plan.Form.{Form}
 use Rattle.csp_run.specs.declared.plan.Form.TheVariants.{Judge, Report, Compare, Check, Drill}
-use Rattle.csp_run.specs.Checks.{IsCheck}
-use Rattle.csp_run.specs.Comparisons.{IsComparison}
+use Rattle.csp_output.specs.Checks.{IsChecked}
+use Rattle.csp_output.specs.Comparisons.{IsComparison}
 use Rattle.csp_run.specs.Desk.{Desk, IsUntouched}
-use Rattle.csp_run.specs.Drills.{IsDrill}
-use Rattle.csp_run.specs.Lines.{judgment}
+use Rattle.csp_output.specs.Drills.{IsDrill}
+use Rattle.csp_output.specs.Lines.{judgment}
 use Rattle.csp_run.specs.Reports.{violations_in, IsReport}
 
 -- the fault of what a request file is refused for
@@ -40,6 +41,12 @@ judged list (Err refused) = Err (request_fault refused)
 abbrev pub IsReportOn : Result (List Violation) RequestError → Desk → Result Built Fault → Type 0
 IsReportOn (Ok all) desk end = IsReport all desk end
 IsReportOn (Err refused) desk end = (end ≡ Err (request_fault refused)) × IsUntouched desk
+
+-- what ends `check` on a text: its output, or the fault that the text is no proof's
+abbrev pub IsCheck : PolicyList → PolicyList → List ℕ → Result Built Fault → Type 0
+IsCheck first second text (Ok built) = IsChecked first second text built
+IsCheck first second text (Err (fault.BadProof line)) = IsRefused text line
+IsCheck first second text (Err f) = ⊥
 
 -- there is an output, and it is so
 abbrev pub IsBuilt : (Built → Type 0) → Result Built Fault → Type 0

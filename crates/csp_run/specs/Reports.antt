@@ -12,8 +12,8 @@ use Rattle.csp_request.specs.declared.error.RequestError.{RequestError}
 use Rattle.csp_run.specs.Desk.{Desk}
 use Rattle.csp_run.specs.declared.fault.Fault.{Fault}
 use Rattle.csp_run.specs.declared.fault.Fault.TheVariants as fault
-use Rattle.csp_run.specs.declared.output.Built.{Built}
-use Rattle.csp_run.specs.declared.status.Status.TheVariants.{Clean}
+use Rattle.csp_output.specs.declared.built.Built.{Built}
+use Rattle.csp_output.specs.declared.status.Status.TheVariants.{Clean}
 
 -- the violations of all requests, in order
 abbrev pub all_violations : PolicyList → List Described → List Violation

@@ -1,4 +1,4 @@
--- The texts of faults, and the exit codes.
+-- The texts of faults, and the statuses that they end with.
 use Rattle.std.specs.Prelude.{ℕ, List, [], ◌∷◌, codes, decimal}
 use Rattle.std.specs.List.{flat_map}
 use Rattle.csp_request.specs.Members.{field_text}
@@ -8,8 +8,8 @@ use Rattle.csp_run.specs.declared.fault.Limit.{Limit}
 use Rattle.csp_run.specs.declared.fault.Limit.TheVariants as limit
 use Rattle.csp_run.specs.declared.fault.Fault.{Fault}
 use Rattle.csp_run.specs.declared.fault.Fault.TheVariants as fault
-use Rattle.csp_run.specs.declared.status.Status.{Status}
-use Rattle.csp_run.specs.declared.status.Status.TheVariants as status
+use Rattle.csp_output.specs.declared.status.Status.{Status}
+use Rattle.csp_output.specs.declared.status.Status.TheVariants as status
 
 unfoldable pub role_text : Role → List ℕ
 role_text role.Policy = codes "policy"
@@ -61,18 +61,3 @@ status_of (fault.BadProof line) = status.BadProof
 status_of (fault.Read file) = status.ReadFault
 status_of fault.Memory = status.NoMemory
 status_of (fault.Refused reporter) = status.ReporterFault
-
--- the exit code of a status
-abbrev pub exit_code : Status → ℕ
-exit_code status.Clean = 0
-exit_code status.Found = 1
-exit_code status.Usage = 2
-exit_code status.BadOrigin = 3
-exit_code status.BadPolicy = 4
-exit_code status.TooLarge = 5
-exit_code status.BadRequests = 6
-exit_code status.BadProof = 7
-exit_code status.ReadFault = 8
-exit_code status.WriteFault = 9
-exit_code status.NoMemory = 10
-exit_code status.ReporterFault = 11

@@ -7,11 +7,12 @@ ghost use Rattle.csp_run.specs.Files.{world};
 
 use crate::fault::Fault;
 use crate::files::read_files;
-use crate::output::{Built, output};
+use crate::output::output;
 use crate::plan::plan_of;
 use csp_desk::Reporter;
 use csp_io::Inputs;
 use csp_model::{List, Text};
+use csp_output::Built;
 use std::alloc::Global;
 
 // The whole output, or why there is none, and what becomes of the desk.

@@ -2,9 +2,9 @@
 ghost use Rattle.std.specs.Prelude.{◌≡◌};
 ghost use Rattle.csp_run.specs.Texts as texts;
 
-use crate::status::Status;
 use csp_desk::DeskError;
 use csp_model::Memory;
+use csp_output::Status;
 use csp_request::Field;
 
 /// What a file is to a command.

@@ -1,21 +1,15 @@
 //! Laws of what `run` may answer, each the contract of a function with no body.
-ghost use Rattle.std.specs.Prelude.{◌≡◌, ◌↔◌, ℕ, ◌+◌, false, List, ◌∷◌, Result, Err};
-ghost use Rattle.csp_model.specs.Inclusion.{Subsumes};
-ghost use Rattle.csp_model.specs.declared.policy.PolicyList.{PolicyList};
+ghost use Rattle.std.specs.Prelude.{◌≡◌, ℕ, ◌+◌, false, List, ◌∷◌, Result, Err};
 ghost use Rattle.csp_model.specs.declared.url.Origin.{Origin};
-ghost use Rattle.csp_run.specs.Comparisons.{IsComparison};
 ghost use Rattle.csp_run.specs.Desk.{Desk, IsUntouched};
 ghost use Rattle.csp_run.specs.Due.{End, IsDue, end_status};
 ghost use Rattle.csp_run.specs.Files.{World, HasStarted, AreRead};
 ghost use Rattle.csp_run.specs.Laws.{IsFaulty, is_report, may_follow_violations};
-ghost use Rattle.csp_run.specs.Texts.{exit_code};
 ghost use Rattle.csp_run.specs.Words.{File, plan_of};
 ghost use Rattle.csp_run.specs.declared.fault.Fault.{Fault};
 ghost use Rattle.csp_run.specs.declared.fault.Fault.TheVariants as fault;
 ghost use Rattle.csp_run.specs.declared.files.Content.{Content};
-ghost use Rattle.csp_run.specs.declared.output.Built.{Built};
-ghost use Rattle.csp_run.specs.declared.status.Status.{Status};
-ghost use Rattle.csp_run.specs.declared.status.Status.TheVariants as status;
+ghost use Rattle.csp_output.specs.declared.status.Status.TheVariants as status;
 
 /// A run ends with `Usage` only where its words have none of the forms, whatever its files hold.
 pub fn usage_comes_only_by_the_words()
@@ -38,18 +32,4 @@ pub fn reporters_keep_what_they_hold()
         → is_report (plan_of words) ≡ false → IsUntouched desk }
     ensures status { (w : World) (desk : Desk) (words : List (List ℕ)) (end : End) → IsDue w desk words end
         → may_follow_violations (end_status end) ≡ false → IsUntouched desk }
-{}
-
-/// An answer of a comparison has the status `Clean` exactly where the second list allows all that the first
-/// allows. So no two answers on the same lists have different statuses, and no text is one of both.
-pub fn a_comparison_has_one_status()
-    ensures status { (first second : PolicyList) (built : Built) → IsComparison first second built
-        → (built.status ≡ status.Clean) ↔ Subsumes first second }
-    ensures same { (first second : PolicyList) (one other : Built) → IsComparison first second one
-        → IsComparison first second other → one.status ≡ other.status }
-{}
-
-/// Each status has an exit code of its own.
-pub fn exit_codes_differ()
-    ensures { (one other : Status) → exit_code one ≡ exit_code other → one ≡ other }
 {}

@@ -7,31 +7,22 @@ ghost use Rattle.csp_request.specs.Described.{described};
 ghost use Rattle.csp_request.specs.Requests.{described_from, request_limit, requests_of};
 ghost use Rattle.csp_token.specs.Digests.{digests_of};
 ghost use Rattle.csp_run.specs.Desk.{desk as lent, IsUntouched};
-ghost use Rattle.csp_run.specs.Outputs.{GrewOn, IsOutput, judged, request_fault};
+ghost use Rattle.csp_run.specs.Files.{file_limit};
+ghost use Rattle.csp_run.specs.Outputs.{GrewOn, IsCheck, IsOutput, judged, request_fault};
 ghost use Rattle.csp_run.specs.Shown.{fits, IsSound, verdict_on};
 
-use crate::check::check;
-use crate::compare::compare;
-use crate::drill::drill;
 use crate::fault::{Fault, Limit, Role};
 use crate::files::Content;
-use crate::lines::push_verdict;
 use crate::plan::Form;
 use crate::report::report;
-use crate::status::Status;
 use csp_desk::Reporter;
 use csp_model::{Bytes, PolicyList, Verdict};
+use csp_output::{Built, Status, check, compare, drill, push_verdict};
+use csp_proof::ProofError;
 use csp_request::{ReportTexts, RequestError, Requests, describe_for};
 use csp_verdict::CompiledList;
 use serde_json::Value;
 use std::alloc::Global;
-
-/// A whole output.
-#[derive(Drop)]
-pub struct Built {
-    pub status: Status,
-    pub text: Bytes,
-}
 
 // The output of a command on what its files hold, and what it does to the desk.
 pub(crate) fn output(
@@ -67,9 +58,28 @@ pub(crate) fn output(
                 Content::Policies(second),
                 Content::Proof(text),
             ],
-        ) => check(alloc, first, second, text.as_slice()),
+        ) => check_text(alloc, first, second, text.as_slice()),
         (Form::Drill { pairs }, []) => Ok(drill(alloc, pairs)?),
         _ => unreachable!(),
+    }
+}
+
+// The answer of `check` on a text, whose refusal is a fault.
+fn check_text(
+    alloc: Global,
+    first: &PolicyList,
+    second: &PolicyList,
+    text: &[u8],
+) -> Result<Built, Fault>
+    requires first { IsReadable first.now }
+    requires second { IsReadable second.now }
+    requires short { length text.now ≤ file_limit Role.Proof }
+    ensures { result ≢ Err Fault.Memory → IsCheck first.now second.now text.now result }
+{
+    match check(alloc, first, second, text) {
+        Ok(built) => Ok(built),
+        Err(ProofError::BadProof { line }) => Err(Fault::BadProof { line }),
+        Err(ProofError::Memory) => Err(Fault::Memory),
     }
 }
 

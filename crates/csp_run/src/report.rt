@@ -13,10 +13,10 @@ ghost use Rattle.csp_run.specs.Reports.{IsReport, all_violations, violations_in}
 ghost use Rattle.csp_run.specs.Shown.{HasStopped, described_for};
 
 use crate::fault::Fault;
-use crate::output::{Built, request_fault};
-use crate::status::Status;
+use crate::output::request_fault;
 use csp_desk::{DeskError, Reporter, hand_out, texts_of};
 use csp_model::{Described, List, PolicyList};
+use csp_output::{Built, Status};
 use csp_request::{ReportTexts, RequestError, Requests, describe_for};
 use csp_token::Algorithms;
 use csp_verdict::CompiledList;

@@ -9,10 +9,10 @@ ghost use Rattle.csp_run.specs.Files.{world};
 use crate::answer::answer;
 use crate::fault::status_of;
 use crate::fault_text::write_fault;
-use crate::status::Status;
 use csp_desk::Reporter;
 use csp_io::{Inputs, Sink, write_all};
 use csp_model::{List, Text};
+use csp_output::Status;
 use std::alloc::Global;
 
 /// Does what the words say. The words are those after the program's name. The output is built whole

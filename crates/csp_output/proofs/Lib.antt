@@ -1,0 +1,4 @@
+pub mod ExitCodes
+pub mod DrillTexts
+pub mod DrillLists
+pub mod OneStatus

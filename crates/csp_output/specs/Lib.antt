@@ -1,0 +1,5 @@
+pub mod Checks
+pub mod Comparisons
+pub mod Drills
+pub mod Lines
+pub mod Statuses

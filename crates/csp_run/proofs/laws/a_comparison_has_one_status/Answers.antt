@@ -1,8 +1,0 @@
-use Rattle.csp_run.proofs.OneStatus.{clean_where_subsumed, same_status}
-use Rattle.csp_run.proofs.laws.a_comparison_has_one_status.Goals as goal
-
-pub returns-clause-status : goal.returns-clause-status
-returns-clause-status c = clean_where_subsumed
-
-pub returns-clause-same : goal.returns-clause-same
-returns-clause-same c = same_status

@@ -1,7 +1,0 @@
-use Rattle.std.proofs.Common.{◌≡◌, ◌++◌, take}
-use Rattle.std.specs.List.{flat_map}
-use Rattle.csp_run.specs.Lines.{item_text}
-use Rattle.csp_run.proofs.lines.push_items.Given as goal
-
-abbrev pub invariant-loop-item : goal.invariant-loop-item
-invariant-loop-item l = l.text.items ≡ l.fn.text.items ++ flat_map item_text (take l.item-index l.items)
