@@ -1,10 +1,13 @@
 //! A desk of reporters.
 ghost use Rattle.std.specs.Prelude.{◌≡◌, ◌<◌, ◌≤◌, ◌^◌, ◌∷◌, ◌++◌, [], length, map, OnOk, OnErr, IfOk, IfErr, IsErrOf};
+ghost use Rattle.std.specs.List.{flat_map};
 ghost use Rattle.csp_io.specs.Told.{Rose};
 ghost use Rattle.csp_desk.specs.Growth.{NoneFell, all_grown, StopsAt};
+ghost use Rattle.csp_desk.specs.Tellings.{section_text, telling_text};
 ghost use Rattle.csp_desk.specs.Texts as spec;
 
 use crate::reporter::{AcceptError, Kind, Reporter};
+use crate::telling::{Section, Telling, joined};
 use csp_model::{Bytes, List, Memory, Violation};
 use std::alloc::Global;
 use thiserror::Error;
@@ -103,35 +106,42 @@ fn kind_by(reporter: &Box<dyn Reporter>) -> Kind
     reporter.kind()
 }
 
-fn text_by(alloc: Global, reporter: &Box<dyn Reporter>) -> Result<Bytes, Memory>
-    ensures { IfOk result (λ text. text ≡ spec.report_text (kind reporter.now) (held reporter.now)) }
+fn tell_by(alloc: Global, reporter: &Box<dyn Reporter>) -> Result<Telling<'_>, Memory>
+    ensures { IfOk result
+        (λ told. telling_text told ≡ spec.report_text (kind reporter.now) (held reporter.now)) }
 {
-    reporter.text(alloc)
+    reporter.tell(alloc)
 }
 
-fn push_section(
-    alloc: Global,
-    text: &mut Vec<u8>,
-    reporter: &Box<dyn Reporter>,
-) -> Result<(), Memory>
-    ensures { OnOk result (text.new.items
-        ≡ text.old.items ++ spec.section (kind reporter.now) (held reporter.now)) }
+fn section_of(alloc: Global, reporter: &Box<dyn Reporter>) -> Result<Section<'_>, Memory>
+    ensures { IfOk result
+        (λ made. section_text made ≡ spec.section (kind reporter.now) (held reporter.now)) }
 {
-    let told = text_by(alloc, reporter)?;
-    text.extend_from_slice(heading(kind_by(reporter)).as_bytes())?;
-    text.extend_from_slice(told.as_slice())?;
-    Ok(())
+    let telling = tell_by(alloc, reporter)?;
+    Ok(Section {
+        heading: heading(kind_by(reporter)),
+        telling,
+    })
 }
 
 /// What the reporters tell, in order, each behind the line `reporter lines`, `reporter tally` or
-/// `reporter recent`.
+/// `reporter recent`. Of what a reporter holds nothing is copied.
+pub fn sections_of(alloc: Global, desk: &[Box<dyn Reporter>]) -> Result<Vec<Section<'_>>, Memory>
+    ensures { IfOk result (λ sections. flat_map section_text sections.items
+        ≡ spec.desk_text (map (λ b. kind b) desk.now) (map (λ b. held b) desk.now)) }
+{
+    let mut sections = Vec::new(alloc);
+    for reporter in desk {
+        sections.push(section_of(alloc, reporter)?)?;
+    }
+    Ok(sections)
+}
+
+/// The sections of the reporters as one text.
 pub fn texts_of(alloc: Global, desk: &[Box<dyn Reporter>]) -> Result<Bytes, Memory>
     ensures { IfOk result
         (λ text. text ≡ spec.desk_text (map (λ b. kind b) desk.now) (map (λ b. held b) desk.now)) }
 {
-    let mut text = Vec::new(alloc);
-    for reporter in desk {
-        push_section(alloc, &mut text, reporter)?;
-    }
-    Ok(Bytes::from_vec(text))
+    let sections = sections_of(alloc, desk)?;
+    joined(alloc, sections.as_slice())
 }

@@ -5,6 +5,7 @@ ghost use Rattle.csp_desk.specs.declared.reporter.Kind.TheVariants as kinds;
 
 use crate::lines::Lines;
 use crate::reporter::{AcceptError, Kind, Reporter};
+use crate::telling::Telling;
 use csp_model::{Bytes, List, Memory, Violation};
 use std::alloc::Global;
 
@@ -77,5 +78,9 @@ impl Reporter for FailingLines {
 
     fn text(&self, alloc: Global) -> Result<Bytes, Memory> {
         self.lines.text(alloc)
+    }
+
+    fn tell(&self, alloc: Global) -> Result<Telling<'_>, Memory> {
+        self.lines.tell(alloc)
     }
 }

@@ -10,12 +10,14 @@ mod lines;
 mod recent;
 mod reporter;
 mod tally;
+mod telling;
 mod texts;
 
-pub use desk::{DeskError, hand_out, texts_of};
+pub use desk::{DeskError, hand_out, sections_of, texts_of};
 pub use failing_lines::FailingLines;
 pub use lines::Lines;
 pub use recent::Recent;
 pub use reporter::{AcceptError, Kind, Reporter};
 pub use tally::Tally;
+pub use telling::{Section, Telling};
 pub use texts::text_of;

@@ -4,6 +4,7 @@ ghost use Rattle.csp_desk.specs.declared.reporter.Kind.TheVariants as kinds;
 
 use crate::history::History;
 use crate::reporter::{AcceptError, Kind, Reporter};
+use crate::telling::Telling;
 use crate::texts::push_line;
 use csp_model::{Bytes, Memory, Violation};
 use std::alloc::Global;
@@ -73,5 +74,11 @@ impl Reporter for Lines {
 
     fn text(&self, alloc: Global) -> Result<Bytes, Memory> {
         Bytes::new(alloc, self.text.as_slice())
+    }
+
+    fn tell(&self, alloc: Global) -> Result<Telling<'_>, Memory> {
+        let mut pieces = Vec::new(alloc);
+        pieces.push(self.text.as_slice())?;
+        Ok(Telling::Held(pieces))
     }
 }

@@ -4,6 +4,7 @@ ghost use Rattle.csp_io.specs.Told.{Rose};
 ghost use Rattle.csp_model.specs.declared.verdict.Violation.{Violation as ViolationValue};
 ghost use Rattle.csp_desk.specs.declared.reporter.AcceptError.TheVariants as accept_error;
 
+use crate::telling::Telling;
 use csp_model::{Bytes, Memory, Violation};
 use std::alloc::Global;
 use thiserror::Error;
@@ -46,6 +47,7 @@ impl From<Memory> for AcceptError {
 /// A reporter of another crate says which violations it holds, and may print them by `text_of`.
 pub trait Reporter: Drop {
     ghost use Rattle.csp_desk.specs.declared.reporter.Kind.{Kind as KindValue};
+    ghost use Rattle.csp_desk.specs.Tellings.{telling_text};
     ghost use Rattle.csp_desk.specs.Texts.{report_text};
 
     /// Its kind, which no call changes.
@@ -74,4 +76,14 @@ pub trait Reporter: Drop {
     /// What a reporter of its kind tells of what it holds.
     fn text(&self, alloc: Global) -> Result<Bytes, Memory>
         ensures { IfOk result (λ text. text ≡ report_text (kind self.now) (held self.now)) };
+
+    /// The same text, made or in pieces that the reporter holds, which then nobody has to copy.
+    ///
+    /// A reporter that holds no pieces of it need not write this method.
+    fn tell(&self, alloc: Global) -> Result<Telling<'_>, Memory>
+        ensures { IfOk result
+            (λ told. telling_text told ≡ report_text (kind self.now) (held self.now)) }
+    {
+        Ok(Telling::Made(self.text(alloc)?))
+    }
 }

@@ -1,8 +1,0 @@
--- The sections so far.
-use Rattle.std.proofs.Common.{◌≡◌, take}
-use Rattle.std.specs.List.{flat_map}
-use Rattle.csp_desk.specs.Texts.{section}
-use Rattle.csp_desk.proofs.desk.texts_of.Given as goal
-
-abbrev pub invariant-loop-reporter : goal.invariant-loop-reporter
-invariant-loop-reporter g l = l.text.items ≡ flat_map (λ b. section ((goal.Reporter-dyn g (b.vtable, b.value)).kind b.value) ((goal.Reporter-dyn g (b.vtable, b.value)).held b.value)) (take l.reporter-index l.desk)

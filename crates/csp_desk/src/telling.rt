@@ -1,0 +1,68 @@
+//! What reporters tell, in pieces that whoever writes them need not copy.
+ghost use Rattle.std.specs.Prelude.{◌≡◌, ◌++◌, OnOk, IfOk};
+ghost use Rattle.std.specs.List.{flat_map};
+ghost use Rattle.csp_desk.specs.Tellings as spec;
+
+use csp_model::{Bytes, Memory};
+use std::alloc::Global;
+
+/// What a reporter tells.
+#[derive(Drop)]
+pub enum Telling<'a> {
+    /// A text that was made for it.
+    Made(Bytes),
+
+    /// Pieces that the reporter holds, one after the other.
+    Held(Vec<&'a [u8]>),
+}
+
+/// What a reporter tells, behind the line that stands before it.
+#[derive(Drop)]
+pub struct Section<'a> {
+    /// The line `reporter lines`, `reporter tally` or `reporter recent`.
+    pub heading: &'static str,
+
+    /// What it tells.
+    pub telling: Telling<'a>,
+}
+
+// Adds the pieces behind a text, one after the other.
+fn push_pieces(text: &mut Vec<u8>, pieces: &[&[u8]]) -> Result<(), Memory>
+    ensures { OnOk result (text.new.items ≡ text.old.items ++ flat_map (λ piece. piece.now) pieces.now) }
+{
+    for piece in pieces {
+        text.extend_from_slice(piece)?;
+    }
+    Ok(())
+}
+
+fn push_telling(text: &mut Vec<u8>, telling: &Telling<'_>) -> Result<(), Memory>
+    ensures { OnOk result (text.new.items ≡ text.old.items ++ spec.telling_text telling.now) }
+{
+    match telling {
+        Telling::Made(made) => {
+            text.extend_from_slice(made.as_slice())?;
+            Ok(())
+        }
+        Telling::Held(pieces) => push_pieces(text, pieces.as_slice()),
+    }
+}
+
+// Adds a section behind a text.
+pub(crate) fn push_section(text: &mut Vec<u8>, section: &Section<'_>) -> Result<(), Memory>
+    ensures { OnOk result (text.new.items ≡ text.old.items ++ spec.section_text section.now) }
+{
+    text.extend_from_slice(section.heading.as_bytes())?;
+    push_telling(text, &section.telling)
+}
+
+// The sections one after the other.
+pub(crate) fn joined(alloc: Global, sections: &[Section<'_>]) -> Result<Bytes, Memory>
+    ensures { IfOk result (λ text. text ≡ flat_map spec.section_text sections.now) }
+{
+    let mut text = Vec::new(alloc);
+    for section in sections {
+        push_section(&mut text, section)?;
+    }
+    Ok(Bytes::from_vec(text))
+}
