@@ -1,7 +1,9 @@
 //! Reports of violations, as JSON (Content Security Policy Level 3, section 5.3).
 #![tactic(auto)]
 
+mod front;
 pub mod laws;
 mod report;
 
-pub use report::{append_report, push_report, report_json};
+pub use front::push_front;
+pub use report::{append_report, push_report, report_ending, report_json};

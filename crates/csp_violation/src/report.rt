@@ -2,12 +2,13 @@
 ghost use Rattle.std.specs.Prelude.{◌≡◌, ◌++◌, IfOk, OnOk, OnErr};
 ghost use Rattle.std.specs.List.{flat_map};
 ghost use Rattle.json.specs.Tree.{json_tokens};
-ghost use Rattle.csp_violation.specs.Report.{member_tokens, report_value, report_bytes};
+ghost use Rattle.csp_violation.specs.Report as spec;
+ghost use Rattle.csp_violation.specs.Report.{ending_tokens, member_tokens, report_value, report_bytes};
 
+use crate::front::push_front;
 use csp_model::{Bytes, Memory, Violation, name_text};
 use json::Writer;
 use std::alloc::{AllocError, Global};
-use std::mem;
 
 fn write_members(out: &mut Writer, members: &[(&str, &str)]) -> Result<(), AllocError>
     ensures tokens { OnOk result (out.new.tokens
@@ -21,27 +22,36 @@ fn write_members(out: &mut Writer, members: &[(&str, &str)]) -> Result<(), Alloc
     Ok(())
 }
 
-fn write_report(out: &mut Writer, violation: &Violation) -> Result<(), AllocError>
-    ensures tokens { OnOk result
-        (out.new.tokens ≡ out.old.tokens ++ json_tokens (report_value violation.now)) }
+// Writes what a report tells behind the blocked URI.
+fn write_ending(out: &mut Writer, violation: &Violation) -> Result<(), AllocError>
+    ensures tokens { OnOk result (out.new.tokens ≡ out.old.tokens ++ ending_tokens violation.now.disposition
+        violation.now.effective violation.now.policy violation.now.sample) }
     ensures before { out.new.before ≡ out.old.before }
 {
-    let blocked_uri = violation.blocked_uri.as_str();
     let disposition = violation.disposition.as_str();
     let directive = name_text(violation.effective);
     let policy = violation.policy.as_str();
     let sample = violation.sample.as_str();
     let members = [
-        ("blocked-uri", blocked_uri),
         ("disposition", disposition),
         ("effective-directive", directive),
         ("original-policy", policy),
         ("script-sample", sample),
         ("violated-directive", directive),
     ];
-    out.begin_object()?;
     write_members(out, &members)?;
     out.end_object()
+}
+
+fn write_report(out: &mut Writer, violation: &Violation) -> Result<(), AllocError>
+    ensures tokens { OnOk result
+        (out.new.tokens ≡ out.old.tokens ++ json_tokens (report_value violation.now)) }
+    ensures before { out.new.before ≡ out.old.before }
+{
+    let blocked_uri = violation.blocked_uri.as_str();
+    out.begin_object()?;
+    write_members(out, &[("blocked-uri", blocked_uri)])?;
+    write_ending(out, violation)
 }
 
 /// `text`, and behind it the report of a violation, as `report_json` gives it. The text isn't copied.
@@ -57,20 +67,20 @@ pub fn append_report(text: Vec<u8>, violation: &Violation) -> Result<Vec<u8>, Me
 /// Adds the report of a violation, as `report_json` gives it, behind a text. The text isn't copied.
 ///
 /// Where there is no memory, it is as it was.
-#[tactic(auto, unfolding(crate::specs::Report::report_bytes))]
 pub fn push_report(alloc: Global, text: &mut Vec<u8>, violation: &Violation) -> Result<(), Memory>
     ensures ok { OnOk result (text.new.items ≡ text.old.items ++ report_bytes violation.now) }
     ensures err { OnErr result (text.new.items ≡ text.old.items) }
 {
+    let ending = report_ending(alloc, violation)?;
     let before = text.len();
-    let mut out = Writer::new(mem::replace(text, Vec::new(alloc)));
-    let written = write_report(&mut out, violation);
-    *text = out.into_inner();
-    if written.is_err() {
-        text.truncate(before);
-        return Err(Memory);
+    push_front(alloc, text, violation.blocked_uri.as_str())?;
+    match text.extend_from_slice(ending.as_slice()) {
+        Ok(()) => Ok(()),
+        Err(_) => {
+            text.truncate(before);
+            Err(Memory)
+        }
     }
-    Ok(())
 }
 
 /// The report of a violation: one JSON object (RFC 8259) with no space, whose members are texts, in this order:
@@ -80,4 +90,18 @@ pub fn report_json(alloc: Global, violation: &Violation) -> Result<Bytes, Memory
     ensures { IfOk result (λ report. report ≡ report_bytes violation.now) }
 {
     Ok(Bytes::from_vec(append_report(Vec::new(alloc), violation)?))
+}
+
+/// What a report says behind its front, as `push_front` adds it. It is the same for all violations of one
+/// policy, directive and sample.
+#[tactic(auto, unfolding(crate::specs::Report::report_ending))]
+pub fn report_ending(alloc: Global, violation: &Violation) -> Result<Bytes, Memory>
+    ensures { IfOk result (λ ending. ending ≡ spec.report_ending violation.now.disposition
+        violation.now.effective violation.now.policy violation.now.sample) }
+{
+    let mut text = Vec::new(alloc);
+    text.push(b',')?;
+    let mut out = Writer::new(text);
+    write_ending(&mut out, violation)?;
+    Ok(Bytes::from_vec(out.into_inner()))
 }
