@@ -5,3 +5,4 @@ pub mod GrowthLaws
 pub mod Latest
 pub mod Names
 pub mod Turns
+pub mod Weaving

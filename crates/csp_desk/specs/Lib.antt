@@ -4,3 +4,4 @@ pub mod NameOrder
 pub mod Recent
 pub mod Tellings
 pub mod Texts
+pub mod Weaves

@@ -7,7 +7,7 @@ ghost use Rattle.csp_desk.specs.Tellings.{section_text, telling_text};
 ghost use Rattle.csp_desk.specs.Texts as spec;
 
 use crate::reporter::{AcceptError, Kind, Reporter};
-use crate::telling::{Section, Telling, joined};
+use crate::telling::{Section, Telling, joined_sections};
 use csp_model::{Bytes, List, Memory, Violation};
 use std::alloc::Global;
 use thiserror::Error;
@@ -143,5 +143,5 @@ pub fn texts_of(alloc: Global, desk: &[Box<dyn Reporter>]) -> Result<Bytes, Memo
         (λ text. text ≡ spec.desk_text (map (λ b. kind b) desk.now) (map (λ b. held b) desk.now)) }
 {
     let sections = sections_of(alloc, desk)?;
-    joined(alloc, sections.as_slice())
+    joined_sections(alloc, sections.as_slice())
 }

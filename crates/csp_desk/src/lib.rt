@@ -3,6 +3,7 @@
 
 mod counts;
 mod desk;
+mod ending;
 mod failing_lines;
 mod history;
 pub mod laws;
@@ -12,6 +13,7 @@ mod reporter;
 mod tally;
 mod telling;
 mod texts;
+mod weave;
 
 pub use desk::{DeskError, hand_out, sections_of, texts_of};
 pub use failing_lines::FailingLines;

@@ -4,18 +4,19 @@ ghost use Rattle.csp_desk.specs.declared.reporter.Kind.TheVariants as kinds;
 
 use crate::history::History;
 use crate::reporter::{AcceptError, Kind, Reporter};
-use crate::telling::Telling;
-use crate::texts::push_line;
+use crate::telling::{Telling, joined};
+use crate::weave::Weave;
 use csp_model::{Bytes, Memory, Violation};
 use std::alloc::Global;
 use std::marker::Model;
 
 /// Prints the report of each violation on a line of its own.
 ///
-/// It keeps what it prints and not the violations, and never answers `Refused`.
+/// It keeps what it prints and not the violations, and of that once what many lines have behind what is blocked.
+/// It never answers `Refused`.
 #[derive(Debug, Drop)]
 pub struct Lines {
-    text: Vec<u8>,
+    text: Weave,
     history: History,
 }
 
@@ -29,7 +30,7 @@ impl Model for Lines {
 
     ghost view = { λ a. a.history.items };
 
-    ghost invariant = { λ a. a.text.items ≡ lines_text a.history.items };
+    ghost invariant = { λ a. a.text ≡ lines_text a.history.items };
 }
 
 impl Lines {
@@ -40,7 +41,7 @@ impl Lines {
         ensures faults { ⟦<Lines as Reporter>⟧.faults result ≡ 0 }
     {
         Lines {
-            text: Vec::new(alloc),
+            text: Weave::new(alloc),
             history: History::new(),
         }
     }
@@ -50,7 +51,7 @@ impl Lines {
         ensures took { OnOk result (self.new ≡ self.old ++ violation.now ∷ []) }
         ensures refused { OnErr result (self.new ≡ self.old) }
     {
-        push_line(alloc, &mut self.text, violation)?;
+        self.text.push(alloc, violation)?;
         self.history = self.history.then(violation);
         Ok(())
     }
@@ -73,12 +74,11 @@ impl Reporter for Lines {
     }
 
     fn text(&self, alloc: Global) -> Result<Bytes, Memory> {
-        Bytes::new(alloc, self.text.as_slice())
+        let pieces = self.text.pieces(alloc)?;
+        joined(alloc, pieces.as_slice())
     }
 
     fn tell(&self, alloc: Global) -> Result<Telling<'_>, Memory> {
-        let mut pieces = Vec::new(alloc);
-        pieces.push(self.text.as_slice())?;
-        Ok(Telling::Held(pieces))
+        Ok(Telling::Held(self.text.pieces(alloc)?))
     }
 }

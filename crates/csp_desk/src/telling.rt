@@ -36,6 +36,15 @@ fn push_pieces(text: &mut Vec<u8>, pieces: &[&[u8]]) -> Result<(), Memory>
     Ok(())
 }
 
+// The pieces as one text.
+pub(crate) fn joined(alloc: Global, pieces: &[&[u8]]) -> Result<Bytes, Memory>
+    ensures { IfOk result (λ text. text ≡ flat_map (λ piece. piece.now) pieces.now) }
+{
+    let mut text = Vec::new(alloc);
+    push_pieces(&mut text, pieces)?;
+    Ok(Bytes::from_vec(text))
+}
+
 fn push_telling(text: &mut Vec<u8>, telling: &Telling<'_>) -> Result<(), Memory>
     ensures { OnOk result (text.new.items ≡ text.old.items ++ spec.telling_text telling.now) }
 {
@@ -57,7 +66,7 @@ pub(crate) fn push_section(text: &mut Vec<u8>, section: &Section<'_>) -> Result<
 }
 
 // The sections one after the other.
-pub(crate) fn joined(alloc: Global, sections: &[Section<'_>]) -> Result<Bytes, Memory>
+pub(crate) fn joined_sections(alloc: Global, sections: &[Section<'_>]) -> Result<Bytes, Memory>
     ensures { IfOk result (λ text. text ≡ flat_map spec.section_text sections.now) }
 {
     let mut text = Vec::new(alloc);

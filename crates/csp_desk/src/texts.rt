@@ -5,7 +5,7 @@ ghost use Rattle.csp_desk.specs.Texts as spec;
 use crate::counts::tally_text;
 use crate::reporter::Kind;
 use csp_model::{Bytes, Memory, Violation};
-use csp_violation::{append_report, push_report};
+use csp_violation::push_report;
 use std::alloc::Global;
 use std::collections::VecDeque;
 
@@ -29,13 +29,12 @@ pub(crate) fn push_line(
 
 // The text, and behind it a report a line.
 #[tactic(auto, unfolding(crate::specs::Texts::lines_text))]
-fn append_lines(text: Vec<u8>, held: &[Violation]) -> Result<Vec<u8>, Memory>
+fn append_lines(alloc: Global, text: Vec<u8>, held: &[Violation]) -> Result<Vec<u8>, Memory>
     ensures { IfOk result (λ made. made.items ≡ text.items ++ spec.lines_text held.now) }
 {
     let mut text = text;
     for violation in held {
-        text = append_report(text, violation)?;
-        text.push(b'\n')?;
+        push_line(alloc, &mut text, violation)?;
     }
     Ok(text)
 }
@@ -43,7 +42,7 @@ fn append_lines(text: Vec<u8>, held: &[Violation]) -> Result<Vec<u8>, Memory>
 pub(crate) fn lines_text(alloc: Global, held: &[Violation]) -> Result<Bytes, Memory>
     ensures { IfOk result (λ text. text ≡ spec.lines_text held.now) }
 {
-    Ok(Bytes::from_vec(append_lines(Vec::new(alloc), held)?))
+    Ok(Bytes::from_vec(append_lines(alloc, Vec::new(alloc), held)?))
 }
 
 fn earlier_line(alloc: Global, count: usize) -> Result<String, Memory>
@@ -61,7 +60,7 @@ pub(crate) fn recent_text(alloc: Global, limit: u32, held: &[Violation]) -> Resu
 {
     let earlier = held.len().saturating_sub(limit as usize);
     let text = earlier_line(alloc, earlier)?.into_bytes();
-    Ok(Bytes::from_vec(append_lines(text, &held[earlier..])?))
+    Ok(Bytes::from_vec(append_lines(alloc, text, &held[earlier..])?))
 }
 
 // The lines of violations in a queue, behind the number of those before them.
@@ -74,18 +73,21 @@ pub(crate) fn latest_text(
         text ≡ spec.earlier_line earlier ++ spec.lines_text latest.now.items) }
 {
     let text = earlier_line(alloc, earlier)?.into_bytes();
-    Ok(Bytes::from_vec(append_latest(text, latest)?))
+    Ok(Bytes::from_vec(append_latest(alloc, text, latest)?))
 }
 
 // The text, and behind it a report a line.
 #[tactic(auto, unfolding(crate::specs::Texts::lines_text))]
-fn append_latest(text: Vec<u8>, latest: &VecDeque<Violation>) -> Result<Vec<u8>, Memory>
+fn append_latest(
+    alloc: Global,
+    text: Vec<u8>,
+    latest: &VecDeque<Violation>,
+) -> Result<Vec<u8>, Memory>
     ensures { IfOk result (λ made. made.items ≡ text.items ++ spec.lines_text latest.now.items) }
 {
     let mut text = text;
     for place in 0..latest.len() {
-        text = append_report(text, &latest[place])?;
-        text.push(b'\n')?;
+        push_line(alloc, &mut text, &latest[place])?;
     }
     Ok(text)
 }

@@ -5,4 +5,4 @@ use Rattle.csp_desk.proofs.lines.Lines.new.Goals as goal
 
 pub invariant_of-result : goal.invariant_of-result
 unfolding lines_text
-invariant_of-result c = rw (c.new.ensures.items, c.new-2.ensures) refl
+invariant_of-result c = rw (c.new.ensures, c.new-2.ensures) refl

@@ -7,4 +7,4 @@ use Rattle.csp_desk.proofs.lines.Lines.push.Goals as goal
 pub invariant_of-self-2 : goal.invariant_of-self-2
 invariant_of-self-2 c =
     rw (c.then-self-inside.ensures, lines_text-then _ c.args.violation.now)
-    (c.in_ok-push_line.ensures.ok ∙ ap (λ text. text ++ report_line c.args.violation.now) c.self.invariant)
+    (c.in_ok-push.ensures.ok ∙ ap (λ text. text ++ report_line c.args.violation.now) c.self.invariant)
