@@ -15,15 +15,15 @@ fn is_plain(byte: u8) -> bool
     byte >= 32 && byte != b'"' && byte != b'\\'
 }
 
+// Looks at each byte, whatever it finds, so that it looks at many at once.
 fn are_plain(text: &[u8]) -> bool
     ensures { result ≡ are_plain text.now }
 {
+    let mut plain = true;
     for byte in text {
-        if !is_plain(*byte) {
-            return false;
-        }
+        plain &= is_plain(*byte);
     }
-    true
+    plain
 }
 
 // A text between quotes, in the shortest escapes.
