@@ -20,13 +20,13 @@ use Rattle.csp_run.specs.Shown.{HasStopped, desk_fault}
 -- Some requests and the others
 
 -- the violations of one request more
-one_more : {R V : Type 0} (f : R → List V) (requests : List R) (place : ℕ) (r : R) → place < length requests
+pub one_more : {R V : Type 0} (f : R → List V) (requests : List R) (place : ℕ) (r : R) → place < length requests
     → r ≡ get_or requests place r
     → flat_map f (take place requests) ++ f r ≡ flat_map f (take (place + 1) requests)
 one_more f requests place r within is = grind (arith, common_steps, within, is)
 
 -- those of all are those of the first ones and those of the others
-first_and_others : {R V : Type 0} (f : R → List V) (requests : List R) (place : ℕ)
+pub first_and_others : {R V : Type 0} (f : R → List V) (requests : List R) (place : ℕ)
     → flat_map f (take place requests) ++ flat_map f (drop place requests) ≡ flat_map f requests
 first_and_others f requests place =
     sym (flat_map-append f (take place requests) (drop place requests)) ∙ ap (flat_map f) (take-append-drop place requests)

@@ -1,6 +1,8 @@
 pub mod Pieces
 pub mod Judging
 pub mod Handing
+pub mod Gathering
+pub mod Printing
 pub mod SameVerdicts
 pub mod SameViolations
 pub mod Reading

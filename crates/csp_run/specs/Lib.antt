@@ -1,6 +1,7 @@
 pub mod Desk
 pub mod Due
 pub mod Files
+pub mod Gathered
 pub mod Laws
 pub mod Outputs
 pub mod Reports

@@ -1,8 +1,12 @@
 -- What clauses of private functions cite: plans as contracts see them, contents that fit a form, verdicts on
--- single descriptions, requests described in part, and what is left where the handing out of violations stops.
+-- single descriptions, requests described in part, what is printed, and what is left where the handing out of violations stops.
 use Rattle.std.specs.Prelude.{ℕ, ◌≤◌, ⊤, Bool, true, false, List, [], ◌∷◌, length, Result, Ok, Err}
 use Rattle.serde_json.specs.Data.{Data}
+use Rattle.std.specs.List.{flat_map}
 use Rattle.csp_desk.specs.Growth.{GrewInPart, StopsAt}
+use Rattle.csp_desk.specs.Tellings.{section_text}
+use Rattle.csp_desk.specs.Texts.{desk_text}
+use Rattle.csp_desk.specs.declared.reporter.Kind.{Kind}
 use Rattle.csp_desk.specs.declared.desk.DeskError.{DeskError}
 use Rattle.csp_desk.specs.declared.desk.DeskError.TheVariants.{Refused, Memory}
 use Rattle.csp_model.specs.Policies.{IsReadable}
@@ -11,9 +15,15 @@ use Rattle.csp_run.specs.declared.fault.Fault.TheVariants as fault
 use Rattle.csp_run.specs.declared.fault.Role.TheVariants.{Proof}
 use Rattle.csp_run.specs.declared.files.Content.{Content}
 use Rattle.csp_run.specs.declared.files.Content.TheVariants as content
+use Rattle.csp_output.specs.declared.built.Built.{Built}
+use Rattle.csp_run.specs.declared.output.Outcome.{Outcome}
+use Rattle.csp_run.specs.declared.output.Outcome.TheVariants.{Text, Reporters}
 use Rattle.csp_run.specs.declared.plan.Form.{Form}
 use Rattle.csp_run.specs.declared.plan.Form.TheVariants.{Judge, Report, Compare, Check, Drill}
 use Rattle.csp_run.specs.declared.plan.Plan.{Plan as Held}
+use Rattle.csp_run.specs.declared.printed.Printed.{Printed}
+use Rattle.csp_run.specs.declared.printed.Printed.TheVariants as printed
+use Rattle.csp_output.specs.declared.status.Status.TheVariants.{Clean}
 use Rattle.csp_model.specs.Verdict.{verdict_of}
 use Rattle.csp_model.specs.declared.policy.PolicyList.{PolicyList}
 use Rattle.csp_model.specs.declared.verdict.Described.{Described}
@@ -55,6 +65,24 @@ fits form contents = false
 abbrev pub verdict_on : PolicyList → ℕ → Result Described DescriptionError → Result Verdict Fault
 verdict_on list number (Ok found) = Ok (verdict_of list found.checks)
 verdict_on list number (Err refused) = Err (request_fault (refused_at number refused))
+
+-- How a run ends with what a command prints, where reporters of these kinds hold these violations.
+abbrev pub end_of : List Kind → List (List Violation) → Result Outcome Fault → Result Built Fault
+end_of kinds helds (Ok (Text built)) = Ok built
+end_of kinds helds (Ok Reporters) = Ok (record { status = Clean; text = desk_text kinds helds })
+end_of kinds helds (Err f) = Err f
+
+-- the output of what is ready to be written
+abbrev pub printed_as : Printed → Built
+printed_as (printed.Text built) = built
+printed_as (printed.Sections sections) = record {
+  status = Clean;
+  text = flat_map section_text sections.items;
+}
+
+abbrev pub printed_end : Result Printed Fault → Result Built Fault
+printed_end (Ok printed) = Ok (printed_as printed)
+printed_end (Err f) = Err f
 
 -- the fault of what stops the handing out of violations
 abbrev pub desk_fault : DeskError → Fault

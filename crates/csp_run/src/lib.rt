@@ -5,9 +5,11 @@ mod answer;
 mod fault;
 mod fault_text;
 mod files;
+mod gathered;
 pub mod laws;
 mod output;
 mod plan;
+mod printed;
 mod report;
 mod top;
 

@@ -1,15 +1,17 @@
 //! What each command prints of what its files hold.
-ghost use Rattle.std.specs.Prelude.{◌≡◌, ◌≢◌, ◌⊎◌, ◌≤◌, ◌<◌, ◌^◌, IsTrue, All, length, map, if◌then◌else◌};
+ghost use Rattle.std.specs.Prelude.{◌≡◌, ◌≢◌, ◌⊎◌, ◌≤◌, ◌<◌, ◌^◌, IsTrue, All, length, map, if◌then◌else◌, List as Items};
 ghost use Rattle.serde_json.specs.View.{view};
 ghost use Rattle.csp_desk.specs.Growth.{NoneFell};
+ghost use Rattle.csp_desk.specs.declared.reporter.Kind.{Kind};
 ghost use Rattle.csp_model.specs.Policies.{IsReadable};
+ghost use Rattle.csp_model.specs.declared.verdict.Violation.{Violation};
 ghost use Rattle.csp_request.specs.Described.{described};
 ghost use Rattle.csp_request.specs.Requests.{described_from, request_limit, requests_of};
 ghost use Rattle.csp_token.specs.Digests.{digests_of};
 ghost use Rattle.csp_run.specs.Desk.{desk as lent, IsUntouched};
 ghost use Rattle.csp_run.specs.Files.{file_limit};
 ghost use Rattle.csp_run.specs.Outputs.{GrewOn, IsCheck, IsOutput, judged, request_fault};
-ghost use Rattle.csp_run.specs.Shown.{fits, IsSound, verdict_on};
+ghost use Rattle.csp_run.specs.Shown.{fits, IsSound, end_of, verdict_on};
 
 use crate::fault::{Fault, Limit, Role};
 use crate::files::Content;
@@ -24,18 +26,27 @@ use csp_verdict::CompiledList;
 use serde_json::Value;
 use std::alloc::Global;
 
+// What a command prints.
+#[derive(Drop)]
+pub(crate) enum Outcome {
+    // A text that was built.
+    Text(Built),
+    // What the reporters of the desk tell, with the status `Clean`.
+    Reporters,
+}
+
 // The output of a command on what its files hold, and what it does to the desk.
 pub(crate) fn output(
     alloc: Global,
     form: Form,
     contents: &[Content],
     desk: &mut Vec<Box<dyn Reporter>>,
-) -> Result<Built, Fault>
+) -> Result<Outcome, Fault>
     requires fits { IsTrue (fits form contents.now) }
     requires sound { All IsSound contents.now }
     requires few { length desk.old.items < 2 ^ 32 }
-    ensures end { result ≢ Err Fault.Memory → IsOutput form (Ok contents.now)
-        (lent (λ b. kind b) (λ b. held b) (λ b. faults b) desk.old.items desk.new.items) result }
+    ensures end { let d = lent (λ b. kind b) (λ b. held b) (λ b. faults b) desk.old.items desk.new.items in
+        result ≢ Err Fault.Memory → IsOutput form (Ok contents.now) d (end_of d.kinds d.held_now result) }
     ensures grown { let d = lent (λ b. kind b) (λ b. held b) (λ b. faults b) desk.old.items desk.new.items in
         IsUntouched d ⊎ GrewOn form contents.now d }
     ensures kinds { map (λ b. kind b) desk.new.items ≡ map (λ b. kind b) desk.old.items }
@@ -43,13 +54,13 @@ pub(crate) fn output(
 {
     match (form, contents) {
         (Form::Judge, [Content::Policies(list), Content::Requests(bytes)]) => {
-            judge(alloc, list, bytes.as_slice())
+            output_of(judge(alloc, list, bytes.as_slice()))
         }
         (Form::Report, [Content::Policies(list), Content::Requests(bytes)]) => {
             report(alloc, list, bytes.as_slice(), desk)
         }
         (Form::Compare, [Content::Policies(first), Content::Policies(second)]) => {
-            Ok(compare(alloc, first, second)?)
+            Ok(Outcome::Text(compare(alloc, first, second)?))
         }
         (
             Form::Check,
@@ -58,9 +69,19 @@ pub(crate) fn output(
                 Content::Policies(second),
                 Content::Proof(text),
             ],
-        ) => check_text(alloc, first, second, text.as_slice()),
-        (Form::Drill { pairs }, []) => Ok(drill(alloc, pairs)?),
+        ) => output_of(check_text(alloc, first, second, text.as_slice())),
+        (Form::Drill { pairs }, []) => Ok(Outcome::Text(drill(alloc, pairs)?)),
         _ => unreachable!(),
+    }
+}
+
+// The output that such an end has.
+fn output_of(end: Result<Built, Fault>) -> Result<Outcome, Fault>
+    ensures { (kinds : Items Kind) (helds : Items (Items Violation)) → end_of kinds helds result ≡ end }
+{
+    match end {
+        Ok(built) => Ok(Outcome::Text(built)),
+        Err(fault) => Err(fault),
     }
 }
 

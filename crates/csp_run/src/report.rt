@@ -1,4 +1,4 @@
-//! What `report` does: it hands the violations of each request to a desk, and prints what its reporters tell.
+//! What `report` does: it hands the violations of each request to a desk, whose reporters then tell of them.
 ghost use Rattle.std.specs.Prelude.{◌≡◌, ◌≢◌, ◌⊎◌, ◌≤◌, ◌<◌, ◌^◌, IfErr, OnOk, length, map, Ok, List as Items};
 ghost use Rattle.serde_json.specs.View.{view};
 ghost use Rattle.csp_desk.specs.Growth.{GrewInPart, NoneFell, all_grown};
@@ -10,30 +10,30 @@ ghost use Rattle.csp_token.specs.Digests.{digests_for};
 ghost use Rattle.csp_run.specs.Desk.{desk as lent, IsUntouched};
 ghost use Rattle.csp_run.specs.Outputs.{IsReportOn};
 ghost use Rattle.csp_run.specs.Reports.{IsReport, all_violations, violations_in};
-ghost use Rattle.csp_run.specs.Shown.{HasStopped, described_for};
+ghost use Rattle.csp_run.specs.Shown.{HasStopped, described_for, end_of};
 
 use crate::fault::Fault;
-use crate::output::request_fault;
-use csp_desk::{DeskError, Reporter, hand_out, texts_of};
+use crate::output::{Outcome, request_fault};
+use csp_desk::{DeskError, Reporter, hand_out};
 use csp_model::{Described, List, PolicyList};
-use csp_output::{Built, Status};
 use csp_request::{ReportTexts, RequestError, Requests, describe_for};
 use csp_token::Algorithms;
 use csp_verdict::CompiledList;
 use serde_json::Value;
 use std::alloc::Global;
 
-// The text of the desk behind the violations of all requests of a request file.
+// The violations of all requests of a request file go to the desk, whose reporters then tell of them.
 pub(crate) fn report(
     alloc: Global,
     list: &PolicyList,
     bytes: &[u8],
     desk: &mut Vec<Box<dyn Reporter>>,
-) -> Result<Built, Fault>
+) -> Result<Outcome, Fault>
     requires readable { IsReadable list.now }
     requires few { length desk.old.items < 2 ^ 32 }
-    ensures end { result ≢ Err Fault.Memory → IsReportOn (violations_in list.now (requests_of bytes.now))
-        (lent (λ b. kind b) (λ b. held b) (λ b. faults b) desk.old.items desk.new.items) result }
+    ensures end { let d = lent (λ b. kind b) (λ b. held b) (λ b. faults b) desk.old.items desk.new.items in
+        result ≢ Err Fault.Memory → IsReportOn (violations_in list.now (requests_of bytes.now)) d
+        (end_of d.kinds d.held_now result) }
     ensures grown { let d = lent (λ b. kind b) (λ b. held b) (λ b. faults b) desk.old.items desk.new.items in
         IsUntouched d ⊎ ((all : Items Violation) × (violations_in list.now (requests_of bytes.now) ≡ Ok all)
         × GrewInPart all d.held_before d.held_now) }
@@ -80,26 +80,24 @@ fn describe_each(
     Ok(made)
 }
 
-// The text of the desk behind the violations of all these requests.
+// The violations of all these requests go to the desk.
 fn report_each(
     alloc: Global,
     list: &CompiledList<'_>,
     requests: &[Described],
     desk: &mut Vec<Box<dyn Reporter>>,
-) -> Result<Built, Fault>
+) -> Result<Outcome, Fault>
     requires { length desk.old.items < 2 ^ 32 }
-    ensures end { result ≢ Err Fault.Memory → IsReport (all_violations list.now requests.now)
-        (lent (λ b. kind b) (λ b. held b) (λ b. faults b) desk.old.items desk.new.items) result }
+    ensures end { let d = lent (λ b. kind b) (λ b. held b) (λ b. faults b) desk.old.items desk.new.items in
+        result ≢ Err Fault.Memory → IsReport (all_violations list.now requests.now) d
+        (end_of d.kinds d.held_now result) }
     ensures grown { GrewInPart (all_violations list.now requests.now)
         (map (λ b. held b) desk.old.items) (map (λ b. held b) desk.new.items) }
     ensures kinds { map (λ b. kind b) desk.new.items ≡ map (λ b. kind b) desk.old.items }
     ensures later { NoneFell (map (λ b. faults b) desk.old.items) (map (λ b. faults b) desk.new.items) }
 {
     hand_out_each(alloc, list, requests, desk)?;
-    Ok(Built {
-        status: Status::Clean,
-        text: texts_of(alloc, desk.as_slice())?,
-    })
+    Ok(Outcome::Reporters)
 }
 
 // Hands out the violations of each request, which are let go before those of the next are found.

@@ -9,14 +9,15 @@ ghost use Rattle.csp_run.specs.Files.{world};
 use crate::answer::answer;
 use crate::fault::status_of;
 use crate::fault_text::write_fault;
+use crate::printed::{make_printed, write_printed};
 use csp_desk::Reporter;
-use csp_io::{Inputs, Sink, write_all};
+use csp_io::{Inputs, Sink};
 use csp_model::{List, Text};
 use csp_output::Status;
 use std::alloc::Global;
 
-/// Does what the words say. The words are those after the program's name. The output is built whole
-/// before its first byte is written, and after a fault nothing is written but the fault's text.
+/// Does what the words say. The words are those after the program's name. Whatever the output takes memory for
+/// is there before its first byte is written, and after a fault nothing is written but the fault's text.
 ///
 /// `report` hands every violation to each reporter of the desk in turn, and prints what they tell. No other
 /// command hands anything to them.
@@ -62,9 +63,10 @@ pub fn run<I: Inputs, S: Sink>(
     ensures later { (n : Items ℕ) → I.faults inputs.old n ≤ I.faults inputs.new n }
     ensures sink_later { S.faults out.old ≤ S.faults out.new }
 {
-    match answer(alloc, words, inputs, desk) {
-        Ok(built) => match write_all(out, built.text.as_slice()) {
-            Ok(()) => built.status,
+    let end = answer(alloc, words, inputs, desk);
+    match make_printed(alloc, end, desk.as_slice()) {
+        Ok(printed) => match write_printed(alloc, out, &printed) {
+            Ok(()) => printed.status(),
             Err(_) => Status::WriteFault,
         },
         Err(fault) => match write_fault(out, fault) {

@@ -1,5 +1,7 @@
-use Rattle.std.proofs.Common.{◌≢◌, Ok, refl, inr, sym, ap, ◌∙◌}
+use Rattle.std.proofs.Common.{◌≢◌, Result, Ok, Err, refl, inr, sym, ap, ◌∙◌}
 use Rattle.csp_request.specs.declared.error.RequestError.TheVariants as request
+use Rattle.csp_run.specs.declared.fault.Fault.{Fault}
+use Rattle.csp_run.specs.declared.output.Outcome.{Outcome}
 use Rattle.csp_run.specs.Outputs.{request_fault}
 use Rattle.csp_run.specs.Reports.{all_violations}
 use Rattle.csp_run.proofs.Judging.{failed}
@@ -22,8 +24,9 @@ returns-in-Ok-clause-grown g c =
 
 pub returns-clause-end : goal.returns-clause-end
 returns-clause-end g c = λ real.
+    let refused : Fault → Result Outcome Fault = λ f. Err f in
     let other : c.in-Err.error ≢ request.Memory =
-    λ memory. real (ap failed (c.request_fault.ensures ∙ ap request_fault memory)) in
+    λ memory. real (ap refused (c.request_fault.ensures ∙ ap request_fault memory)) in
     let found = refused_violations c.args.list.now c.in_ok-list.list c.algorithms.result c.args.bytes.now
     c.in-Err.error c.in_ok-list.ensures.list c.algorithms.ensures.algorithms (c.in-Err.ensures other) in
     rw found (ap failed c.request_fault.ensures, refl)

@@ -5,8 +5,5 @@ pub returns-in_err-hand_out_each-clause-grown : goal.returns-in_err-hand_out_eac
 returns-in_err-hand_out_each-clause-grown g c =
     stopped_part _ _ _ c.in_err-hand_out_each.ensures.stopped
 
-pub returns-in_err-texts_of-clause-grown : goal.returns-in_err-texts_of-clause-grown
-returns-in_err-texts_of-clause-grown g c = all_taken _ _ _ c.in_ok-hand_out_each.ensures.took
-
 pub returns-clause-grown : goal.returns-clause-grown
 returns-clause-grown g c = all_taken _ _ _ c.in_ok-hand_out_each.ensures.took
