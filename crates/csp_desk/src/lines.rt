@@ -12,8 +12,8 @@ use std::marker::Model;
 
 /// Prints the report of each violation on a line of its own.
 ///
-/// It keeps what it prints and not the violations, and of that once what many lines have behind what is blocked.
-/// It never answers `Refused`.
+/// It keeps what it prints and not the violations, and once what many lines have behind what is blocked. It
+/// never answers `Refused`.
 #[derive(Debug, Drop)]
 pub struct Lines {
     text: Weave,

@@ -90,8 +90,8 @@ impl Weave {
     }
 }
 
-// Adds what the line of a violation has of its own, and its ending if it is a new one. Answers where the ending
-// stands, if it isn't the line's own.
+// Adds what the line of a violation has of its own, and its ending if it is a new one. Answers where the
+// ending stands, if it isn't the line's own.
 fn push_parts(
     alloc: Global,
     own: &mut Vec<u8>,
