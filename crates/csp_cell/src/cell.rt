@@ -90,9 +90,9 @@ impl Cell {
         }
     }
 
-    /// The cell of its checks that have the fact, or, where `positive` is false, of those that don't. It keeps
-    /// those of the old literals, as they stand, that the new one doesn't make needless. Only the atom is
-    /// copied.
+    /// The cell of its checks that have the fact, or, where `positive` is false, of those that don't. It
+    /// keeps those of the old literals, as they stand, that the new one doesn't make needless. Only the atom
+    /// is copied.
     pub fn narrow(mut self, atom: &Atom, positive: bool) -> Result<Cell, Memory>
         requires undecided { decided self.literals atom.now ≡ None }
         requires valid { IsValidAtom atom.now }

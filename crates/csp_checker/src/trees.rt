@@ -114,8 +114,8 @@ fn shares_good_nodes<'a>(
     requires reached { IsReached asked.now number tree.now }
     requires shared { tree.now.body ≡ Same other }
     ensures good { (pair : Pair) → IsFor pair tree.now
-        → accepts.bad_shared (lists_of asked.now) pair (tree.now.line + 1) (body_at (trees_of asked.now) other)
-        ≡ accepts.unless result (tree.now.line + 1) }
+        → accepts.bad_shared (lists_of asked.now) pair (tree.now.line + 1)
+        (body_at (trees_of asked.now) other) ≡ accepts.unless result (tree.now.line + 1) }
     ensures fit { AreFor asked.now valuations.new }
 {
     let Some(owner) = asked.proof.trees.get(other as usize) else {

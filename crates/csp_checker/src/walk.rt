@@ -66,7 +66,8 @@ fn walk<'a>(judge: Judge, nodes: &'a [Node], valuation: &mut Valuation<'a>) -> O
 // deepest literal that is positive.
 fn next_case(valuation: &mut Valuation) -> bool
     ensures case { MatchBool result
-        (valuation.new.literals ∷ spec.pending [] valuation.new.literals ≡ spec.pending [] valuation.old.literals)
+        (valuation.new.literals ∷ spec.pending [] valuation.new.literals
+        ≡ spec.pending [] valuation.old.literals)
         (spec.pending [] valuation.old.literals ≡ []) }
     ensures atoms { valuation.new.atoms ≡ valuation.old.atoms }
     ensures space { valuation.new.room ≡ valuation.old.room }
