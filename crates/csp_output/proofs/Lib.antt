@@ -2,3 +2,4 @@ pub mod ExitCodes
 pub mod DrillTexts
 pub mod DrillLists
 pub mod OneStatus
+pub mod SameItems

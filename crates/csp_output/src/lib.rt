@@ -8,11 +8,13 @@ mod comparison;
 mod exercise;
 pub mod laws;
 mod lines;
+mod shown_items;
 mod status;
+mod verdict_lines;
 
 pub use acceptance::check;
 pub use built::Built;
 pub use comparison::compare;
 pub use exercise::drill;
-pub use lines::push_verdict;
 pub use status::{Status, exit_code};
+pub use verdict_lines::VerdictLines;

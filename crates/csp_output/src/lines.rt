@@ -1,9 +1,9 @@
-//! Lines of verdicts and of their items.
+//! What verdicts and their items are written as.
 ghost use Rattle.std.specs.Prelude.{◌≡◌, ◌++◌, OnOk};
 ghost use Rattle.std.specs.List.{flat_map};
 ghost use Rattle.csp_output.specs.Lines as lines;
 
-use csp_model::{Item, Memory, Verdict, name_text};
+use csp_model::{Item, Memory, name_text};
 use itoa::Buffer;
 
 // Writes pieces one after the other.
@@ -50,26 +50,8 @@ pub(crate) fn push_items(text: &mut Vec<u8>, items: &[Item]) -> Result<(), Memor
     Ok(())
 }
 
-fn outcome_text(blocked: bool) -> &'static str
+pub(crate) fn outcome_text(blocked: bool) -> &'static str
     ensures { result.now ≡ lines.outcome_text blocked }
 {
     if blocked { " blocked" } else { " allowed" }
-}
-
-/// Writes the line of the verdict on the request of this number behind a text.
-pub fn push_verdict(
-    text: &mut Vec<u8>,
-    request: u32,
-    verdict: &Verdict,
-) -> Result<(), Memory>
-    ensures { OnOk result (text.new.items ≡ text.old.items ++ lines.verdict_line request verdict.now) }
-{
-    let mut digits = Buffer::new();
-    push_all(
-        text,
-        &[digits.format(request), outcome_text(verdict.blocked)],
-    )?;
-    push_items(text, verdict.items.as_slice())?;
-    text.extend_from_slice(b"\n")?;
-    Ok(())
 }

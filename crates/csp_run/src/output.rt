@@ -18,8 +18,8 @@ use crate::files::Content;
 use crate::plan::Form;
 use crate::report::report;
 use csp_desk::Reporter;
-use csp_model::{Bytes, PolicyList, Verdict};
-use csp_output::{Built, Status, check, compare, drill, push_verdict};
+use csp_model::{PolicyList, Verdict};
+use csp_output::{Built, Status, VerdictLines, check, compare, drill};
 use csp_proof::ProofError;
 use csp_request::{ReportTexts, RequestError, Requests, describe_for};
 use csp_verdict::CompiledList;
@@ -123,17 +123,17 @@ fn judge_each(alloc: Global, list: &PolicyList, requests: &[Value]) -> Result<Bu
         → result ≡ judged list.now (described_from digests_of 1 (map view requests.now)) }
 {
     let list = CompiledList::new(alloc, list)?;
-    let mut text = Vec::new(alloc);
+    let mut lines = VerdictLines::new(alloc);
     let mut blocked = false;
     for (place, request) in requests.iter().enumerate() {
         let number = place as u32 + 1;
         let verdict = judge_one(alloc, &list, number, request)?;
-        push_verdict(&mut text, number, &verdict)?;
         blocked |= verdict.blocked;
+        lines.push(alloc, number, verdict)?;
     }
     Ok(Built {
         status: judged_status(blocked),
-        text: Bytes::from_vec(text),
+        text: lines.into_bytes(),
     })
 }
 

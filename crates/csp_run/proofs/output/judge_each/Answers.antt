@@ -18,7 +18,7 @@ returns-in_err-verdict c = λ real.
     ∙ ap (λ (l : PolicyList). verdict_on l (place + 1) (described (view request))) c.in_ok-list.ensures.list
     ∙ ap (λ (v : Value). verdict_on c.args.list.now (place + 1) (described (view v))) c.index-requests-place.is in
     is ∙ sym (c.loop-place.invariant
-    ∙ refused_here c.args.list.now c.loop-place.text.items c.loop-place.blocked c.args.requests.now place request
+    ∙ refused_here c.args.list.now c.loop-place.lines c.loop-place.blocked c.args.requests.now place request
     c.in_err-verdict.field-0.0 c.loop-place-test.true refused)
 
 pub loop-place-preserved : goal.loop-place-preserved
@@ -29,16 +29,16 @@ loop-place-preserved c =
     ∙ ap (λ (l : PolicyList). verdict_on l (place + 1) (described (view request))) c.in_ok-list.ensures.list
     ∙ ap (λ (v : Value). verdict_on c.args.list.now (place + 1) (described (view v))) c.index-requests-place.is in
     c.loop-place.invariant
-    ∙ judged_at c.args.list.now c.loop-place.text.items c.loop-place.blocked c.args.requests.now place request
+    ∙ judged_at c.args.list.now c.loop-place.lines c.loop-place.blocked c.args.requests.now place request
     c.in_ok-verdict.verdict c.loop-place-test.true given
     ∙ ap (λ (t : List ℕ). judged_after c.args.list.now t (c.loop-place.blocked || c.in_ok-verdict.verdict.blocked)
     (place + 1 + 1) (left_from c.args.requests.now (place + 1)))
-    (sym c.in_ok-push_verdict.ensures)
+    (sym c.in_ok-push.ensures)
 
 pub returns : goal.returns
 returns c = λ _.
-    ap (λ s. built s c.from_vec.result) c.judged_status.ensures
-    ∙ ap (built (status_where c.loop-place.blocked)) c.from_vec.ensures
+    ap (λ s. built s c.into_bytes.result) c.judged_status.ensures
+    ∙ ap (built (status_where c.loop-place.blocked)) c.into_bytes.ensures
     ∙ sym (c.loop-place.invariant
-    ∙ none_left c.args.list.now c.loop-place.text.items c.loop-place.blocked c.args.requests.now
+    ∙ none_left c.args.list.now c.loop-place.lines c.loop-place.blocked c.args.requests.now
     c.loop-place.place c.loop-place-test.false)

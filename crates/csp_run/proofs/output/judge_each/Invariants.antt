@@ -9,4 +9,4 @@ use Rattle.csp_run.proofs.output.judge_each.Given as goal
 abbrev pub invariant-loop-place : goal.invariant-loop-place
 invariant-loop-place l =
     judged l.list (described_from digests_of 1 (map view l.requests))
-    ≡ judged_after l.list l.text.items l.blocked (l.place + 1) (left_from l.requests l.place)
+    ≡ judged_after l.list l.lines l.blocked (l.place + 1) (left_from l.requests l.place)
