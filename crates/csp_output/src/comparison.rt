@@ -19,8 +19,8 @@ use csp_url::url_text;
 use csp_verdict::judge;
 use std::alloc::Global;
 
-/// What `compare` prints: a proof that the second list allows all that the first allows, with the status `Clean`;
-/// or, with `Found`, a check that the first allows and the second blocks.
+/// What `compare` prints: a proof that the second list allows all that the first allows, with the status
+/// `Clean`; or, with `Found`, a check that the first allows and the second blocks.
 pub fn compare(
     alloc: Global,
     first: &PolicyList,

@@ -15,8 +15,8 @@ use csp_source::read_source;
 use itoa::Buffer;
 use std::alloc::Global;
 
-/// What `drill` prints: the comparison of two lists of so many pairs of sources, which are made for it. It is an
-/// exercise for the search and the checker, and its status is `Clean` whatever it finds.
+/// What `drill` prints: the comparison of two lists of so many pairs of sources, which are made for it. It is
+/// an exercise for the search and the checker, and its status is `Clean` whatever it finds.
 pub fn drill(alloc: Global, pairs: u8) -> Result<Built, Memory>
     ensures { IfOk result (spec.IsDrill pairs) }
 {

@@ -1,5 +1,5 @@
-//! What `compare`, `check` and `drill` print of lists of policies, the lines of verdicts, and the statuses that
-//! runs end with.
+//! What `compare`, `check` and `drill` print of lists of policies, the lines of verdicts, and the statuses
+//! that runs end with.
 #![tactic(auto)]
 
 mod acceptance;

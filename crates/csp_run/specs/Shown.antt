@@ -1,5 +1,6 @@
 -- What clauses of private functions cite: plans as contracts see them, contents that fit a form, verdicts on
--- single descriptions, requests described in part, what is printed, and what is left where the handing out of violations stops.
+-- single descriptions, requests described in part, what is printed, and what is left where the handing out of
+-- violations stops.
 use Rattle.std.specs.Prelude.{ℕ, ◌≤◌, ⊤, Bool, true, false, List, [], ◌∷◌, length, Result, Ok, Err}
 use Rattle.serde_json.specs.Data.{Data}
 use Rattle.std.specs.List.{flat_map}

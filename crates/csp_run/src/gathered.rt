@@ -40,8 +40,8 @@ fn put<S: Sink>(out: &mut S, gathered: &mut Vec<u8>, piece: &[u8]) -> Result<(),
 }
 
 fn put_pieces<S: Sink>(out: &mut S, gathered: &mut Vec<u8>, pieces: &[&[u8]]) -> Result<(), Failed>
-    ensures put { OnOk result (HasPut (S.taken out.old) (S.taken out.new) gathered.old.items gathered.new.items
-        (flat_map (λ piece. piece.now) pieces.now)) }
+    ensures put { OnOk result (HasPut (S.taken out.old) (S.taken out.new)
+        gathered.old.items gathered.new.items (flat_map (λ piece. piece.now) pieces.now)) }
     ensures prefix { OnErr result (GrewByPrefix (S.taken out.old) (S.taken out.new)
         (gathered.old.items ++ flat_map (λ piece. piece.now) pieces.now)) }
     ensures later { S.faults out.old ≤ S.faults out.new }
@@ -61,8 +61,8 @@ fn put_telling<S: Sink>(
     gathered: &mut Vec<u8>,
     telling: &Telling<'_>,
 ) -> Result<(), Failed>
-    ensures put { OnOk result (HasPut (S.taken out.old) (S.taken out.new) gathered.old.items gathered.new.items
-        (telling_text telling.now)) }
+    ensures put { OnOk result (HasPut (S.taken out.old) (S.taken out.new)
+        gathered.old.items gathered.new.items (telling_text telling.now)) }
     ensures prefix { OnErr result (GrewByPrefix (S.taken out.old) (S.taken out.new)
         (gathered.old.items ++ telling_text telling.now)) }
     ensures later { S.faults out.old ≤ S.faults out.new }
@@ -79,8 +79,8 @@ fn put_section<S: Sink>(
     gathered: &mut Vec<u8>,
     section: &Section<'_>,
 ) -> Result<(), Failed>
-    ensures put { OnOk result (HasPut (S.taken out.old) (S.taken out.new) gathered.old.items gathered.new.items
-        (section_text section.now)) }
+    ensures put { OnOk result (HasPut (S.taken out.old) (S.taken out.new)
+        gathered.old.items gathered.new.items (section_text section.now)) }
     ensures prefix { OnErr result (GrewByPrefix (S.taken out.old) (S.taken out.new)
         (gathered.old.items ++ section_text section.now)) }
     ensures later { S.faults out.old ≤ S.faults out.new }
@@ -98,8 +98,8 @@ fn put_sections<S: Sink>(
     gathered: &mut Vec<u8>,
     sections: &[Section<'_>],
 ) -> Result<(), Failed>
-    ensures put { OnOk result (HasPut (S.taken out.old) (S.taken out.new) gathered.old.items gathered.new.items
-        (flat_map section_text sections.now)) }
+    ensures put { OnOk result (HasPut (S.taken out.old) (S.taken out.new)
+        gathered.old.items gathered.new.items (flat_map section_text sections.now)) }
     ensures prefix { OnErr result (GrewByPrefix (S.taken out.old) (S.taken out.new)
         (gathered.old.items ++ flat_map section_text sections.now)) }
     ensures later { S.faults out.old ≤ S.faults out.new }

@@ -16,8 +16,8 @@ use csp_model::{List, Text};
 use csp_output::Status;
 use std::alloc::Global;
 
-/// Does what the words say. The words are those after the program's name. Whatever the output takes memory for
-/// is there before its first byte is written, and after a fault nothing is written but the fault's text.
+/// Does what the words say. The words are those after the program's name. Whatever the output takes memory
+/// for is there before its first byte is written, and after a fault nothing is written but the fault's text.
 ///
 /// `report` hands every violation to each reporter of the desk in turn, and prints what they tell. No other
 /// command hands anything to them.
@@ -33,8 +33,8 @@ pub fn run<I: Inputs, S: Sink>(
     // After every status but one, exactly the text was written of a due end with that status.
     ensures written { result ≢ Status.WriteFault → (end : End)
         × IsDue (world I.Inputs inputs.old inputs.new)
-        (lent (λ b. kind b) (λ b. held b) (λ b. (Reporter-box b).faults b.value) desk.old.items desk.new.items)
-        words.now end
+        (lent (λ b. kind b) (λ b. held b) (λ b. (Reporter-box b).faults b.value)
+        desk.old.items desk.new.items) words.now end
         × (result ≡ end_status end)
         × GrewBy (S.taken out.old) (S.taken out.new) (end_text end) }
 
@@ -42,13 +42,14 @@ pub fn run<I: Inputs, S: Sink>(
     ensures write_fault { result ≡ Status.WriteFault → Rose (S.faults out.old) (S.faults out.new) }
     ensures prefix { result ≡ Status.WriteFault → (end : End)
         × IsDue (world I.Inputs inputs.old inputs.new)
-        (lent (λ b. kind b) (λ b. held b) (λ b. (Reporter-box b).faults b.value) desk.old.items desk.new.items)
-        words.now end
+        (lent (λ b. kind b) (λ b. held b) (λ b. (Reporter-box b).faults b.value)
+        desk.old.items desk.new.items) words.now end
         × GrewByPrefix (S.taken out.old) (S.taken out.new) (end_text end) }
 
     // It doesn't give up by itself: where no count rose and memory sufficed, the end is an answer.
     ensures complete { let w = world I.Inputs inputs.old inputs.new in
-        let d = lent (λ b. kind b) (λ b. held b) (λ b. (Reporter-box b).faults b.value) desk.old.items desk.new.items in
+        let d = lent (λ b. kind b) (λ b. held b) (λ b. (Reporter-box b).faults b.value)
+        desk.old.items desk.new.items in
         IsQuiet w d words.now (S.faults out.old) (S.faults out.new) → result ≢ Status.NoMemory → (end : End)
         × IsAnswer w d words.now end
         × (result ≡ end_status end)
