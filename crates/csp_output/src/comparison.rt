@@ -8,8 +8,8 @@ ghost use Rattle.csp_model.specs.Verdict.{verdict_of};
 ghost use Rattle.csp_request.specs.Requests.{check_of};
 ghost use Rattle.csp_output.specs.Comparisons as spec;
 
-use crate::lines::{push_all, push_items};
 use crate::built::Built;
+use crate::lines::{push_all, push_items};
 use crate::status::Status;
 use csp_compare::{Answer, compare as answer};
 use csp_model::{Bytes, Check, Described, Duplicate, List, Memory, PolicyList, Text, Verdict};
@@ -21,11 +21,7 @@ use std::alloc::Global;
 
 /// What `compare` prints: a proof that the second list allows all that the first allows, with the status
 /// `Clean`; or, with `Found`, a check that the first allows and the second blocks.
-pub fn compare(
-    alloc: Global,
-    first: &PolicyList,
-    second: &PolicyList,
-) -> Result<Built, Memory>
+pub fn compare(alloc: Global, first: &PolicyList, second: &PolicyList) -> Result<Built, Memory>
     requires first { IsReadable first.now }
     requires second { IsReadable second.now }
     ensures { IfOk result (spec.IsComparison first.now second.now) }

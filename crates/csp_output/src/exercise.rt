@@ -4,8 +4,8 @@ ghost use Rattle.csp_model.specs.Ascii.{is_ascii_text};
 ghost use Rattle.csp_model.specs.Reading.{source_of};
 ghost use Rattle.csp_output.specs.Drills as spec;
 
-use crate::comparison::compare;
 use crate::built::Built;
+use crate::comparison::compare;
 use crate::status::Status;
 use csp_model::{
     Bytes, Directive, Disposition, Host, List, Memory, Origin, Policy, PolicyList, Scheme, Source,
