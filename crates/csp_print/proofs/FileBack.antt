@@ -8,10 +8,11 @@ use Rattle.serde_json.specs.Read.{read}
 use Rattle.serde_json.specs.Written.{compact_text}
 use Rattle.csp_model.specs.Validity.{IsValidCheck}
 use Rattle.csp_model.specs.declared.check.Check.{Check}
+use Rattle.csp_token.specs.Digests.{digests_of}
 use Rattle.csp_request.specs.Described.{described_as}
-use Rattle.csp_request.specs.Json.{array_of}
+use Rattle.csp_json.specs.Json.{array_of}
 use Rattle.csp_print.specs.Printed.{printed, in_array, AsksFor}
-use Rattle.csp_request.specs.Requests.{within_limit, first_before, each_described}
+use Rattle.csp_request.specs.Requests.{at_most, each_from, first_before, request_limit}
 use Rattle.csp_print.proofs.CheckBack.{shown_of, check_back}
 use Rattle.csp_print.proofs.PrintedJson.{IsReadable, read_text, check_readable, check_depth}
 use Rattle.csp_print.proofs.TextBack.{json_back}
@@ -39,6 +40,6 @@ pub file_back : (asked : Check) (text : List ℕ) → text ≡ compact_text (pri
 file_back asked text same utf8 valid =
     let reads = ap (λ t. read (in_array t)) same ∙ array_read asked valid in
     let json = json_back (in_array text) (alone (printed asked)) (bracketed text utf8) reads in
-    let found = ap (λ o. each_described (within_limit (option_and_then array_of o))) json
+    let found = ap (λ o. each_from digests_of 1 (at_most request_limit (option_and_then array_of o))) json
     ∙ ap (λ r. first_before 1 r (Ok [])) (check_back asked valid) in
     (described_as (asked ∷ []) (shown_of asked) [], found, refl)

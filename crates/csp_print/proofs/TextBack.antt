@@ -6,7 +6,7 @@ use Rattle.serde_json.specs.Read.{read}
 use Rattle.serde_json.specs.Written.{compact_text}
 use Rattle.csp_model.specs.Validity.{IsValidCheck}
 use Rattle.csp_model.specs.declared.check.Check.{Check}
-use Rattle.csp_request.specs.Json.{json_of}
+use Rattle.csp_json.specs.Json.{json_of}
 use Rattle.csp_print.specs.Printed.{printed}
 use Rattle.csp_request.specs.Requests.{one_check, check_in, check_of}
 use Rattle.csp_print.proofs.CheckBack.{check_back}

@@ -1,8 +1,8 @@
 -- A turn of a loop over values, each of one form: what the value stands for stands before the rest.
 use Rattle.std.proofs.Common.{◌≡◌, ℕ, ◌+◌, ◌<◌, List, [], ◌∷◌, ◌++◌, length, map, drop, get_or, Result, Ok, Err, refl, ap, sym, ◌∙◌, add-one, append_assoc, drop-cons, All}
 use Rattle.std.proofs.lemmas.List.Elements.{All-append, All-cons, All-nil}
-use Rattle.serde_json.specs.View.{view}
-use Rattle.serde_json.specs.declared.value.Value.{Value}
+use Rattle.csp_json.specs.View.{view}
+use Rattle.csp_json.specs.declared.value.Value.{Value}
 use Rattle.csp_model.specs.declared.url.Url.{Url}
 use Rattle.csp_request.specs.Hops.{before_hops}
 use Rattle.csp_request.specs.Members.{◌>>=◌, Form, each, found_map}

@@ -1,6 +1,4 @@
 pub mod Hashed
-pub mod Items
-pub mod Json
 pub mod Each
 pub mod Named
 pub mod Turns

@@ -2,7 +2,8 @@
 use Rattle.std.specs.Prelude.{⊤, ℕ, Bool, List, [], ◌∷◌, codes, Option, Some, None, is_none, ok_or, unwrap_or, Result, Ok, Err, if◌then◌else◌}
 use Rattle.serde_json.specs.Data.{Data}
 use Rattle.serde_json.specs.Find.{as_str, as_bool}
-use Rattle.csp_request.specs.Json.{present, array_of, whole_number}
+use Rattle.csp_json.specs.Json.{array_of}
+use Rattle.csp_request.specs.Json.{present, whole_number}
 use Rattle.csp_request.specs.declared.error.DescriptionError.{DescriptionError}
 use Rattle.csp_request.specs.declared.error.DescriptionError.TheVariants.{Misused}
 use Rattle.csp_request.specs.declared.field.Field.{Field}

@@ -1,12 +1,16 @@
 -- Request files, and files of one check.
-use Rattle.std.specs.Prelude.{ℕ, ◌+◌, nat_lt, List, [], ◌∷◌, length, Option, Some, None, option_and_then, Result, Ok, Err, if◌then◌else◌}
+use Rattle.std.specs.Prelude.{ℕ, ◌+◌, nat_lt, List, [], ◌∷◌, length, Option, Some, None, Result, Ok, Err, if◌then◌else◌}
+use Rattle.json.specs.Token.{Token}
 use Rattle.serde_json.specs.Data.{Data}
+use Rattle.csp_json.specs.Arrays.{array_in, items_left}
+use Rattle.csp_json.specs.Json.{json_of}
+use Rattle.csp_json.specs.declared.error.JsonError.{JsonError}
+use Rattle.csp_json.specs.declared.error.JsonError.TheVariants as json
 use Rattle.csp_model.specs.declared.check.Check.{Check}
 use Rattle.csp_model.specs.declared.check.Digests.{Digests}
 use Rattle.csp_model.specs.declared.verdict.Described.{Described}
 use Rattle.csp_token.specs.Digests.{digests_of}
 use Rattle.csp_request.specs.Described.{described, described_with}
-use Rattle.csp_request.specs.Json.{json_of, array_of}
 use Rattle.csp_request.specs.declared.error.DescriptionError.{DescriptionError}
 use Rattle.csp_request.specs.declared.error.DescriptionError.TheVariants as description
 use Rattle.csp_request.specs.declared.error.RequestError.{RequestError}
@@ -18,14 +22,33 @@ use Rattle.csp_request.specs.declared.error.CheckError.TheVariants as one
 abbrev pub request_limit : ℕ
 request_limit = 10000
 
-abbrev pub within_limit : Option (List Data) → Result (List Data) RequestError
-within_limit None = Err request.NotJson
-within_limit (Some values) =
-    if nat_lt request_limit (length values) then Err request.TooManyRequests else Ok values
+-- the items of an array that may have so many
+abbrev pub at_most : ℕ → Option (List Data) → Result (List Data) RequestError
+at_most limit None = Err request.NotJson
+at_most limit (Some values) = if nat_lt limit (length values) then Err request.TooManyRequests else Ok values
 
 -- the descriptions of a request file: the items of its array
 abbrev pub requests_in : List ℕ → Result (List Data) RequestError
-requests_in bytes = within_limit (option_and_then array_of (json_of bytes))
+requests_in bytes = at_most request_limit (array_in bytes)
+
+-- what is left of a request file: tokens, which hold at most so many descriptions
+pub record Rest : Type 0 where
+  pub tokens : List Token
+  pub limit : ℕ
+
+-- the descriptions that are still to come, or the file's refusal
+abbrev pub still : Rest → Result (List Data) RequestError
+still rest = at_most rest.limit (items_left rest.tokens)
+
+-- a file is refused for a description only where nothing else is wrong with it
+abbrev pub refused_after : RequestError → Result (List Data) RequestError → RequestError
+refused_after error (Ok values) = error
+refused_after error (Err e) = e
+
+-- the refusal of a file that isn't JSON
+abbrev pub of_json : JsonError → RequestError
+of_json json.NotJson = request.NotJson
+of_json json.Memory = request.Memory
 
 -- the refusal of the description of this number
 abbrev pub refused_at : ℕ → DescriptionError → RequestError
@@ -49,13 +72,15 @@ described_from hashed index [] = Ok []
 described_from hashed index (value ∷ values) =
     first_before index (described_with hashed value) (described_from hashed (index + 1) values)
 
-abbrev pub each_described : Result (List Data) RequestError → Result (List Described) RequestError
-each_described (Ok values) = described_from digests_of 1 values
-each_described (Err e) = Err e
+-- the same of the descriptions of a file, where it has no fault of its own
+abbrev pub each_from : (List ℕ → Digests) → ℕ → Result (List Data) RequestError
+    → Result (List Described) RequestError
+each_from hashed index (Ok values) = described_from hashed index values
+each_from hashed index (Err e) = Err e
 
 -- the requests of a request file, or its first fault
 abbrev pub requests_of : List ℕ → Result (List Described) RequestError
-requests_of bytes = each_described (requests_in bytes)
+requests_of bytes = each_from digests_of 1 (requests_in bytes)
 
 -- the one check of a description
 abbrev pub only_check : List Check → Result Check CheckError

@@ -1,6 +1,6 @@
 //! Redirect chains in descriptions.
 ghost use Rattle.std.specs.Prelude.{◌≡◌, ◌<◌, ◌^◌, All, IfOk, map, ◌≤◌, length};
-ghost use Rattle.serde_json.specs.View.{view};
+ghost use Rattle.csp_json.specs.View.{view};
 ghost use Rattle.csp_model.specs.Answers.{Gives};
 ghost use Rattle.csp_model.specs.Validity.{IsValidUrl};
 ghost use Rattle.csp_request.specs.Hops.{IsValidHop, hops_of as all_hops};
@@ -12,8 +12,8 @@ use crate::field::Field;
 use crate::located::{located_url, only_url, web_url};
 use crate::member::{demand, is_absent, needed_array, number_part};
 use crate::texts::ReportTexts;
+use csp_json::Value;
 use csp_model::{List, Text, Url};
-use serde_json::Value;
 use std::alloc::Global;
 
 // The URLs that `urls` may have.
@@ -34,7 +34,7 @@ pub(crate) struct Chain {
 }
 
 // The hops of a first URL and of more that follow it.
-fn hops_of(alloc: Global, first: Url, others: &[Value]) -> Result<List<Hop>, DescriptionError>
+fn hops_of(alloc: Global, first: Url, others: &[Value<'_>]) -> Result<List<Hop>, DescriptionError>
     requires few { length others.now < 2 ^ 16 }
     requires valid { IsValidUrl first }
     ensures hops { Gives DescriptionError.Memory result (all_hops first (map view others.now)) }
@@ -56,7 +56,7 @@ fn hops_of(alloc: Global, first: Url, others: &[Value]) -> Result<List<Hop>, Des
 }
 
 // The items of `urls`: no more than the limit, and not beside `url`.
-fn url_items(value: &Value) -> Result<&[Value], DescriptionError>
+fn url_items<'v, 'a>(value: &'v Value<'a>) -> Result<&'v [Value<'a>], DescriptionError>
     ensures items { found_map (λ items. map view items.now) result ≡ spec.url_items (view value.now) }
     ensures few { IfOk result (λ items. length items.now ≤ HOP_LIMIT) }
 {
@@ -72,7 +72,7 @@ fn url_items(value: &Value) -> Result<&[Value], DescriptionError>
 fn chain_of_items(
     alloc: Global,
     texts: ReportTexts,
-    items: &[Value],
+    items: &[Value<'_>],
 ) -> Result<Chain, DescriptionError>
     requires { length items.now ≤ HOP_LIMIT }
     ensures chain { Gives DescriptionError.Memory result
@@ -96,7 +96,7 @@ fn chain_of_items(
 fn chain_of_urls(
     alloc: Global,
     texts: ReportTexts,
-    value: &Value,
+    value: &Value<'_>,
 ) -> Result<Chain, DescriptionError>
     ensures chain { Gives DescriptionError.Memory result (spec.chain_of_urls texts (view value.now)) }
     ensures valid { IfOk result (λ chain. All IsValidHop chain.hops) }
@@ -108,7 +108,11 @@ fn chain_of_urls(
 }
 
 // The chain of `url` and `redirects`.
-fn chain_of_url(alloc: Global, texts: ReportTexts, value: &Value) -> Result<Chain, DescriptionError>
+fn chain_of_url(
+    alloc: Global,
+    texts: ReportTexts,
+    value: &Value<'_>,
+) -> Result<Chain, DescriptionError>
     ensures chain { Gives DescriptionError.Memory result (spec.chain_of_url texts (view value.now)) }
     ensures valid { IfOk result (λ chain. All IsValidHop chain.hops) }
 {
@@ -129,7 +133,7 @@ fn chain_of_url(alloc: Global, texts: ReportTexts, value: &Value) -> Result<Chai
 pub(crate) fn chain_of(
     alloc: Global,
     texts: ReportTexts,
-    value: &Value,
+    value: &Value<'_>,
 ) -> Result<Chain, DescriptionError>
     ensures chain { Gives DescriptionError.Memory result (spec.chain_of texts (view value.now)) }
     ensures valid { IfOk result (λ chain. All IsValidHop chain.hops) }

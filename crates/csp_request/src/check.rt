@@ -6,7 +6,7 @@ ghost use Rattle.csp_request.specs.Requests as spec;
 
 use crate::description::describe;
 use crate::error::{CheckError, DescriptionError};
-use crate::requests::json_of;
+use csp_json::{JsonError, Scratch, Value};
 use csp_model::{Check, List};
 use std::alloc::Global;
 
@@ -35,8 +35,11 @@ pub fn read_check(alloc: Global, bytes: &[u8]) -> Result<Check, CheckError>
     ensures check { Gives CheckError.Memory result (spec.check_of bytes.now) }
     ensures valid { IfOk result IsValidCheck }
 {
-    let Some(value) = json_of(alloc, bytes)? else {
-        return Err(CheckError::NotJson);
+    let mut scratch = Scratch::new(alloc);
+    let value = match Value::from_slice(alloc, bytes, &mut scratch) {
+        Ok(value) => value,
+        Err(JsonError::NotJson) => return Err(CheckError::NotJson),
+        Err(JsonError::Memory) => return Err(CheckError::Memory),
     };
     match describe(alloc, &value) {
         Ok(described) => only_check(described.checks),

@@ -1,6 +1,6 @@
 //! What descriptions stand for: a function for each kind.
 ghost use Rattle.std.specs.Prelude.{◌≡◌, [], ◌∷◌, IfOk, All, map};
-ghost use Rattle.serde_json.specs.View.{view};
+ghost use Rattle.csp_json.specs.View.{view};
 ghost use Rattle.csp_model.specs.Answers.{Gives};
 ghost use Rattle.csp_model.specs.Names.{capability_named};
 ghost use Rattle.csp_model.specs.Validity.{IsValidCheck, IsValidUrl, IsOriginUrl};
@@ -22,14 +22,14 @@ use crate::located::{page, required_url, web_url};
 use crate::member::{demand, needed, needed_array, required_text, text_or_empty};
 use crate::sample::{sample_of, text_is_utf8};
 use crate::texts::{ReportTexts, no_text, told as told_text};
+use csp_json::Value;
 use csp_model::{Bytes, Capability, Check, Described, InlineKind, List, Memory, Text, Url};
 use csp_token::Algorithms;
 use csp_url::ShownUrl;
-use serde_json::Value;
 use std::alloc::{AllocError, Global};
 
 // The kind of a description.
-fn kind_of(value: &Value) -> Result<Kind, DescriptionError>
+fn kind_of(value: &Value<'_>) -> Result<Kind, DescriptionError>
     ensures { result ≡ required (named kind_named) Field.Kind (view value.now) }
 {
     let name = required_text(Field::Kind, value)?;
@@ -37,7 +37,7 @@ fn kind_of(value: &Value) -> Result<Kind, DescriptionError>
 }
 
 // The capability that a description asks for.
-fn capability_of(value: &Value) -> Result<Capability, DescriptionError>
+fn capability_of(value: &Value<'_>) -> Result<Capability, DescriptionError>
     ensures { result ≡ required (named capability_named) Field.Name (view value.now) }
 {
     let name = required_text(Field::Name, value)?;
@@ -76,7 +76,7 @@ fn without_texts(alloc: Global, check: Check) -> Result<Described, Memory>
 }
 
 // The compilation of a string as script.
-fn eval(alloc: Global, texts: ReportTexts, value: &Value) -> Result<Described, DescriptionError>
+fn eval(alloc: Global, texts: ReportTexts, value: &Value<'_>) -> Result<Described, DescriptionError>
     ensures described { Gives DescriptionError.Memory result (spec.eval texts (view value.now)) }
     ensures valid { IfOk result (λ made. All IsValidCheck made.checks) }
 {
@@ -94,7 +94,7 @@ fn wasm(alloc: Global, texts: ReportTexts) -> Result<Described, DescriptionError
 }
 
 // A base URL.
-fn base(alloc: Global, texts: ReportTexts, value: &Value) -> Result<Described, DescriptionError>
+fn base(alloc: Global, texts: ReportTexts, value: &Value<'_>) -> Result<Described, DescriptionError>
     ensures described { Gives DescriptionError.Memory result (spec.base texts (view value.now)) }
     ensures valid { IfOk result (λ made. All IsValidCheck made.checks) }
 {
@@ -115,7 +115,7 @@ fn form_checks(alloc: Global, hops: List<Hop>) -> Result<List<Check>, AllocError
 }
 
 // A form submission.
-fn form(alloc: Global, texts: ReportTexts, value: &Value) -> Result<Described, DescriptionError>
+fn form(alloc: Global, texts: ReportTexts, value: &Value<'_>) -> Result<Described, DescriptionError>
     ensures described { Gives DescriptionError.Memory result (spec.form texts (view value.now)) }
     ensures valid { IfOk result (λ made. All IsValidCheck made.checks) }
 {
@@ -158,7 +158,7 @@ fn origin_url(alloc: Global, url: Url) -> Result<Url, Memory>
 }
 
 // An ancestor: the text `null`, or a URL.
-fn ancestor(alloc: Global, field: Field, value: &Value) -> Result<Check, DescriptionError>
+fn ancestor(alloc: Global, field: Field, value: &Value<'_>) -> Result<Check, DescriptionError>
     ensures ancestor { Gives DescriptionError.Memory result (spec.ancestor field (view value.now)) }
     ensures valid { IfOk result IsValidCheck }
 {
@@ -175,7 +175,7 @@ fn ancestor(alloc: Global, field: Field, value: &Value) -> Result<Check, Descrip
 fn ancestor_checks(
     alloc: Global,
     field: Field,
-    items: &[Value],
+    items: &[Value<'_>],
 ) -> Result<List<Check>, DescriptionError>
     ensures ancestors { Gives DescriptionError.Memory result
         (each spec.ancestor field (map view items.now)) }
@@ -201,7 +201,7 @@ fn shown_page(alloc: Global, page: Option<ShownUrl>) -> Text
 fn ancestors(
     alloc: Global,
     texts: ReportTexts,
-    value: &Value,
+    value: &Value<'_>,
 ) -> Result<Described, DescriptionError>
     ensures described { Gives DescriptionError.Memory result (spec.ancestors texts (view value.now)) }
     ensures valid { IfOk result (λ made. All IsValidCheck made.checks) }
@@ -217,7 +217,7 @@ fn ancestors(
 }
 
 // Something that a sandbox could take from a document.
-fn capability(alloc: Global, value: &Value) -> Result<Described, DescriptionError>
+fn capability(alloc: Global, value: &Value<'_>) -> Result<Described, DescriptionError>
     ensures described { Gives DescriptionError.Memory result (spec.capability (view value.now)) }
     ensures valid { IfOk result (λ made. All IsValidCheck made.checks) }
 {
@@ -235,7 +235,7 @@ fn worker_start(alloc: Global) -> Result<Described, DescriptionError>
 }
 
 // What inline code or style it is.
-fn inline_kind_of(value: &Value) -> Result<InlineKind, DescriptionError>
+fn inline_kind_of(value: &Value<'_>) -> Result<InlineKind, DescriptionError>
     ensures { result ≡ required (named kind_of_inline) Field.InlineType (view value.now) }
 {
     let name = required_text(Field::InlineType, value)?;
@@ -246,7 +246,7 @@ fn inline_kind_of(value: &Value) -> Result<InlineKind, DescriptionError>
 fn inline(
     alloc: Global,
     texts: ReportTexts,
-    value: &Value,
+    value: &Value<'_>,
     wanted: Algorithms,
 ) -> Result<Described, DescriptionError>
     ensures described { Gives DescriptionError.Memory result
@@ -270,7 +270,7 @@ fn described_by(
     alloc: Global,
     texts: ReportTexts,
     kind: Kind,
-    value: &Value,
+    value: &Value<'_>,
     wanted: Algorithms,
 ) -> Result<Described, DescriptionError>
     ensures described { Gives DescriptionError.Memory result
@@ -290,12 +290,12 @@ fn described_by(
     }
 }
 
-/// The request that a description stands for, as `describe` says, but with no more than is wanted of it. Of an
-/// inline source only the digests of the wanted algorithms are computed; in place of each other digest are
+/// The request that a description stands for, as `describe` says, but with no more than is wanted of it. Of
+/// an inline source only the digests of the wanted algorithms are computed; in place of each other digest are
 /// bytes that are all 0. The texts that only a report shows are made or stay empty.
 pub fn describe_for(
     alloc: Global,
-    value: &Value,
+    value: &Value<'_>,
     wanted: Algorithms,
     texts: ReportTexts,
 ) -> Result<Described, DescriptionError>
@@ -311,7 +311,7 @@ pub fn describe_for(
 /// The request that a description stands for, by the members of its kind. `Misused` names the first member,
 /// in the order in which the kind's members are tested, that is missing or of another form; one that is null
 /// counts as absent, and members of other names aren't looked at.
-pub fn describe(alloc: Global, value: &Value) -> Result<Described, DescriptionError>
+pub fn describe(alloc: Global, value: &Value<'_>) -> Result<Described, DescriptionError>
     ensures described { Gives DescriptionError.Memory result (spec.described (view value.now)) }
     ensures valid { IfOk result (λ made. All IsValidCheck made.checks) }
 {

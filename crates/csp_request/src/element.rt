@@ -1,6 +1,6 @@
 //! Elements and nonces in descriptions.
 ghost use Rattle.std.specs.Prelude.{◌≡◌, map};
-ghost use Rattle.serde_json.specs.View.{view};
+ghost use Rattle.csp_json.specs.View.{view};
 ghost use Rattle.csp_model.specs.Answers.{Gives};
 ghost use Rattle.csp_request.specs.Members.{each, optional};
 ghost use Rattle.csp_request.specs.Described as spec;
@@ -11,12 +11,16 @@ use crate::member::{
     array, demand, flag_part, is_absent, needed_array, needed_text, present, text, text_or_empty,
 };
 use csp_inline::{Element, element_nonce};
+use csp_json::Value;
 use csp_model::{List, Text};
-use serde_json::Value;
 use std::alloc::Global;
 
 // An attribute: an array of its name and its value.
-fn attribute(alloc: Global, field: Field, value: &Value) -> Result<(Text, Text), DescriptionError>
+fn attribute(
+    alloc: Global,
+    field: Field,
+    value: &Value<'_>,
+) -> Result<(Text, Text), DescriptionError>
     ensures { Gives DescriptionError.Memory result (spec.attribute field (view value.now)) }
 {
     match array(field, value)? {
@@ -32,7 +36,7 @@ fn attribute(alloc: Global, field: Field, value: &Value) -> Result<(Text, Text),
 fn attributes(
     alloc: Global,
     field: Field,
-    items: &[Value],
+    items: &[Value<'_>],
 ) -> Result<List<(Text, Text)>, DescriptionError>
     ensures { Gives DescriptionError.Memory result (each spec.attribute field (map view items.now)) }
 {
@@ -43,7 +47,7 @@ fn attributes(
     Ok(found)
 }
 
-fn element(alloc: Global, field: Field, value: &Value) -> Result<Element, DescriptionError>
+fn element(alloc: Global, field: Field, value: &Value<'_>) -> Result<Element, DescriptionError>
     ensures { Gives DescriptionError.Memory result (spec.element field (view value.now)) }
 {
     let tag = needed_text("tag", field, value)?;
@@ -57,7 +61,7 @@ fn element(alloc: Global, field: Field, value: &Value) -> Result<Element, Descri
     })
 }
 
-fn optional_element(alloc: Global, value: &Value) -> Result<Option<Element>, DescriptionError>
+fn optional_element(alloc: Global, value: &Value<'_>) -> Result<Option<Element>, DescriptionError>
     ensures { Gives DescriptionError.Memory result (optional spec.element Field.Element (view value.now)) }
 {
     match present(value, "element") {
@@ -67,7 +71,7 @@ fn optional_element(alloc: Global, value: &Value) -> Result<Option<Element>, Des
 }
 
 // The nonce of an element, or else one that is given.
-pub(crate) fn nonce_of(alloc: Global, value: &Value) -> Result<Text, DescriptionError>
+pub(crate) fn nonce_of(alloc: Global, value: &Value<'_>) -> Result<Text, DescriptionError>
     ensures { Gives DescriptionError.Memory result (spec.nonce_of (view value.now)) }
 {
     match optional_element(alloc, value)? {

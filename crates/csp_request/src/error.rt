@@ -2,6 +2,7 @@
 ghost use Rattle.std.specs.Prelude.{◌≡◌};
 
 use crate::field::Field;
+use csp_json::JsonError;
 use csp_model::Memory;
 use thiserror::Error;
 
@@ -56,6 +57,19 @@ impl From<Memory> for RequestError {
 
     fn from(_: Memory) -> RequestError {
         RequestError::Memory
+    }
+}
+
+impl From<JsonError> for RequestError {
+    ghost use Rattle.csp_request.specs.Requests.{of_json};
+
+    ghost from_gives = { λ error made. made ≡ of_json error };
+
+    fn from(error: JsonError) -> RequestError {
+        match error {
+            JsonError::NotJson => RequestError::NotJson,
+            JsonError::Memory => RequestError::Memory,
+        }
     }
 }
 

@@ -1,6 +1,6 @@
 //! Fetches in descriptions.
 ghost use Rattle.std.specs.Prelude.{◌≡◌, ◌++◌, IfOk, IfSome, All};
-ghost use Rattle.serde_json.specs.View.{view};
+ghost use Rattle.csp_json.specs.View.{view};
 ghost use Rattle.csp_model.specs.Answers.{Gives};
 ghost use Rattle.csp_model.specs.Validity.{IsValidCheck, IsValidUrl};
 ghost use Rattle.csp_fetch.specs.Destinations.{destination_named};
@@ -17,9 +17,9 @@ use crate::member::{flag_part, needed, required_text, text_or_empty};
 use crate::sample::text_is_utf8;
 use crate::texts::{ReportTexts, no_text};
 use csp_fetch::{Destination, effective};
+use csp_json::Value;
 use csp_model::{Check, Described, Duplicate, Group, Hash, List, Memory, Text, Url};
 use csp_token::read_integrity;
-use serde_json::Value;
 use std::alloc::Global;
 
 // What the hops of a fetch share.
@@ -31,7 +31,7 @@ pub(crate) struct FetchOptions {
 }
 
 // What a request is for.
-fn destination_of(value: &Value) -> Result<Destination, DescriptionError>
+fn destination_of(value: &Value<'_>) -> Result<Destination, DescriptionError>
     ensures { result ≡ required (named destination_named) Field.Destination (view value.now) }
 {
     let name = required_text(Field::Destination, value)?;
@@ -117,7 +117,7 @@ fn fetch_checks(
     Ok(checks)
 }
 
-fn fetch_options(alloc: Global, value: &Value) -> Result<FetchOptions, DescriptionError>
+fn fetch_options(alloc: Global, value: &Value<'_>) -> Result<FetchOptions, DescriptionError>
     ensures options { Gives DescriptionError.Memory result (spec.fetch_options (view value.now)) }
     ensures valid { IfOk result (λ options. AreIntegrityValues options.integrity) }
 {
@@ -135,7 +135,7 @@ fn fetch_options(alloc: Global, value: &Value) -> Result<FetchOptions, Descripti
 pub(crate) fn fetch(
     alloc: Global,
     texts: ReportTexts,
-    value: &Value,
+    value: &Value<'_>,
 ) -> Result<Described, DescriptionError>
     ensures described { Gives DescriptionError.Memory result (spec.fetch texts (view value.now)) }
     ensures valid { IfOk result (λ made. All IsValidCheck made.checks) }

@@ -2,7 +2,7 @@
 ghost use Rattle.std.specs.Prelude.{◌≡◌, not, length, IfOk, IfSome};
 ghost use Rattle.std.specs.Char.{is_ascii_uppercase};
 ghost use Rattle.std.specs.List.{list_all};
-ghost use Rattle.serde_json.specs.View.{view};
+ghost use Rattle.csp_json.specs.View.{view};
 ghost use Rattle.csp_model.specs.Answers.{Gives};
 ghost use Rattle.csp_model.specs.Validity.{IsOfSize, IsValidDigests};
 ghost use Rattle.csp_token.specs.Digests.{digests_for as wanted_digests};
@@ -14,10 +14,10 @@ use crate::field::Field;
 use crate::member::{demand, is_absent, needed, needed_text, present, text_part};
 use crate::sample::sample_of;
 use crate::texts::{ReportTexts, no_text};
+use csp_json::Value;
 use csp_model::{Digests, Text};
 use csp_token::{Algorithms, digests_for};
 use hex::FromHex;
-use serde_json::Value;
 use std::alloc::Global;
 
 // What a description says of an inline source.
@@ -59,7 +59,7 @@ fn lower_hex<const N: usize>(word: &str) -> Option<[u8; N]>
 fn digest_part<const N: usize>(
     name: &str,
     field: Field,
-    value: &Value,
+    value: &Value<'_>,
 ) -> Result<[u8; N], DescriptionError>
     ensures digest { result ≡ needed_part name.now (named (spec.lower_hex N)) field (view value.now) }
     ensures size { IfOk result (IsOfSize N) }
@@ -68,7 +68,7 @@ fn digest_part<const N: usize>(
     needed(field, lower_hex(word))
 }
 
-fn digests_from(field: Field, value: &Value) -> Result<Digests, DescriptionError>
+fn digests_from(field: Field, value: &Value<'_>) -> Result<Digests, DescriptionError>
     ensures digests { result ≡ spec.digests field (view value.now) }
     ensures valid { IfOk result IsValidDigests }
 {
@@ -80,7 +80,7 @@ fn digests_from(field: Field, value: &Value) -> Result<Digests, DescriptionError
 }
 
 // The digests that are given.
-fn optional_digests(value: &Value) -> Result<Option<Digests>, DescriptionError>
+fn optional_digests(value: &Value<'_>) -> Result<Option<Digests>, DescriptionError>
     ensures digests { result ≡ optional spec.digests Field.Digests (view value.now) }
     ensures valid { IfOk result (λ found. IfSome found IsValidDigests) }
 {
@@ -94,7 +94,7 @@ fn optional_digests(value: &Value) -> Result<Option<Digests>, DescriptionError>
 pub(crate) fn source_of(
     alloc: Global,
     texts: ReportTexts,
-    value: &Value,
+    value: &Value<'_>,
     wanted: Algorithms,
 ) -> Result<InlineSource, DescriptionError>
     ensures source { Gives DescriptionError.Memory result

@@ -1,7 +1,7 @@
 //! URLs in descriptions.
 ghost use Rattle.std.specs.Prelude.{◌≡◌, IfOk, IfSome, option_copied};
 ghost use Rattle.std.specs.Result.{result_ok};
-ghost use Rattle.serde_json.specs.View.{view};
+ghost use Rattle.csp_json.specs.View.{view};
 ghost use Rattle.csp_model.specs.Answers.{Gives};
 ghost use Rattle.csp_model.specs.Validity.{IsValidUrl};
 ghost use Rattle.csp_url.specs.Parts.{url_of_parts};
@@ -14,9 +14,9 @@ use crate::error::DescriptionError;
 use crate::field::Field;
 use crate::member::{needed, needed_text, number_part, present, text_part};
 use crate::texts::{ReportTexts, no_text};
+use csp_json::Value;
 use csp_model::{Memory, Scheme, Text, Url};
 use csp_url::{PartsError, ShownUrl, UrlError, read_shown_url, read_url, url_from_parts, url_text};
-use serde_json::Value;
 use std::alloc::Global;
 
 // The URL that a text is.
@@ -77,7 +77,7 @@ fn shown_parts(alloc: Global, url: &Url) -> Result<Text, Memory>
 }
 
 // A URL in parts: a scheme, and perhaps a host, a port and a path.
-fn url_parts(alloc: Global, field: Field, value: &Value) -> Result<Url, DescriptionError>
+fn url_parts(alloc: Global, field: Field, value: &Value<'_>) -> Result<Url, DescriptionError>
     ensures url { Gives DescriptionError.Memory result (spec.url_parts field (view value.now)) }
     ensures valid { IfOk result IsValidUrl }
 {
@@ -89,7 +89,11 @@ fn url_parts(alloc: Global, field: Field, value: &Value) -> Result<Url, Descript
 }
 
 // A URL: a text, or an object in parts.
-pub(crate) fn web_url(alloc: Global, field: Field, value: &Value) -> Result<Url, DescriptionError>
+pub(crate) fn web_url(
+    alloc: Global,
+    field: Field,
+    value: &Value<'_>,
+) -> Result<Url, DescriptionError>
     ensures url { Gives DescriptionError.Memory result (spec.web_url field (view value.now)) }
     ensures valid { IfOk result IsValidUrl }
 {
@@ -100,7 +104,7 @@ pub(crate) fn web_url(alloc: Global, field: Field, value: &Value) -> Result<Url,
 }
 
 // A URL, and what a report shows of it.
-fn shown_url(alloc: Global, field: Field, value: &Value) -> Result<ShownUrl, DescriptionError>
+fn shown_url(alloc: Global, field: Field, value: &Value<'_>) -> Result<ShownUrl, DescriptionError>
     ensures located { Gives DescriptionError.Memory result
         (spec.located_url ReportTexts.Made field (view value.now)) }
     ensures valid { IfOk result (λ there. IsValidUrl there.url) }
@@ -120,7 +124,7 @@ pub(crate) fn located_url(
     alloc: Global,
     texts: ReportTexts,
     field: Field,
-    value: &Value,
+    value: &Value<'_>,
 ) -> Result<ShownUrl, DescriptionError>
     ensures located { Gives DescriptionError.Memory result (spec.located_url texts field (view value.now)) }
     ensures valid { IfOk result (λ there. IsValidUrl there.url) }
@@ -138,7 +142,7 @@ pub(crate) fn located_url(
 pub(crate) fn optional_url(
     alloc: Global,
     field: Field,
-    value: &Value,
+    value: &Value<'_>,
 ) -> Result<Option<Url>, DescriptionError>
     ensures url { Gives DescriptionError.Memory result (optional spec.web_url field (view value.now)) }
     ensures valid { IfOk result (λ found. IfSome found IsValidUrl) }
@@ -153,7 +157,7 @@ pub(crate) fn optional_url(
 pub(crate) fn required_url(
     alloc: Global,
     field: Field,
-    value: &Value,
+    value: &Value<'_>,
 ) -> Result<Url, DescriptionError>
     ensures url { Gives DescriptionError.Memory result (required spec.web_url field (view value.now)) }
     ensures valid { IfOk result IsValidUrl }
@@ -165,7 +169,7 @@ pub(crate) fn required_url(
 pub(crate) fn page(
     alloc: Global,
     texts: ReportTexts,
-    value: &Value,
+    value: &Value<'_>,
 ) -> Result<Option<ShownUrl>, DescriptionError>
     ensures { Gives DescriptionError.Memory result
         (optional (spec.located_url texts) Field.Page (view value.now)) }
@@ -180,7 +184,7 @@ pub(crate) fn page(
 pub(crate) fn only_url(
     alloc: Global,
     texts: ReportTexts,
-    value: &Value,
+    value: &Value<'_>,
 ) -> Result<ShownUrl, DescriptionError>
     ensures located { Gives DescriptionError.Memory result
         (required (spec.located_url texts) Field.Url (view value.now)) }

@@ -1,12 +1,12 @@
 //! Members of descriptions, each of its form.
 ghost use Rattle.std.specs.Prelude.{◌≡◌, false, [], map, option_map, option_copied};
-ghost use Rattle.serde_json.specs.View.{view};
+ghost use Rattle.csp_json.specs.View.{view};
 ghost use Rattle.csp_request.specs.Json as json;
 ghost use Rattle.csp_request.specs.Members as spec;
 
 use crate::error::DescriptionError;
 use crate::field::Field;
-use serde_json::Value;
+use csp_json::Value;
 
 // What has to be there.
 pub(crate) fn needed<T: Drop>(field: Field, found: Option<T>) -> Result<T, DescriptionError>
@@ -19,7 +19,7 @@ pub(crate) fn needed<T: Drop>(field: Field, found: Option<T>) -> Result<T, Descr
 }
 
 // The member of a name; one that is null counts as absent.
-pub(crate) fn present<'v>(value: &'v Value, name: &str) -> Option<&'v Value>
+pub(crate) fn present<'v, 'a>(value: &'v Value<'a>, name: &str) -> Option<&'v Value<'a>>
     ensures { option_map (λ v. view v.now) result ≡ json.present name.now (view value.now) }
 {
     let member = value.get(name)?;
@@ -38,28 +38,28 @@ pub(crate) fn demand(field: Field, holds: bool) -> Result<(), DescriptionError>
 }
 
 // The member is missing, or null.
-pub(crate) fn is_absent(value: &Value, field: Field) -> bool
+pub(crate) fn is_absent(value: &Value<'_>, field: Field) -> bool
     ensures { result ≡ spec.is_absent field (view value.now) }
 {
     present(value, field.as_str()).is_none()
 }
 
 // A text.
-pub(crate) fn text<'v>(field: Field, value: &'v Value) -> Result<&'v str, DescriptionError>
+pub(crate) fn text<'v>(field: Field, value: &'v Value<'_>) -> Result<&'v str, DescriptionError>
     ensures { spec.found_map (λ t. t.now) result ≡ spec.text field (view value.now) }
 {
     needed(field, value.as_str())
 }
 
 // A truth value.
-fn flag(field: Field, value: &Value) -> Result<bool, DescriptionError>
+fn flag(field: Field, value: &Value<'_>) -> Result<bool, DescriptionError>
     ensures { result ≡ spec.flag field (view value.now) }
 {
     needed(field, value.as_bool())
 }
 
 // A whole number up to the greatest that is allowed.
-fn whole_number(greatest: u32, value: &Value) -> Option<u32>
+fn whole_number(greatest: u32, value: &Value<'_>) -> Option<u32>
     ensures { result ≡ json.whole_number greatest (view value.now) }
 {
     let number = value.as_u64()?;
@@ -70,30 +70,27 @@ fn whole_number(greatest: u32, value: &Value) -> Option<u32>
     }
 }
 
-fn number(greatest: u32, field: Field, value: &Value) -> Result<u32, DescriptionError>
+fn number(greatest: u32, field: Field, value: &Value<'_>) -> Result<u32, DescriptionError>
     ensures { result ≡ spec.number greatest field (view value.now) }
 {
     needed(field, whole_number(greatest, value))
 }
 
 // The items of an array.
-fn array_of(value: &Value) -> Option<&[Value]>
-    ensures { option_map (λ items. map view items.now) result ≡ json.array_of (view value.now) }
-{
-    Some(value.as_array()?.as_slice())
-}
-
-pub(crate) fn array<'v>(field: Field, value: &'v Value) -> Result<&'v [Value], DescriptionError>
+pub(crate) fn array<'v, 'a>(
+    field: Field,
+    value: &'v Value<'a>,
+) -> Result<&'v [Value<'a>], DescriptionError>
     ensures { spec.found_map (λ items. map view items.now) result ≡ spec.array field (view value.now) }
 {
-    needed(field, array_of(value))
+    needed(field, value.as_array())
 }
 
 // A part that holds a text, or none where it is absent.
 pub(crate) fn text_part<'v>(
     name: &str,
     field: Field,
-    value: &'v Value,
+    value: &'v Value<'_>,
 ) -> Result<Option<&'v str>, DescriptionError>
     ensures { spec.found_map option_copied result ≡ spec.part name.now spec.text field (view value.now) }
 {
@@ -107,7 +104,7 @@ pub(crate) fn text_part<'v>(
 pub(crate) fn needed_text<'v>(
     name: &str,
     field: Field,
-    value: &'v Value,
+    value: &'v Value<'_>,
 ) -> Result<&'v str, DescriptionError>
     ensures { spec.found_map (λ t. t.now) result
         ≡ spec.needed_part name.now spec.text field (view value.now) }
@@ -120,7 +117,7 @@ pub(crate) fn number_part(
     name: &str,
     greatest: u32,
     field: Field,
-    value: &Value,
+    value: &Value<'_>,
 ) -> Result<Option<u32>, DescriptionError>
     ensures { result ≡ spec.part name.now (spec.number greatest) field (view value.now) }
 {
@@ -131,7 +128,11 @@ pub(crate) fn number_part(
 }
 
 // A part that holds a truth value, which is false where it is absent.
-pub(crate) fn flag_part(name: &str, field: Field, value: &Value) -> Result<bool, DescriptionError>
+pub(crate) fn flag_part(
+    name: &str,
+    field: Field,
+    value: &Value<'_>,
+) -> Result<bool, DescriptionError>
     ensures { result ≡ spec.part_or_else false name.now spec.flag field (view value.now) }
 {
     match present(value, name) {
@@ -141,11 +142,11 @@ pub(crate) fn flag_part(name: &str, field: Field, value: &Value) -> Result<bool,
 }
 
 // A part that has to hold an array.
-pub(crate) fn needed_array<'v>(
+pub(crate) fn needed_array<'v, 'a>(
     name: &str,
     field: Field,
-    value: &'v Value,
-) -> Result<&'v [Value], DescriptionError>
+    value: &'v Value<'a>,
+) -> Result<&'v [Value<'a>], DescriptionError>
     ensures { spec.found_map (λ items. map view items.now) result
         ≡ spec.needed_part name.now spec.array field (view value.now) }
 {
@@ -153,14 +154,20 @@ pub(crate) fn needed_array<'v>(
 }
 
 // A member that holds a text, which is empty where it is absent.
-pub(crate) fn text_or_empty<'v>(field: Field, value: &'v Value) -> Result<&'v str, DescriptionError>
+pub(crate) fn text_or_empty<'v>(
+    field: Field,
+    value: &'v Value<'_>,
+) -> Result<&'v str, DescriptionError>
     ensures { spec.found_map (λ t. t.now) result ≡ spec.or_else [] spec.text field (view value.now) }
 {
     Ok(text_part(field.as_str(), field, value)?.unwrap_or(""))
 }
 
 // A member that has to hold a text.
-pub(crate) fn required_text<'v>(field: Field, value: &'v Value) -> Result<&'v str, DescriptionError>
+pub(crate) fn required_text<'v>(
+    field: Field,
+    value: &'v Value<'_>,
+) -> Result<&'v str, DescriptionError>
     ensures { spec.found_map (λ t. t.now) result ≡ spec.required spec.text field (view value.now) }
 {
     needed_text(field.as_str(), field, value)

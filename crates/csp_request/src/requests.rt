@@ -1,94 +1,88 @@
 //! Request files.
-ghost use Rattle.std.specs.Prelude.{◌≡◌, map, All, IfOk, length, ◌≤◌, option_map};
+ghost use Rattle.std.specs.Prelude.{◌≡◌, ◌≢◌, ◌+◌, ◌<◌, ◌∷◌, [], All, Err, IfErr, IfOk, IfSome};
+ghost use Rattle.std.specs.Prelude.{MatchOption, Ok, length};
 ghost use Rattle.std.specs.Result.{result_map_both};
-ghost use Rattle.serde_json.specs.View.{view};
+ghost use Rattle.csp_json.specs.View.{view};
 ghost use Rattle.csp_model.specs.Answers.{Gives};
 ghost use Rattle.csp_model.specs.Validity.{IsValidCheck};
 ghost use Rattle.csp_token.specs.Digests.{digests_of};
-ghost use Rattle.csp_request.specs.Json as json;
+ghost use Rattle.csp_request.specs.Described.{described};
 ghost use Rattle.csp_request.specs.Requests as spec;
 
 use crate::description::describe;
 use crate::error::{DescriptionError, RequestError};
-use csp_model::{Described, List, Memory};
-use serde_json::Value;
+use csp_json::{ArrayReader, Scratch, Value};
+use csp_model::{Described, List};
 use std::alloc::Global;
 use std::marker::Model;
 
 // The requests that a file may have.
 const REQUEST_LIMIT: usize = 10000;
 
-// The JSON value of bytes. None where they are none.
-pub(crate) fn json_of(alloc: Global, bytes: &[u8]) -> Result<Option<Value>, Memory>
-    ensures { IfOk result (λ value. option_map view value ≡ json.json_of bytes.now) }
-{
-    match Value::from_slice(alloc, bytes) {
-        Ok(value) => Ok(Some(value)),
-        Err(error) => {
-            if error.is_memory() {
-                Err(Memory)
-            } else {
-                Ok(None)
-            }
-        }
-    }
-}
-
-/// The descriptions of a request file, each to be described on its own, so that not all are held at once.
-/// Contracts see them as the list of their values.
+/// The descriptions of a request file, of which one is held at a time: the items of its JSON array, at most
+/// 10,000 (RFC 8259). What they describe isn't looked at. Contracts see the tokens that are left, and how
+/// many descriptions they may hold.
 #[derive(Drop)]
-pub struct Requests {
-    values: Vec<Value>,
+pub struct Requests<'a> {
+    reader: ArrayReader<'a>,
+    limit: usize,
 }
 
-impl Model for Requests {
-    ghost use Rattle.std.specs.Prelude.{List};
-    ghost use Rattle.std.specs.Coded.{codes};
-    ghost use Rattle.serde_json.specs.declared.value.Value as json;
-    ghost use Rattle.serde_json.specs.contracts.value.Value as described;
+impl<'a> Model for Requests<'a> {
+    ghost use Rattle.csp_request.specs.Requests.{Rest};
 
-    ghost Value = { List json.Value };
+    ghost Value = { Rest };
 
-    ghost coded = { Prim.hlevel (codes, described.the_row.coded) };
-
-    ghost view = { λ a. a.values.items };
+    ghost view = { λ a. record { tokens = a.reader; limit = a.limit } };
 }
 
-// The items of an array, moved out of it.
-fn into_items(value: Value) -> Option<Vec<Value>>
-    ensures { option_map (λ values. map view values.items) result ≡ json.array_of (view value) }
-{
-    match value {
-        Value::Array(values) => Some(values),
-        _ => None,
-    }
-}
-
-impl Requests {
-    /// The descriptions of a request file: the items of its JSON array, at most 10,000 (RFC 8259). What they
-    /// describe isn't looked at.
-    pub fn read(alloc: Global, bytes: &[u8]) -> Result<Requests, RequestError>
-        ensures descriptions { Gives RequestError.Memory (result_map_both (map view) (λ e. e) result)
-            (spec.requests_in bytes.now) }
-        ensures limit { IfOk result (λ requests. length requests ≤ 10000) }
+impl<'a> Requests<'a> {
+    /// Begins to read a request file. `NotJson` comes at once where the bytes don't begin as an array. Texts
+    /// with escapes are written to the scratch, which grows to the length of the file.
+    pub fn new(bytes: &'a [u8], scratch: &'a mut Scratch) -> Result<Requests<'a>, RequestError>
+        ensures descriptions { IfOk result (λ requests. spec.still requests ≡ spec.requests_in bytes.now) }
+        ensures limit { IfOk result (λ requests. requests.limit ≡ spec.request_limit) }
+        ensures refused { IfErr result (λ e. e ≢ RequestError.Memory → spec.requests_in bytes.now ≡ Err e) }
     {
-        let Some(value) = json_of(alloc, bytes)? else {
-            return Err(RequestError::NotJson);
+        Ok(Requests {
+            reader: ArrayReader::new(bytes, scratch)?,
+            limit: REQUEST_LIMIT,
+        })
+    }
+
+    /// The next description, or `None` after the last one. `NotJson` comes where the file is no array after
+    /// all, and else `TooManyRequests` at the description that is one too many.
+    pub fn next(&mut self, alloc: Global) -> Result<Option<Value<'a>>, RequestError>
+        ensures description { IfOk result (λ next. MatchOption next (spec.still self.old ≡ Ok [])
+            (λ v. spec.still self.old
+            ≡ result_map_both (λ rest. view v ∷ rest) (λ e. e) (spec.still self.new))) }
+        ensures limit { IfOk result (λ next. IfSome next (λ _. self.old.limit ≡ self.new.limit + 1)) }
+        ensures shorter { IfOk result (λ next. IfSome next
+            (λ _. length self.new.tokens < length self.old.tokens)) }
+        ensures refused { IfErr result (λ e. e ≢ RequestError.Memory → spec.still self.old ≡ Err e) }
+    {
+        let Some(value) = self.reader.next(alloc)? else {
+            return Ok(None);
         };
-        let Some(values) = into_items(value) else {
-            return Err(RequestError::NotJson);
-        };
-        if values.len() > REQUEST_LIMIT {
+        if self.limit == 0 {
+            self.reader.has_at_most(alloc, 0)?;
             return Err(RequestError::TooManyRequests);
         }
-        Ok(Requests { values })
+        self.limit -= 1;
+        Ok(Some(value))
     }
 
-    /// The descriptions, in order.
-    pub fn as_slice(&self) -> &[Value]
-        ensures { result.now ≡ self.now }
+    /// What the file is refused for, where a description that was handed out is refused with this: that,
+    /// unless the rest shows that the file isn't JSON, or that it has too many descriptions.
+    pub fn refusal(mut self, alloc: Global, error: RequestError) -> RequestError
+        ensures { result ≢ RequestError.Memory → result ≡ spec.refused_after error (spec.still self.entry) }
     {
-        self.values.as_slice()
+        let limit = self.limit;
+        match self.reader.has_at_most(alloc, limit) {
+            Ok(true) => error,
+            Ok(false) => RequestError::TooManyRequests,
+            Err(refused) => RequestError::from(refused),
+        }
     }
 }
 
@@ -105,21 +99,34 @@ impl DescriptionError {
     }
 }
 
+// The request that a description stands for, which is dropped.
+fn described(alloc: Global, value: Value<'_>) -> Result<Described, DescriptionError>
+    ensures described { Gives DescriptionError.Memory result (described (view value.entry)) }
+    ensures valid { IfOk result (λ made. All IsValidCheck made.checks) }
+{
+    describe(alloc, &value)
+}
+
 // The requests of descriptions, in order.
-fn described_from(alloc: Global, values: &[Value]) -> Result<List<Described>, RequestError>
-    requires { length values.now ≤ 10000 }
+fn described_from(
+    alloc: Global,
+    mut requests: Requests<'_>,
+) -> Result<List<Described>, RequestError>
+    requires { requests.limit ≡ spec.request_limit }
     ensures requests { Gives RequestError.Memory result
-        (spec.described_from digests_of 1 (map view values.now)) }
+        (spec.each_from digests_of 1 (spec.still requests.entry)) }
     ensures valid { IfOk result (All (λ request. All IsValidCheck request.checks)) }
 {
-    let mut requests = List::new(alloc);
-    for (place, value) in values.iter().enumerate() {
-        match describe(alloc, value) {
-            Ok(described) => requests.push(described)?,
-            Err(error) => return Err(error.at(place as u32 + 1)),
+    let mut made = List::new(alloc);
+    let mut number = 0;
+    'requests: while let Some(value) = requests.next(alloc)? {
+        number += 1;
+        match described(alloc, value) {
+            Ok(described) => made.push(described)?,
+            Err(error) => return Err(requests.refusal(alloc, error.at(number))),
         }
     }
-    Ok(requests)
+    Ok(made)
 }
 
 /// The requests of a request file, each described. The first fault of the first description that has one
@@ -128,6 +135,6 @@ pub fn read_requests(alloc: Global, bytes: &[u8]) -> Result<List<Described>, Req
     ensures requests { Gives RequestError.Memory result (spec.requests_of bytes.now) }
     ensures valid { IfOk result (All (λ request. All IsValidCheck request.checks)) }
 {
-    let requests = Requests::read(alloc, bytes)?;
-    described_from(alloc, requests.as_slice())
+    let mut scratch = Scratch::new(alloc);
+    described_from(alloc, Requests::new(bytes, &mut scratch)?)
 }

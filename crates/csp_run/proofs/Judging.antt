@@ -1,20 +1,19 @@
 -- Descriptions that are judged one after the other.
-use Rattle.std.proofs.Common.{◌≡◌, ◌+◌, ◌<◌, ◌≤◌, ℕ, Bool, true, false, ◌||◌, List, [], ◌∷◌, ◌++◌, map, Result, Ok, Err}
-use Rattle.std.proofs.Common.{refl, ap, sym, ◌∙◌, append-nil, append_assoc, cond, drop, length, get_or, drop-cons, add-one}
-use Rattle.std.proofs.lemmas.List.{drop_all}
+use Rattle.std.proofs.Common.{◌≡◌, ◌≢◌, ◌+◌, ℕ, Bool, true, false, ◌||◌, List, [], ◌∷◌, ◌++◌, map, Result, Ok, Err}
+use Rattle.std.proofs.Common.{refl, ap, sym, ◌∙◌, append-nil, append_assoc, cond}
 use Rattle.std.specs.List.{list_any}
 use Rattle.serde_json.specs.Data.{Data}
-use Rattle.serde_json.specs.View.{view}
-use Rattle.serde_json.specs.declared.value.Value.{Value}
 use Rattle.csp_model.specs.Verdict.{verdict_of}
 use Rattle.csp_model.specs.declared.check.Digests.{Digests}
 use Rattle.csp_model.specs.declared.policy.PolicyList.{PolicyList}
 use Rattle.csp_model.specs.declared.verdict.Described.{Described}
 use Rattle.csp_model.specs.declared.verdict.Verdict.{Verdict}
 use Rattle.csp_request.specs.Described.{described, described_with}
-use Rattle.csp_request.specs.Requests.{described_from, first_before, before_others, refused_at}
+use Rattle.csp_request.proofs.RequestTurns.{more_before}
+use Rattle.csp_request.specs.Requests.{described_from, each_from, first_before, before_others, refused_at, refused_after}
 use Rattle.csp_request.specs.declared.error.DescriptionError.{DescriptionError}
 use Rattle.csp_request.specs.declared.error.RequestError.{RequestError}
+use Rattle.csp_request.specs.declared.error.RequestError.TheVariants as request
 use Rattle.csp_token.specs.Digests.{digests_of}
 use Rattle.csp_run.specs.declared.fault.Fault.{Fault}
 use Rattle.csp_output.specs.declared.built.Built.{Built}
@@ -104,16 +103,6 @@ failed f = Err f
 abbrev pub built : Status → List ℕ → Result Built Fault
 built status text = Ok (record { status = status; text = text })
 
--- what is left to judge: the values from a place on, of which the first has the number behind it
-abbrev pub left_from : List Value → ℕ → Result (List Described) RequestError
-left_from values place = described_from digests_of (place + 1) (map view (drop place values))
-
-pub next_value : (values : List Value) (place : ℕ) (d : Value) → place < length values
-    → map view (drop place values) ≡ view (get_or values place d) ∷ map view (drop (place + 1) values)
-next_value values place d within =
-    ap (map view) (drop-cons values place d within
-    ∙ ap (λ (n : ℕ). get_or values place d ∷ drop n values) (sym (add-one place)))
-
 with_verdict : (list : PolicyList) (text : List ℕ) (blocked : Bool) (n : ℕ) (value : Data) (values : List Data)
     (verdict : Verdict) (found : Result Described DescriptionError) → described value ≡ found
     → Ok verdict ≡ verdict_on list n found
@@ -127,46 +116,72 @@ with_verdict list text blocked n value values verdict (Ok d) is given =
     (described_from digests_of (n + 1) values)) (sym same)
 with_verdict list text blocked n value values verdict (Err e) is given = absurd (cc given)
 
-with_fault : (list : PolicyList) (text : List ℕ) (blocked : Bool) (n : ℕ) (value : Data) (values : List Data)
-    (fault : Fault) (found : Result Described DescriptionError) → described value ≡ found
-    → Err fault ≡ verdict_on list n found
-    → judged_after list text blocked n (described_from digests_of n (value ∷ values)) ≡ Err fault
-with_fault list text blocked n value values fault (Ok d) is given = absurd (cc given)
-with_fault list text blocked n value values fault (Err e) is given =
-    let same : fault ≡ request_fault (refused_at n e) = cc given in
+with_refusal : (list : PolicyList) (text : List ℕ) (blocked : Bool) (n : ℕ) (value : Data) (values : List Data)
+    (refused : RequestError) (found : Result Described DescriptionError) → described value ≡ found
+    → Err refused ≡ verdict_on list n found
+    → judged_after list text blocked n (described_from digests_of n (value ∷ values)) ≡ Err (request_fault refused)
+with_refusal list text blocked n value values refused (Ok d) is given = absurd (cc given)
+with_refusal list text blocked n value values refused (Err e) is given =
+    let same : refused ≡ refused_at n e = cc given in
     one_refused list digests_of text blocked n value values e is
-    ∙ ap failed (sym same)
+    ∙ ap (λ (r : RequestError). failed (request_fault r)) (sym same)
 
--- the description at a place is judged
-pub judged_at : (list : PolicyList) (text : List ℕ) (blocked : Bool) (values : List Value) (place : ℕ)
-    (d : Value) (verdict : Verdict) → place < length values
-    → Ok verdict ≡ verdict_on list (place + 1) (described (view (get_or values place d)))
-    → judged_after list text blocked (place + 1) (left_from values place)
-    ≡ judged_after list (text ++ verdict_line (place + 1) verdict) (blocked || verdict.blocked) (place + 1 + 1)
-    (left_from values (place + 1))
-judged_at list text blocked values place d verdict within given =
-    ap (λ (l : List Data). judged_after list text blocked (place + 1) (described_from digests_of (place + 1) l))
-    (next_value values place d within)
-    ∙ with_verdict list text blocked (place + 1) (view (get_or values place d))
-    (map view (drop (place + 1) values)) verdict (described (view (get_or values place d))) refl given
+-- the output of `judge`, where this is built already and these descriptions are still to come
+abbrev pub judged_still : PolicyList → List ℕ → Bool → ℕ → Result (List Data) RequestError
+    → Result Built Fault
+judged_still list text blocked n left = judged_after list text blocked n (each_from digests_of n left)
+
+verdict_before : (list : PolicyList) (text : List ℕ) (blocked : Bool) (n : ℕ) (value : Data)
+    (rest : Result (List Data) RequestError) (verdict : Verdict)
+    → Ok verdict ≡ verdict_on list n (described value)
+    → judged_still list text blocked n (more_before value rest)
+    ≡ judged_still list (text ++ verdict_line n verdict) (blocked || verdict.blocked) (n + 1) rest
+verdict_before list text blocked n value (Ok values) verdict given =
+    with_verdict list text blocked n value values verdict (described value) refl given
+verdict_before list text blocked n value (Err f) verdict given = refl
+
+-- the next description is judged
+pub judged_next : (list : PolicyList) (text : List ℕ) (blocked : Bool) (n : ℕ) (value : Data)
+    (left rest : Result (List Data) RequestError) (verdict : Verdict) → left ≡ more_before value rest
+    → Ok verdict ≡ verdict_on list n (described value)
+    → judged_still list text blocked n left
+    ≡ judged_still list (text ++ verdict_line n verdict) (blocked || verdict.blocked) (n + 1) rest
+judged_next list text blocked n value left rest verdict comes given =
+    ap (judged_still list text blocked n) comes
+    ∙ verdict_before list text blocked n value rest verdict given
+
+refusal_before : (list : PolicyList) (text : List ℕ) (blocked : Bool) (n : ℕ) (value : Data)
+    (rest : Result (List Data) RequestError) (refused of_file : RequestError)
+    → (refused ≢ request.Memory → Err refused ≡ verdict_on list n (described value))
+    → of_file ≡ refused_after refused rest → of_file ≢ request.Memory
+    → judged_still list text blocked n (more_before value rest) ≡ Err (request_fault of_file)
+refusal_before list text blocked n value (Ok values) refused of_file given is real =
+    with_refusal list text blocked n value values refused (described value) refl
+    (given (λ memory. real (is ∙ memory)))
+    ∙ ap (λ (r : RequestError). failed (request_fault r)) (sym is)
+refusal_before list text blocked n value (Err f) refused of_file given is real =
+    ap (λ (r : RequestError). failed (request_fault r)) (sym is)
 
 -- or refused
-pub refused_here : (list : PolicyList) (text : List ℕ) (blocked : Bool) (values : List Value) (place : ℕ)
-    (d : Value) (fault : Fault) → place < length values
-    → Err fault ≡ verdict_on list (place + 1) (described (view (get_or values place d)))
-    → judged_after list text blocked (place + 1) (left_from values place) ≡ Err fault
-refused_here list text blocked values place d fault within given =
-    ap (λ (l : List Data). judged_after list text blocked (place + 1) (described_from digests_of (place + 1) l))
-    (next_value values place d within)
-    ∙ with_fault list text blocked (place + 1) (view (get_or values place d))
-    (map view (drop (place + 1) values)) fault (described (view (get_or values place d))) refl given
+pub refused_next : (list : PolicyList) (text : List ℕ) (blocked : Bool) (n : ℕ) (value : Data)
+    (left rest : Result (List Data) RequestError) (refused of_file : RequestError)
+    → left ≡ more_before value rest
+    → (refused ≢ request.Memory → Err refused ≡ verdict_on list n (described value))
+    → of_file ≡ refused_after refused rest → of_file ≢ request.Memory
+    → judged_still list text blocked n left ≡ Err (request_fault of_file)
+refused_next list text blocked n value left rest refused of_file comes given is real =
+    ap (judged_still list text blocked n) comes
+    ∙ refusal_before list text blocked n value rest refused of_file given is real
 
 -- or none is left
-pub none_left : (list : PolicyList) (text : List ℕ) (blocked : Bool) (values : List Value) (place : ℕ)
-    → length values ≤ place
-    → judged_after list text blocked (place + 1) (left_from values place)
+pub none_next : (list : PolicyList) (text : List ℕ) (blocked : Bool) (n : ℕ) (left : Result (List Data) RequestError)
+    → left ≡ Ok [] → judged_still list text blocked n left
     ≡ Ok (record { status = status_where blocked; text = text })
-none_left list text blocked values place past =
-    ap (λ (l : List Value). judged_after list text blocked (place + 1)
-    (described_from digests_of (place + 1) (map view l))) (drop_all _ _ past)
-    ∙ all_judged list text blocked (place + 1)
+none_next list text blocked n left over =
+    ap (judged_still list text blocked n) over ∙ all_judged list text blocked n
+
+-- or the file is refused
+pub file_next : (list : PolicyList) (text : List ℕ) (blocked : Bool) (n : ℕ) (left : Result (List Data) RequestError)
+    (refused : RequestError) → left ≡ Err refused
+    → judged_still list text blocked n left ≡ Err (request_fault refused)
+file_next list text blocked n left refused is = ap (judged_still list text blocked n) is

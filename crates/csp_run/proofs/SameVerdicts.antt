@@ -11,6 +11,8 @@ use Rattle.csp_request.specs.Described.{described, described_for, described_with
 use Rattle.csp_request.specs.Requests.{refused_at}
 use Rattle.csp_request.specs.declared.error.DescriptionError.{DescriptionError}
 use Rattle.csp_request.specs.declared.error.DescriptionError.TheVariants as error
+use Rattle.csp_request.specs.declared.error.RequestError.{RequestError}
+use Rattle.csp_request.specs.declared.error.RequestError.TheVariants as request
 use Rattle.csp_request.specs.declared.texts.ReportTexts.{ReportTexts}
 use Rattle.csp_request.proofs.Hashed.{described_same}
 use Rattle.csp_request.proofs.Untold.{checks_in, checks_same}
@@ -18,20 +20,17 @@ use Rattle.csp_token.specs.Digests.{digests_for, digests_of}
 use Rattle.csp_token.specs.declared.digest.Algorithms.{Algorithms}
 use Rattle.csp_verdict.specs.Algorithms.{algorithms_of}
 use Rattle.csp_verdict.proofs.NamedDigests.{wanted_verdict}
-use Rattle.csp_run.specs.declared.fault.Fault.{Fault}
-use Rattle.csp_run.specs.declared.fault.Fault.TheVariants.{Memory}
-use Rattle.csp_run.specs.Outputs.{request_fault}
 use Rattle.csp_run.specs.Shown.{verdict_on}
 
-abbrev pub judged_so : Verdict → Result Verdict Fault
+abbrev pub judged_so : Verdict → Result Verdict RequestError
 judged_so verdict = Ok verdict
 
-abbrev pub refused_so : Fault → Result Verdict Fault
-refused_so fault = Err fault
+abbrev pub refused_so : RequestError → Result Verdict RequestError
+refused_so refused = Err refused
 
-abbrev judged_by : PolicyList → ℕ → Result (List Check) DescriptionError → Result Verdict Fault
+abbrev judged_by : PolicyList → ℕ → Result (List Check) DescriptionError → Result Verdict RequestError
 judged_by list n (Ok checks) = Ok (verdict_of list checks)
-judged_by list n (Err refused) = Err (request_fault (refused_at n refused))
+judged_by list n (Err refused) = Err (refused_at n refused)
 
 by_checks : (list : PolicyList) (n : ℕ) (found : Result Described DescriptionError)
     → verdict_on list n found ≡ judged_by list n (checks_in found)
@@ -65,7 +64,6 @@ found_verdict list n value wanted texts found is found_is =
     ∙ same_verdict list n value)
 
 -- a refusal that isn't want of memory is none of it
-pub not_memory : (n : ℕ) (e : DescriptionError) (fault : Fault) → fault ≡ request_fault (refused_at n e)
-    → fault ≢ Memory → e ≢ error.Memory
-not_memory n e fault is real memory =
-    real (is ∙ ap (λ (d : DescriptionError). request_fault (refused_at n d)) memory)
+pub not_memory : (n : ℕ) (e : DescriptionError) (refused : RequestError) → refused ≡ refused_at n e
+    → refused ≢ request.Memory → e ≢ error.Memory
+not_memory n e refused is real memory = real (is ∙ ap (refused_at n) memory)

@@ -2,8 +2,6 @@
 -- for the digests that no policy of the list looks at.
 use Rattle.std.proofs.Common.{◌≡◌, ◌≢◌, ◌<◌, ◌+◌, ◌++◌, ℕ, List, [], ◌∷◌, length, map, drop, get_or, codes, Result, Ok, Err, refl, ap, sym, ◌∙◌}
 use Rattle.serde_json.specs.Data.{Data}
-use Rattle.serde_json.specs.View.{view}
-use Rattle.serde_json.specs.declared.value.Value.{Value}
 use Rattle.csp_model.specs.Verdict.{violations_of}
 use Rattle.csp_model.specs.declared.check.Check.TheVariants as check
 use Rattle.csp_model.specs.declared.check.Digests.{Digests}
@@ -12,42 +10,19 @@ use Rattle.csp_model.specs.declared.policy.PolicyList.{PolicyList}
 use Rattle.csp_model.specs.declared.verdict.Described.{Described}
 use Rattle.csp_model.specs.declared.verdict.Violation.{Violation}
 use Rattle.csp_request.specs.Described.{described, described_as, described_with, sample_of}
-use Rattle.csp_request.specs.Requests.{described_from, each_described, first_before, refused_at, requests_in, requests_of}
+use Rattle.csp_request.specs.Requests.{described_from, each_from, first_before, requests_in, requests_of}
 use Rattle.csp_request.specs.declared.error.DescriptionError.{DescriptionError}
-use Rattle.csp_request.specs.declared.error.DescriptionError.TheVariants as description
 use Rattle.csp_request.specs.declared.error.RequestError.{RequestError}
-use Rattle.csp_request.specs.declared.error.RequestError.TheVariants as request
 use Rattle.csp_request.proofs.Hashed.{described_same}
-use Rattle.csp_request.proofs.RequestTurns.{before_rest}
 use Rattle.csp_token.specs.Digests.{digests_for, digests_of}
 use Rattle.csp_token.specs.declared.digest.Algorithms.{Algorithms}
 use Rattle.csp_verdict.specs.Algorithms.{algorithms_of}
 use Rattle.csp_verdict.proofs.NamedDigests.{wanted_violations}
 use Rattle.csp_run.specs.Reports.{all_violations, violations_in}
 use Rattle.csp_run.specs.Shown.{described_for}
-use Rattle.csp_run.proofs.Judging.{next_value}
 
 abbrev pub hashed_for : Algorithms → List ℕ → Digests
 hashed_for wanted source = digests_for source wanted
-
--- where the description at a place is refused, all are
-pub refused_turn : (hashed : List ℕ → Digests) (values : List Value) (place : ℕ) (value : Value)
-    (made : List Described) (e : DescriptionError) (refused : RequestError) → place < length values
-    → value ≡ get_or values place value
-    → (e ≢ description.Memory → described_with hashed (view value) ≡ Err e)
-    → described_from hashed 1 (map view values)
-    ≡ before_rest made (described_from hashed (place + 1) (map view (drop place values)))
-    → refused ≡ refused_at (place + 1) e → refused ≢ request.Memory
-    → described_from hashed 1 (map view values) ≡ Err refused
-refused_turn hashed values place value made e refused within is given so_far refused_is real =
-    let rest = described_from hashed (place + 1 + 1) (map view (drop (place + 1) values)) in
-    let here : described_with hashed (view (get_or values place value)) ≡ Err e =
-    ap (λ (v : Value). described_with hashed (view v)) (sym is)
-    ∙ given (λ memory. real (refused_is ∙ ap (refused_at (place + 1)) memory)) in
-    so_far
-    ∙ ap (λ (l : List Data). before_rest made (described_from hashed (place + 1) l)) (next_value values place value within)
-    ∙ ap (λ (r : Result Described DescriptionError). before_rest made (first_before (place + 1) r rest)) here
-    ∙ ap (λ (f : RequestError). Err f) (sym refused_is)
 
 -- the violations of what is found of a description and of what is found of the others
 abbrev pub with_others : PolicyList → ℕ → Result (List Described) RequestError → Result Described DescriptionError
@@ -97,7 +72,7 @@ same_from list n (value ∷ values) =
 
 pub same_violations : (list : PolicyList) (wanted : Algorithms) (found : Result (List Data) RequestError)
     → wanted ≡ algorithms_of list
-    → violations_in list (described_for wanted found) ≡ violations_in list (each_described found)
+    → violations_in list (described_for wanted found) ≡ violations_in list (each_from digests_of 1 found)
 same_violations list wanted (Ok values) is =
     ap (λ (w : Algorithms). violations_in list (described_from (hashed_for w) 1 values)) is
     ∙ same_from list 1 values

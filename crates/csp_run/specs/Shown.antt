@@ -29,7 +29,7 @@ use Rattle.csp_model.specs.Verdict.{verdict_of}
 use Rattle.csp_model.specs.declared.policy.PolicyList.{PolicyList}
 use Rattle.csp_model.specs.declared.verdict.Described.{Described}
 use Rattle.csp_model.specs.declared.verdict.Verdict.{Verdict}
-use Rattle.csp_request.specs.Requests.{described_from, refused_at}
+use Rattle.csp_request.specs.Requests.{each_from, refused_at}
 use Rattle.csp_request.specs.declared.error.DescriptionError.{DescriptionError}
 use Rattle.csp_request.specs.declared.error.RequestError.{RequestError}
 use Rattle.csp_token.specs.Digests.{digests_for}
@@ -37,7 +37,6 @@ use Rattle.csp_token.specs.declared.digest.Algorithms.{Algorithms}
 use Rattle.csp_model.specs.declared.verdict.Violation.{Violation}
 use Rattle.csp_run.specs.Desk.{Desk}
 use Rattle.csp_run.specs.Files.{file_limit}
-use Rattle.csp_run.specs.Outputs.{request_fault}
 use Rattle.csp_run.specs.Words.{Plan, File, files_from}
 
 abbrev pub files_of : Held → List File
@@ -62,10 +61,10 @@ fits Check (content.Policies first ∷ content.Policies second ∷ content.Proof
 fits (Drill pairs) [] = true
 fits form contents = false
 
--- the verdict on the description of this number, or the fault of its refusal
-abbrev pub verdict_on : PolicyList → ℕ → Result Described DescriptionError → Result Verdict Fault
+-- the verdict on the description of this number, or its refusal
+abbrev pub verdict_on : PolicyList → ℕ → Result Described DescriptionError → Result Verdict RequestError
 verdict_on list number (Ok found) = Ok (verdict_of list found.checks)
-verdict_on list number (Err refused) = Err (request_fault (refused_at number refused))
+verdict_on list number (Err refused) = Err (refused_at number refused)
 
 -- How a run ends with what a command prints, where reporters of these kinds hold these violations.
 abbrev pub end_of : List Kind → List (List Violation) → Result Outcome Fault → Result Built Fault
@@ -99,5 +98,4 @@ HasStopped Memory all desk = GrewInPart all desk.held_before desk.held_now
 
 -- what descriptions stand for, with the digests of the wanted algorithms alone, or why their file is refused
 abbrev pub described_for : Algorithms → Result (List Data) RequestError → Result (List Described) RequestError
-described_for wanted (Ok values) = described_from (λ source. digests_for source wanted) 1 values
-described_for wanted (Err refused) = Err refused
+described_for wanted found = each_from (λ source. digests_for source wanted) 1 found

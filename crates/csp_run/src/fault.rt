@@ -5,7 +5,7 @@ ghost use Rattle.csp_run.specs.Texts as texts;
 use csp_desk::DeskError;
 use csp_model::Memory;
 use csp_output::Status;
-use csp_request::Field;
+use csp_request::{Field, RequestError};
 
 /// What a file is to a command.
 #[derive(Clone, Copy, Debug, PartialEq, Eq)]
@@ -62,6 +62,33 @@ pub enum Fault {
     Refused { reporter: u32 },
     /// There was no memory.
     Memory,
+}
+
+impl From<RequestError> for Fault {
+    ghost use Rattle.csp_run.specs.Outputs.{request_fault};
+
+    ghost from_gives = { λ error made. made ≡ request_fault error };
+
+    // The fault of what a request file is refused for.
+    fn from(error: RequestError) -> Fault {
+        let file = Role::Requests;
+        match error {
+            RequestError::NotJson => Fault::NotJson,
+            RequestError::TooManyRequests => Fault::TooLarge {
+                file,
+                limit: Limit::Requests,
+            },
+            RequestError::BadRequest { index, field } => Fault::BadRequest {
+                request: index,
+                field,
+            },
+            RequestError::TooManyHops { .. } => Fault::TooLarge {
+                file,
+                limit: Limit::Hops,
+            },
+            RequestError::Memory => Fault::Memory,
+        }
+    }
 }
 
 /// The status that a fault ends with.

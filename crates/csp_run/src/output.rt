@@ -1,29 +1,29 @@
 //! What each command prints of what its files hold.
 ghost use Rattle.std.specs.Prelude.{◌≡◌, ◌≢◌, ◌⊎◌, ◌≤◌, ◌<◌, ◌^◌, IsTrue, All, length, map, if◌then◌else◌, List as Items};
-ghost use Rattle.serde_json.specs.View.{view};
+ghost use Rattle.csp_json.specs.View.{view};
 ghost use Rattle.csp_desk.specs.Growth.{NoneFell};
 ghost use Rattle.csp_desk.specs.declared.reporter.Kind.{Kind};
 ghost use Rattle.csp_model.specs.Policies.{IsReadable};
 ghost use Rattle.csp_model.specs.declared.verdict.Violation.{Violation};
 ghost use Rattle.csp_request.specs.Described.{described};
-ghost use Rattle.csp_request.specs.Requests.{described_from, request_limit, requests_of};
+ghost use Rattle.csp_request.specs.Requests.{each_from, request_limit, requests_of, still};
 ghost use Rattle.csp_token.specs.Digests.{digests_of};
 ghost use Rattle.csp_run.specs.Desk.{desk as lent, IsUntouched};
 ghost use Rattle.csp_run.specs.Files.{file_limit};
-ghost use Rattle.csp_run.specs.Outputs.{GrewOn, IsCheck, IsOutput, judged, request_fault};
+ghost use Rattle.csp_run.specs.Outputs.{GrewOn, IsCheck, IsOutput, judged};
 ghost use Rattle.csp_run.specs.Shown.{fits, IsSound, end_of, verdict_on};
 
-use crate::fault::{Fault, Limit, Role};
+use crate::fault::{Fault, Role};
 use crate::files::Content;
 use crate::plan::Form;
 use crate::report::report;
 use csp_desk::Reporter;
+use csp_json::{Scratch, Value};
 use csp_model::{PolicyList, Verdict};
 use csp_output::{Built, Status, VerdictLines, check, compare, drill};
 use csp_proof::ProofError;
 use csp_request::{ReportTexts, RequestError, Requests, describe_for};
 use csp_verdict::CompiledList;
-use serde_json::Value;
 use std::alloc::Global;
 
 // What a command prints.
@@ -109,27 +109,31 @@ fn judge(alloc: Global, list: &PolicyList, bytes: &[u8]) -> Result<Built, Fault>
     requires { IsReadable list.now }
     ensures { result ≢ Err Fault.Memory → result ≡ judged list.now (requests_of bytes.now) }
 {
-    match Requests::read(alloc, bytes) {
-        Ok(requests) => judge_each(alloc, list, requests.as_slice()),
-        Err(error) => Err(request_fault(error)),
-    }
+    let mut scratch = Scratch::new(alloc);
+    let requests = Requests::new(bytes, &mut scratch)?;
+    judge_each(alloc, list, requests)
 }
 
 // The lines of the verdicts on descriptions, each of which is described, judged and dropped in its turn.
-fn judge_each(alloc: Global, list: &PolicyList, requests: &[Value]) -> Result<Built, Fault>
+fn judge_each(alloc: Global, list: &PolicyList, mut requests: Requests<'_>) -> Result<Built, Fault>
     requires readable { IsReadable list.now }
-    requires few { length requests.now ≤ request_limit }
+    requires limit { requests.limit ≡ request_limit }
     ensures { result ≢ Err Fault.Memory
-        → result ≡ judged list.now (described_from digests_of 1 (map view requests.now)) }
+        → result ≡ judged list.now (each_from digests_of 1 (still requests.entry)) }
 {
     let list = CompiledList::new(alloc, list)?;
     let mut lines = VerdictLines::new(alloc);
     let mut blocked = false;
-    for (place, request) in requests.iter().enumerate() {
-        let number = place as u32 + 1;
-        let verdict = judge_one(alloc, &list, number, request)?;
-        blocked |= verdict.blocked;
-        lines.push(alloc, number, verdict)?;
+    let mut number = 0;
+    'requests: while let Some(request) = requests.next(alloc)? {
+        number += 1;
+        match judge_one(alloc, &list, number, request) {
+            Ok(verdict) => {
+                blocked |= verdict.blocked;
+                lines.push(alloc, number, verdict)?;
+            }
+            Err(error) => return Err(Fault::from(requests.refusal(alloc, error))),
+        }
     }
     Ok(Built {
         status: judged_status(blocked),
@@ -137,19 +141,33 @@ fn judge_each(alloc: Global, list: &PolicyList, requests: &[Value]) -> Result<Bu
     })
 }
 
-// The verdict on the description of this number. Only digests that some policy names are computed, and no
-// text that only a report shows is made.
+// The verdict on the description of this number, which is dropped.
 fn judge_one(
     alloc: Global,
     list: &CompiledList<'_>,
     number: u32,
-    request: &Value,
-) -> Result<Verdict, Fault>
-    ensures { result ≢ Err Fault.Memory → result ≡ verdict_on list.now number (described (view request.now)) }
+    request: Value<'_>,
+) -> Result<Verdict, RequestError>
+    ensures { result ≢ Err RequestError.Memory
+        → result ≡ verdict_on list.now number (described (view request.entry)) }
+{
+    find_verdict(alloc, list, number, &request)
+}
+
+// The verdict on the description of this number. Only digests that some policy names are computed, and no
+// text that only a report shows is made.
+fn find_verdict(
+    alloc: Global,
+    list: &CompiledList<'_>,
+    number: u32,
+    request: &Value<'_>,
+) -> Result<Verdict, RequestError>
+    ensures { result ≢ Err RequestError.Memory
+        → result ≡ verdict_on list.now number (described (view request.now)) }
 {
     match describe_for(alloc, request, list.algorithms(), ReportTexts::Empty) {
         Ok(described) => Ok(list.judge(alloc, &described)?),
-        Err(error) => Err(request_fault(error.at(number))),
+        Err(error) => Err(error.at(number)),
     }
 }
 
@@ -160,28 +178,5 @@ fn judged_status(blocked: bool) -> Status
         Status::Found
     } else {
         Status::Clean
-    }
-}
-
-// The fault of what a request file is refused for.
-pub(crate) fn request_fault(error: RequestError) -> Fault
-    ensures { result ≡ request_fault error }
-{
-    let file = Role::Requests;
-    match error {
-        RequestError::NotJson => Fault::NotJson,
-        RequestError::TooManyRequests => Fault::TooLarge {
-            file,
-            limit: Limit::Requests,
-        },
-        RequestError::BadRequest { index, field } => Fault::BadRequest {
-            request: index,
-            field,
-        },
-        RequestError::TooManyHops { .. } => Fault::TooLarge {
-            file,
-            limit: Limit::Hops,
-        },
-        RequestError::Memory => Fault::Memory,
     }
 }

@@ -1,11 +1,12 @@
 //! What `report` does: it hands the violations of each request to a desk, whose reporters then tell of them.
 ghost use Rattle.std.specs.Prelude.{◌≡◌, ◌≢◌, ◌⊎◌, ◌≤◌, ◌<◌, ◌^◌, IfErr, OnOk, length, map, Ok, List as Items};
-ghost use Rattle.serde_json.specs.View.{view};
+ghost use Rattle.csp_json.specs.View.{view};
 ghost use Rattle.csp_desk.specs.Growth.{GrewInPart, NoneFell, all_grown};
 ghost use Rattle.csp_model.specs.Answers.{Gives};
 ghost use Rattle.csp_model.specs.Policies.{IsReadable};
 ghost use Rattle.csp_model.specs.declared.verdict.Violation.{Violation};
-ghost use Rattle.csp_request.specs.Requests.{described_from, request_limit, requests_in, requests_of};
+ghost use Rattle.csp_request.specs.Described.{described_with};
+ghost use Rattle.csp_request.specs.Requests.{request_limit, requests_in, requests_of, still};
 ghost use Rattle.csp_token.specs.Digests.{digests_for};
 ghost use Rattle.csp_run.specs.Desk.{desk as lent, IsUntouched};
 ghost use Rattle.csp_run.specs.Outputs.{IsReportOn};
@@ -13,13 +14,13 @@ ghost use Rattle.csp_run.specs.Reports.{IsReport, all_violations, violations_in}
 ghost use Rattle.csp_run.specs.Shown.{HasStopped, described_for, end_of};
 
 use crate::fault::Fault;
-use crate::output::{Outcome, request_fault};
+use crate::output::Outcome;
 use csp_desk::{DeskError, Reporter, hand_out};
+use csp_json::{Scratch, Value};
 use csp_model::{Described, List, PolicyList};
-use csp_request::{ReportTexts, RequestError, Requests, describe_for};
+use csp_request::{DescriptionError, ReportTexts, RequestError, Requests, describe_for};
 use csp_token::Algorithms;
 use csp_verdict::CompiledList;
-use serde_json::Value;
 use std::alloc::Global;
 
 // The violations of all requests of a request file go to the desk, whose reporters then tell of them.
@@ -43,7 +44,7 @@ pub(crate) fn report(
     let list = CompiledList::for_reports(alloc, list)?;
     match read_requests_for(alloc, bytes, list.algorithms()) {
         Ok(requests) => report_each(alloc, &list, requests.as_slice(), desk),
-        Err(error) => Err(request_fault(error)),
+        Err(error) => Err(Fault::from(error)),
     }
 }
 
@@ -57,27 +58,40 @@ fn read_requests_for(
 ) -> Result<List<Described>, RequestError>
     ensures { Gives RequestError.Memory result (described_for wanted (requests_in bytes.now)) }
 {
-    let requests = Requests::read(alloc, bytes)?;
-    describe_each(alloc, requests.as_slice(), wanted)
+    let mut scratch = Scratch::new(alloc);
+    describe_each(alloc, Requests::new(bytes, &mut scratch)?, wanted)
 }
 
 fn describe_each(
     alloc: Global,
-    requests: &[Value],
+    mut requests: Requests<'_>,
     wanted: Algorithms,
 ) -> Result<List<Described>, RequestError>
-    requires { length requests.now ≤ request_limit }
-    ensures { Gives RequestError.Memory result
-        (described_from (λ source. digests_for source wanted) 1 (map view requests.now)) }
+    requires { requests.limit ≡ request_limit }
+    ensures { Gives RequestError.Memory result (described_for wanted (still requests.entry)) }
 {
     let mut made = List::new(alloc);
-    for (place, request) in requests.iter().enumerate() {
-        match describe_for(alloc, request, wanted, ReportTexts::Made) {
+    let mut number = 0;
+    'requests: while let Some(request) = requests.next(alloc)? {
+        number += 1;
+        match describe_one(alloc, request, wanted) {
             Ok(described) => made.push(described)?,
-            Err(error) => return Err(error.at(place as u32 + 1)),
+            Err(error) => return Err(requests.refusal(alloc, error.at(number))),
         }
     }
     Ok(made)
+}
+
+// The request that a description stands for, which is dropped.
+fn describe_one(
+    alloc: Global,
+    request: Value<'_>,
+    wanted: Algorithms,
+) -> Result<Described, DescriptionError>
+    ensures { Gives DescriptionError.Memory result
+        (described_with (λ source. digests_for source wanted) (view request.entry)) }
+{
+    describe_for(alloc, &request, wanted, ReportTexts::Made)
 }
 
 // The violations of all these requests go to the desk.

@@ -1,5 +1,5 @@
 use Rattle.std.proofs.Common.{◌+◌, ◌<◌, ◌^◌, ◌∙◌, ap, arith, map, drop}
-use Rattle.serde_json.specs.View.{view}
+use Rattle.csp_json.specs.View.{view}
 use Rattle.csp_request.specs.Hops.{IsValidHop, before_hops}
 use Rattle.csp_request.specs.Members.{each}
 use Rattle.csp_request.specs.Urls.{web_url, hop}

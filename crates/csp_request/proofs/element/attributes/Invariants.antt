@@ -1,5 +1,5 @@
 use Rattle.std.proofs.Common.{◌≡◌, drop, map, ◌++◌}
-use Rattle.serde_json.specs.View.{view}
+use Rattle.csp_json.specs.View.{view}
 use Rattle.csp_request.specs.Members.{each, found_map}
 use Rattle.csp_request.specs.Described.{attribute}
 use Rattle.csp_request.proofs.element.attributes.Given as goal

@@ -1,5 +1,5 @@
 use Rattle.std.proofs.Common.{ap, ◌∙◌}
-use Rattle.serde_json.specs.View.{view}
+use Rattle.csp_json.specs.View.{view}
 use Rattle.csp_fetch.specs.Destinations.{destination_named}
 use Rattle.csp_request.specs.Members.{needed}
 use Rattle.csp_request.specs.declared.field.Field.TheVariants as field

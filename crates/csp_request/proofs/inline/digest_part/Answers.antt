@@ -1,6 +1,6 @@
 use Rattle.std.proofs.Common.{◌≡◌, Err, arith}
 use Rattle.std.proofs.lemmas.Grind.{common_steps}
-use Rattle.serde_json.specs.View.{view}
+use Rattle.csp_json.specs.View.{view}
 use Rattle.csp_request.specs.Described.{lower_hex}
 use Rattle.csp_request.proofs.Named.{needed_named}
 use Rattle.csp_request.proofs.inline.digest_part.Goals as goal

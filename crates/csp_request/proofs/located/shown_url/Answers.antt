@@ -1,4 +1,4 @@
-use Rattle.serde_json.specs.View.{view}
+use Rattle.csp_json.specs.View.{view}
 use Rattle.csp_request.proofs.ReadOnce.{located_text}
 use Rattle.csp_request.proofs.located.shown_url.Goals as goal
 

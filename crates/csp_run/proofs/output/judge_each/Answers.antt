@@ -1,44 +1,44 @@
-use Rattle.std.proofs.Common.{◌∙◌, ◌+◌, ◌||◌, sym, ap, List, ℕ}
-use Rattle.std.proofs.lemmas.Result.{err_from_is_err_and}
-use Rattle.serde_json.specs.View.{view}
-use Rattle.serde_json.specs.declared.value.Value.{Value}
+use Rattle.std.proofs.Common.{◌≡◌, ◌≢◌, ◌∙◌, ◌+◌, ◌||◌, ap, sym, arith, List, ℕ}
+use Rattle.csp_json.specs.View.{view}
 use Rattle.csp_model.specs.declared.policy.PolicyList.{PolicyList}
 use Rattle.csp_request.specs.Described.{described}
+use Rattle.csp_request.specs.Requests.{refused_after, still}
+use Rattle.csp_request.specs.declared.error.RequestError.TheVariants as request
+use Rattle.csp_request.proofs.RequestTurns.{more_before}
+use Rattle.csp_run.specs.Outputs.{request_fault}
 use Rattle.csp_run.specs.Shown.{verdict_on}
-use Rattle.csp_run.proofs.Judging.{judged_after, left_from, failed, built, status_where, judged_at, refused_here, none_left}
+use Rattle.csp_run.proofs.Judging.{failed, judged_still, judged_next, refused_next}
 use Rattle.csp_run.proofs.output.judge_each.Goals as goal
 
-pub returns-in_err-verdict : goal.returns-in_err-verdict
-returns-in_err-verdict c = λ real.
-    let place : ℕ = c.loop-place.place in
-    let request : Value = c.index-requests-place.result in
-    let p = err_from_is_err_and c.from_residual-in_err-verdict.result c.from_residual-in_err-verdict.ensures.1 in
-    let is = p.1 ∙ ap failed p.2 in
-    let refused = c.in_err-verdict.ensures (λ same. real (is ∙ ap failed (cc same)))
-    ∙ ap (λ (l : PolicyList). verdict_on l (place + 1) (described (view request))) c.in_ok-list.ensures.list
-    ∙ ap (λ (v : Value). verdict_on c.args.list.now (place + 1) (described (view v))) c.index-requests-place.is in
-    is ∙ sym (c.loop-place.invariant
-    ∙ refused_here c.args.list.now c.loop-place.lines c.loop-place.blocked c.args.requests.now place request
-    c.in_err-verdict.field-0.0 c.loop-place-test.true refused)
+pub requests-preserved : goal.requests-preserved
+requests-preserved c =
+    let l = c.requests in
+    let comes : still l.requests ≡ more_before (view c.in-Some.request) (still c.next.new.self) =
+    rw c.in-Some.is at c.in_ok-request.ensures.description in
+    let fewer : l.requests.limit ≡ c.next.new.self.limit + 1 =
+    rw c.in-Some.is at c.in_ok-request.ensures.limit in
+    let given = c.in-Ok.ensures (λ same. cc same)
+    ∙ ap (λ (p : PolicyList). verdict_on p (l.number + 1) (described (view c.in-Some.request))) c.in_ok-list.ensures.list in
+    record {
+      output = l.invariant.output
+          ∙ judged_next c.args.list.now l.lines l.blocked (l.number + 1) (view c.in-Some.request) (still l.requests)
+          (still c.next.new.self) c.in-Ok.verdict comes given
+          ∙ ap (λ (t : List ℕ). judged_still c.args.list.now t (l.blocked || c.in-Ok.verdict.blocked)
+          (l.number + 1 + 1) (still c.next.new.self)) (sym c.in_ok-push-in-Ok.ensures);
+      count = omega (arith, l.invariant.count, fewer);
+    }
 
-pub loop-place-preserved : goal.loop-place-preserved
-loop-place-preserved c =
-    let place : ℕ = c.loop-place.place in
-    let request : Value = c.index-requests-place.result in
-    let given = c.in_ok-verdict.ensures (λ same. cc same)
-    ∙ ap (λ (l : PolicyList). verdict_on l (place + 1) (described (view request))) c.in_ok-list.ensures.list
-    ∙ ap (λ (v : Value). verdict_on c.args.list.now (place + 1) (described (view v))) c.index-requests-place.is in
-    c.loop-place.invariant
-    ∙ judged_at c.args.list.now c.loop-place.lines c.loop-place.blocked c.args.requests.now place request
-    c.in_ok-verdict.verdict c.loop-place-test.true given
-    ∙ ap (λ (t : List ℕ). judged_after c.args.list.now t (c.loop-place.blocked || c.in_ok-verdict.verdict.blocked)
-    (place + 1 + 1) (left_from c.args.requests.now (place + 1)))
-    (sym c.in_ok-push.ensures)
-
-pub returns : goal.returns
-returns c = λ _.
-    ap (λ s. built s c.into_bytes.result) c.judged_status.ensures
-    ∙ ap (built (status_where c.loop-place.blocked)) c.into_bytes.ensures
-    ∙ sym (c.loop-place.invariant
-    ∙ none_left c.args.list.now c.loop-place.lines c.loop-place.blocked c.args.requests.now
-    c.loop-place.place c.loop-place-test.false)
+pub returns-in-Err : goal.returns-in-Err
+returns-in-Err c = λ real.
+    let l = c.requests in
+    let comes : still l.requests ≡ more_before (view c.in-Some.request) (still c.next.new.self) =
+    rw c.in-Some.is at c.in_ok-request.ensures.description in
+    let of_file : c.refusal.result ≢ request.Memory =
+    λ same. real (ap failed (c.from.ensures ∙ ap request_fault same)) in
+    ap failed c.from.ensures
+    ∙ sym (l.invariant.output
+    ∙ refused_next c.args.list.now l.lines l.blocked (l.number + 1) (view c.in-Some.request) (still l.requests)
+    (still c.next.new.self) c.in-Err.error c.refusal.result comes
+    (λ other. c.in-Err.ensures (λ same. other (cc same))
+    ∙ ap (λ (p : PolicyList). verdict_on p (l.number + 1) (described (view c.in-Some.request))) c.in_ok-list.ensures.list)
+    (c.refusal.ensures of_file) of_file)

@@ -26,7 +26,7 @@ pub returns-clause-end : goal.returns-clause-end
 returns-clause-end g c = λ real.
     let refused : Fault → Result Outcome Fault = λ f. Err f in
     let other : c.in-Err.error ≢ request.Memory =
-    λ memory. real (ap refused (c.request_fault.ensures ∙ ap request_fault memory)) in
+    λ memory. real (ap refused (c.from.ensures ∙ ap request_fault memory)) in
     let found = refused_violations c.args.list.now c.in_ok-list.list c.algorithms.result c.args.bytes.now
     c.in-Err.error c.in_ok-list.ensures.list c.algorithms.ensures.algorithms (c.in-Err.ensures other) in
-    rw found (ap failed c.request_fault.ensures, refl)
+    rw found (ap failed c.from.ensures, refl)

@@ -1,0 +1,7 @@
+mod Fits
+mod Grammar
+mod Items
+mod Named
+mod Numbers
+mod Reading
+mod Texts
