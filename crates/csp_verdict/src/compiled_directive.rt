@@ -8,13 +8,20 @@ use csp_token::TokenIndex;
 use std::alloc::Global;
 use std::marker::Model;
 
+// What finds the source expressions of a directive.
+#[derive(Drop)]
+struct Finders<'a> {
+    index: Index<'a>,
+    tokens: TokenIndex<'a>,
+}
+
 // A directive and the name under which it governs, seen as these two, with what finds its source expressions.
+// That is large and stands apart, since a policy has room for a directive of each name and has few.
 #[derive(Drop)]
 pub(crate) struct CompiledDirective<'a> {
     name: Name,
     directive: &'a Directive,
-    index: Index<'a>,
-    tokens: TokenIndex<'a>,
+    finders: Box<Finders<'a>>,
 }
 
 impl<'a> Model for CompiledDirective<'a> {
@@ -25,7 +32,8 @@ impl<'a> Model for CompiledDirective<'a> {
 
     ghost view = { λ a. record { name = a.name; directive = a.directive.now } };
 
-    ghost invariant = { λ a. (a.index ≡ a.directive.now.sources) × (a.tokens ≡ a.directive.now.sources) };
+    ghost invariant = { λ a. (a.finders.value.index ≡ a.directive.now.sources)
+        × (a.finders.value.tokens ≡ a.directive.now.sources) };
 }
 
 impl<'a> CompiledDirective<'a> {
@@ -39,8 +47,7 @@ impl<'a> CompiledDirective<'a> {
         Ok(CompiledDirective {
             name: found.name,
             directive,
-            index,
-            tokens,
+            finders: Box::new(alloc, Finders { index, tokens })?,
         })
     }
 
@@ -55,13 +62,13 @@ impl<'a> CompiledDirective<'a> {
     pub(crate) fn index(&self) -> &Index<'a>
         ensures { result.now ≡ self.now.directive.sources }
     {
-        &self.index
+        &self.finders.index
     }
 
     // What finds the keywords, nonces and hashes.
     pub(crate) fn tokens(&self) -> &TokenIndex<'a>
         ensures { result.now ≡ self.now.directive.sources }
     {
-        &self.tokens
+        &self.finders.tokens
     }
 }
