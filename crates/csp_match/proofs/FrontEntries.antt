@@ -1,6 +1,6 @@
 -- Which entries match among those that begin with the first pieces of a path.
 use Rattle.std.proofs.Common.{◌≡◌, ℕ, ◌<◌, ◌≤◌, Bool, true, false, ◌&&◌, ◌==◌, List, [], length, take, take_all, get_or, refl, sym, ◌∙◌, ap, inl, inr, All, Contains, is_lt, arith, length-take}
-use Rattle.std.specs.Cmp.Lexicographic.{nat_list_cmp_total, options_total}
+use Rattle.std.specs.Cmp.Lexicographic.{options_total}
 use Rattle.std.specs.List.{list_any, slice_get}
 use Rattle.std.proofs.lemmas.Bool.{false≢true, cases_lt}
 use Rattle.std.proofs.lemmas.Bool.Decides.{Decides-eqb}
@@ -14,6 +14,7 @@ use Rattle.csp_match.specs.declared.asked.Asked.{Asked}
 use Rattle.csp_match.specs.Entries.{Entry, entry_pieces, front_fits, scheme_of, target_fits, way_fits, way_port, IsEntry}
 use Rattle.csp_match.specs.Fronts.{goes_on, place_cmp, whole_fits, IsFronted}
 use Rattle.csp_match.specs.Keys.{path_of, takes}
+use Rattle.csp_match.specs.Pieces.{piece_total}
 use Rattle.csp_match.proofs.AnyLaws.{any_same, both, first, found, not_true, second}
 use Rattle.csp_match.proofs.FrontLaws.{places_rise}
 use Rattle.csp_match.proofs.FrontMatches.{matching_goes_on, matching_short, whole_matches}
@@ -38,7 +39,7 @@ module _ (path : List (List ℕ)) (depth : ℕ) (entries : List Entry) (fronted 
       let here = entry_pieces (get_or entries i d) in
       let there = entry_pieces (get_or entries k d) in
       let key = λ (e : Entry). slice_get (entry_pieces e) depth in
-      let far = sorted_far (λ (x y : Entry). is_lt (place_cmp (key x) (key y))) (ranks_by (options_total nat_list_cmp_total) key) entries
+      let far = sorted_far (λ (x y : Entry). is_lt (place_cmp (key x) (key y))) (ranks_by (options_total piece_total) key) entries
       (places_rise path depth entries fronted) i k d after within in
       elim (cases_lt depth (length there)) [
         | inl more ↦ more

@@ -1,15 +1,15 @@
 -- The entries of one host, narrowed down by the fronts of a path.
 use Rattle.std.proofs.Common.{◌≡◌, ℕ, ◌+◌, ◌<◌, true, false, List, [], ◌∷◌, zero, suc, length, take, drop, get_or, refl, sym, ◌∙◌, ap, All, IsSortedBy, is_eq, is_lt, add-one, ap₂, arith}
-use Rattle.std.specs.Cmp.Lexicographic.{slice_cmp, nat_list_cmp_total}
+use Rattle.std.specs.Cmp.Lexicographic.{slice_cmp}
 use Rattle.std.specs.List.{slice_get}
 use Rattle.std.proofs.lemmas.Bool.{false≢true}
 use Rattle.std.proofs.lemmas.Cmp.{tied_itself}
 use Rattle.std.proofs.lemmas.List.Elements.{All-drop, All-take}
-use Rattle.std.proofs.lemmas.Map.Text.{is_eq-slice_cmp}
 use Rattle.std.proofs.lemmas.Slice.Eq.{bytes_eq-Decides}
 use Rattle.csp_match.specs.contracts.host_source.TargetOrd.TheImpl as target_order
 use Rattle.csp_match.specs.Entries.{Entry, entry_pieces}
-use Rattle.csp_match.specs.Fronts.{goes_on, piece_cmp, place_cmp, Rises, IsFronted}
+use Rattle.csp_match.specs.Fronts.{goes_on, place_cmp, Rises, IsFronted}
+use Rattle.csp_match.specs.Pieces.{piece_cmp, piece_ties, piece_total}
 use Rattle.csp_match.proofs.RunOfKey.{part_sorted, then_less}
 
 -- entries that rise by their targets rise by their paths
@@ -26,7 +26,7 @@ behind_front (suc n) (x ∷ xs) [] same = cc
 behind_front (suc n) (x ∷ xs) (y ∷ ys) same =
     let heads : x ≡ y = cc in
     let tails : take n xs ≡ take n ys = cc in
-    rw (heads, tied_itself nat_list_cmp_total y) (behind_front n xs ys tails)
+    rw (heads, tied_itself piece_total y) (behind_front n xs ys tails)
 
 -- and so as the pieces right behind it
 head_less : (xs ys : List (List ℕ)) → is_lt (slice_cmp piece_cmp xs ys) ≡ false → is_lt (place_cmp (slice_get xs 0) (slice_get ys 0)) ≡ false
@@ -51,7 +51,7 @@ places_rise path depth entries fronted k d low high =
 
 -- the first pieces of a path and one more
 same_piece : (x y : List ℕ) → is_eq (piece_cmp x y) ≡ true → x ≡ y
-same_piece x y h = (bytes_eq-Decides x y).0 (sym (is_eq-slice_cmp x y) ∙ h)
+same_piece x y h = (bytes_eq-Decides x y).0 (piece_ties x y ∙ h)
 
 pub one_more : (depth : ℕ) (pieces path : List (List ℕ)) → depth < length path → take depth pieces ≡ take depth path
     → is_eq (place_cmp (slice_get pieces depth) (slice_get path depth)) ≡ true → take (depth + 1) pieces ≡ take (depth + 1) path

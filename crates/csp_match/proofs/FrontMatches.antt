@@ -1,6 +1,6 @@
 -- Which paths match among those that begin with the first pieces of a URL's.
 use Rattle.std.proofs.Common.{◌≡◌, ℕ, ◌<◌, ◌≤◌, Bool, true, false, not, ◌==◌, List, [], ◌∷◌, ◌++◌, zero, suc, length, take, drop, nat_lt, refl, sym, ◌∙◌, ap, is_eq, take_all, take-append-drop, append-nil, length-append, length-take, arith, inl, inr}
-use Rattle.std.specs.Cmp.Lexicographic.{nat_list_cmp_total, options_total}
+use Rattle.std.specs.Cmp.Lexicographic.{options_total}
 use Rattle.std.specs.List.{slice_get}
 use Rattle.std.proofs.lemmas.Bool.{false≢true, cases_lt}
 use Rattle.std.proofs.lemmas.Bool.Decides.{Decides-eqb, Decides-ltb}
@@ -14,6 +14,7 @@ use Rattle.csp_match.specs.declared.path_key.PathKind.{PathKind}
 use Rattle.csp_match.specs.declared.path_key.PathKind.TheVariants as kind
 use Rattle.csp_match.specs.Fronts.{place_cmp}
 use Rattle.csp_match.specs.Keys.{path_of, IsPath, takes}
+use Rattle.csp_match.specs.Pieces.{piece_total}
 use Rattle.csp_match.proofs.AnyLaws.{both, first, second}
 
 not_true : (b : Bool) → (b ≡ true → ⊥) → not b ≡ true
@@ -81,7 +82,7 @@ pub matching_goes_on : (k : PathKind) (pieces path : List (List ℕ)) (depth : �
 matching_goes_on k pieces path depth shape longer h =
     let b = begun k pieces path shape h in
     let there : slice_get path depth ≡ slice_get pieces depth = ap (λ (xs : List (List ℕ)). slice_get xs depth) b.1 ∙ get_front depth pieces b.0 longer in
-    ap (λ o. is_eq (place_cmp (slice_get pieces depth) o)) there ∙ ap is_eq (tied_itself (options_total nat_list_cmp_total) (slice_get pieces depth))
+    ap (λ o. is_eq (place_cmp (slice_get pieces depth) o)) there ∙ ap is_eq (tied_itself (options_total piece_total) (slice_get pieces depth))
 
 -- and has no fewer pieces
 pub matching_short : (k : PathKind) (pieces path : List (List ℕ)) → IsPath k pieces → path_matches (path_of k pieces) path ≡ true

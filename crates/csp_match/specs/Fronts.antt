@@ -4,15 +4,13 @@ use Rattle.std.specs.Cmp.Lexicographic.{slice_cmp}
 use Rattle.std.specs.List.{slice_get}
 use Rattle.std.specs.List.Sorted.{IsSortedBy}
 use Rattle.std.specs.Option.{option_cmp}
-use Rattle.std.specs.Ordering.{is_eq, is_lt, nat_cmp}
+use Rattle.std.specs.Ordering.{is_eq, is_lt}
 use Rattle.std.specs.declared.cmp.Ordering.{Ordering}
 use Rattle.csp_match.specs.Entries.{Entry, entry_pieces, target_fits}
 use Rattle.csp_match.specs.declared.asked.Asked.{Asked}
+use Rattle.csp_match.specs.Pieces.{piece_cmp}
 
--- the order of pieces, and of what stands at a place of a path: nothing before all pieces
-abbrev pub piece_cmp : List ℕ → List ℕ → Ordering
-piece_cmp = slice_cmp nat_cmp
-
+-- the order of what stands at a place of a path: nothing before all pieces
 abbrev pub place_cmp : Option (List ℕ) → Option (List ℕ) → Ordering
 place_cmp = option_cmp piece_cmp
 
