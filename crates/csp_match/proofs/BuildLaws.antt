@@ -32,22 +32,31 @@ same_parts entries targets same p =
     ∙ (any_once entry_eq entries targets same.0 same.1 (λ (e : Entry). p (entry_parts e)) (λ a b h. ap p (one_entry a b h))
     ∙ sym (any_map entry_parts p entries))
 
-pub same_pathless : (entries targets : List Entry) (pathless : List (HostKey × Way))
-    → HasSame entry_eq entries targets → HasSame pathless_eq (map bare entries) pathless
+-- ways to hosts are looked at by these alone
+same_ways : (ways kept : List (HostKey × Way)) → HasSame pathless_eq ways kept
     → (p : HostPart → Option (List ℕ) → PortPart → Bool)
-    → list_any (λ e. p (host_of e.0) (scheme_of e.1) (way_port e.1)) pathless
-    ≡ list_any (λ s. p s.host s.scheme s.port) (map entry_parts targets)
-same_pathless entries targets pathless same each p =
-    let q = λ (e : HostKey × Way). p (host_of e.0) (scheme_of e.1) (way_port e.1) in
-    let r = λ (s : Parts). p s.host s.scheme s.port in
-    any_once pathless_eq (map bare entries) pathless each.0 each.1 q
+    → list_any (λ e. p (host_of e.0) (scheme_of e.1) (way_port e.1)) kept
+    ≡ list_any (λ e. p (host_of e.0) (scheme_of e.1) (way_port e.1)) ways
+same_ways ways kept same p =
+    any_once pathless_eq ways kept same.0 same.1 (λ (e : HostKey × Way). p (host_of e.0) (scheme_of e.1) (way_port e.1))
     (λ (a b : HostKey × Way) h.
     let hosts = one_host a.0 b.0 (first (host_eq a.0 b.0) (way_eq a.1 b.1) h) in
     let schemes = one_scheme a.1 b.1 (second (host_eq a.0 b.0) (way_eq a.1 b.1) h) in
     let ports = one_way_port a.1 b.1 (second (host_eq a.0 b.0) (way_eq a.1 b.1) h) in
     ap (λ (f : Option (List ℕ) → PortPart → Bool). f (scheme_of a.1) (way_port a.1)) (ap p hosts) ∙ ap₂ (p (host_of b.0)) schemes ports)
+
+pub same_pathless : (entries targets : List Entry) (ways pathless : List (HostKey × Way))
+    → HasSame entry_eq entries targets → HasSame pathless_eq (map bare entries) ways → HasSame pathless_eq ways pathless
+    → (p : HostPart → Option (List ℕ) → PortPart → Bool)
+    → list_any (λ e. p (host_of e.0) (scheme_of e.1) (way_port e.1)) pathless
+    ≡ list_any (λ s. p s.host s.scheme s.port) (map entry_parts targets)
+same_pathless entries targets ways pathless same few each p =
+    let q = λ (e : HostKey × Way). p (host_of e.0) (scheme_of e.1) (way_port e.1) in
+    let r = λ (s : Parts). p s.host s.scheme s.port in
+    same_ways ways pathless each p
+    ∙ (same_ways (map bare entries) ways few p
     ∙ (any_map bare q entries
-    ∙ (sym (any_map entry_parts r entries) ∙ sym (same_parts entries targets same r)))
+    ∙ (sym (any_map entry_parts r entries) ∙ sym (same_parts entries targets same r))))
 
 pub pathless_hosts : (entries : List Entry) → All IsEntry entries
     → All (λ (e : HostKey × Way). IsHostKey e.0) (map bare entries)

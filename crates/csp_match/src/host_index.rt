@@ -10,7 +10,7 @@ use crate::asked::Asked;
 use crate::fronts::any_target_fits;
 use crate::host_key::HostKey;
 use crate::host_source::{Target, Way};
-use crate::multimap::Multimap;
+use crate::multimap::{Multimap, without_repeats};
 use csp_model::{Host, Memory};
 use std::alloc::Global;
 use std::marker::Model;
@@ -48,12 +48,13 @@ impl<'a> HostIndex<'a> {
         ensures { IfOk result (λ made. (p : HostSource → Bool)
             → list_any p made ≡ list_any p (map entry_parts entries.entry.items)) }
     {
-        let pathless = host_ways(alloc, entries.as_slice())?;
+        let ways = host_ways(alloc, entries.as_slice())?;
         let longest_suffix = longest_suffix(entries.as_slice());
         Ok(HostIndex {
             longest_suffix,
             targets: Multimap::new(entries),
-            pathless: Multimap::new(pathless),
+            // Most hosts are reached in one way, which is often the one of the source before.
+            pathless: Multimap::new(without_repeats(ways)),
         })
     }
 

@@ -181,7 +181,7 @@ fn entries<'a>(
     ensures parts { IfOk result (λ made. map entry_parts made.items ≡ host_sources sources.now) }
     ensures each { IfOk result (λ made. All IsEntry made.items) }
 {
-    let mut made = Vec::new(alloc);
+    let mut made = Vec::with_capacity(alloc, sources.len())?;
     for source in sources {
         if let Some(entry) = host_source(source) {
             made.push(entry)?;

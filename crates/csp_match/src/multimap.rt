@@ -17,6 +17,15 @@ pub(crate) fn sorted_once<T: Ord + Drop>(mut items: Vec<T>) -> Vec<T>
     items
 }
 
+// Of equal items that stand side by side one is kept.
+pub(crate) fn without_repeats<T: Eq + Drop>(mut items: Vec<T>) -> Vec<T>
+    ensures given { (x : T) → Contains result.items x → Contains items.items x }
+    ensures kept { (x : T) → Contains items.items x → Any (λ y. T.eq x y ≡ true) result.items }
+{
+    items.dedup();
+    items
+}
+
 // Where the pairs of greater keys begin. Mostly no pair has the key itself, as the first pair shows, or all
 // have it, as the last one does.
 fn end_of_key<K: Ord, V>(pairs: &[(K, V)], key: &K) -> usize

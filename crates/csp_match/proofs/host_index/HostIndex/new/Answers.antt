@@ -12,16 +12,19 @@ invariant_of-result c =
     let entries = c.args.entries.items in
     let targets = c.new.result in
     let longest = c.longest_suffix-longest_suffix.result in
-    let bare = rw c.as_slice.ensures.value at c.in_ok-pathless.ensures in
+    let bare = rw c.as_slice.ensures.value at c.in_ok-ways.ensures in
     let short = rw c.as_slice-2.ensures.value at c.longest_suffix-longest_suffix.ensures in
     let same : HasSame entry_eq entries targets = (c.new.ensures.given, c.new.ensures.kept) in
-    let bare_made : HasSame pathless_eq c.in_ok-pathless.pathless.items c.new-2.result = (c.new-2.ensures.given, c.new-2.ensures.kept) in
-    let bare_each = rw bare at bare_made in
+    let few = c.without_repeats.result.items in
+    let few_made : HasSame pathless_eq c.in_ok-ways.ways.items few = (c.without_repeats.ensures.given, c.without_repeats.ensures.kept) in
+    let few_each = rw bare at few_made in
+    let bare_each : HasSame pathless_eq few c.new-2.result = (c.new-2.ensures.given, c.new-2.ensures.kept) in
+    let is_key = λ (e : HostKey × Way). IsHostKey e.0 in
     record {
       entries = all_given IsEntry entries targets c.new.ensures.given c.requires;
-      hosts = all_given (λ (e : HostKey × Way). IsHostKey e.0) _ c.new-2.result bare_each.0 (pathless_hosts entries c.requires);
+      hosts = all_given is_key few c.new-2.result bare_each.0 (all_given is_key _ few few_each.0 (pathless_hosts entries c.requires));
       short = all_given (λ (e : Entry). key_length e.0 ≤ longest) entries targets c.new.ensures.given short;
-      pathless = same_pathless entries targets c.new-2.result same bare_each;
+      pathless = same_pathless entries targets few c.new-2.result same few_each bare_each;
     }
 
 pub returns : goal.returns
