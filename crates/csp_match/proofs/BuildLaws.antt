@@ -45,18 +45,16 @@ same_ways ways kept same p =
     let ports = one_way_port a.1 b.1 (second (host_eq a.0 b.0) (way_eq a.1 b.1) h) in
     ap (λ (f : Option (List ℕ) → PortPart → Bool). f (scheme_of a.1) (way_port a.1)) (ap p hosts) ∙ ap₂ (p (host_of b.0)) schemes ports)
 
-pub same_pathless : (entries targets : List Entry) (ways pathless : List (HostKey × Way))
-    → HasSame entry_eq entries targets → HasSame pathless_eq (map bare entries) ways → HasSame pathless_eq ways pathless
+pub same_pathless : (targets : List Entry) (ways pathless : List (HostKey × Way))
+    → HasSame pathless_eq (map bare targets) ways → HasSame pathless_eq ways pathless
     → (p : HostPart → Option (List ℕ) → PortPart → Bool)
     → list_any (λ e. p (host_of e.0) (scheme_of e.1) (way_port e.1)) pathless
     ≡ list_any (λ s. p s.host s.scheme s.port) (map entry_parts targets)
-same_pathless entries targets ways pathless same few each p =
+same_pathless targets ways pathless few each p =
     let q = λ (e : HostKey × Way). p (host_of e.0) (scheme_of e.1) (way_port e.1) in
     let r = λ (s : Parts). p s.host s.scheme s.port in
     same_ways ways pathless each p
-    ∙ (same_ways (map bare entries) ways few p
-    ∙ (any_map bare q entries
-    ∙ (sym (any_map entry_parts r entries) ∙ sym (same_parts entries targets same r))))
+    ∙ (same_ways (map bare targets) ways few p ∙ (any_map bare q targets ∙ sym (any_map entry_parts r targets)))
 
 pub pathless_hosts : (entries : List Entry) → All IsEntry entries
     → All (λ (e : HostKey × Way). IsHostKey e.0) (map bare entries)

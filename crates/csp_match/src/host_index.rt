@@ -48,13 +48,14 @@ impl<'a> HostIndex<'a> {
         ensures { IfOk result (λ made. (p : HostSource → Bool)
             → list_any p made ≡ list_any p (map entry_parts entries.entry.items)) }
     {
-        let ways = host_ways(alloc, entries.as_slice())?;
         let longest_suffix = longest_suffix(entries.as_slice());
+        let targets = Multimap::new(entries);
+        // Most hosts are reached in one way. So these are few, or in order by now.
+        let ways = without_repeats(host_ways(alloc, targets.as_slice())?);
         Ok(HostIndex {
             longest_suffix,
-            targets: Multimap::new(entries),
-            // Most hosts are reached in one way, which is often the one of the source before.
-            pathless: Multimap::new(without_repeats(ways)),
+            targets,
+            pathless: Multimap::new(ways),
         })
     }
 
@@ -111,14 +112,14 @@ fn any_way_fits<K>(ways: &[(K, Way<'_>)], asked: &Asked<'_>) -> bool
 
 fn host_ways<'a>(
     alloc: Global,
-    entries: &[(HostKey<'a>, Target<'a>)],
+    targets: &[(HostKey<'a>, Target<'a>)],
 ) -> Result<Vec<(HostKey<'a>, Way<'a>)>, Memory>
-    ensures { IfOk result (λ made. made.items ≡ map (λ e. (e.0, e.1.way)) entries.now) }
+    ensures { IfOk result (λ made. made.items ≡ map (λ e. (e.0, e.1.way)) targets.now) }
 {
     Ok(
-        entries
+        targets
             .iter()
-            .map(|entry| (entry.0, entry.1.way))
+            .map(|pair| (pair.0, pair.1.way))
             .collect(alloc)?,
     )
 }

@@ -79,6 +79,13 @@ impl<K: Ord + Drop, V: Ord + Drop> Multimap<K, V> {
         }
     }
 
+    // All pairs, in their order.
+    pub(crate) fn as_slice(&self) -> &[(K, V)]
+        ensures { result.now ≡ self.now }
+    {
+        self.pairs.as_slice()
+    }
+
     // The pairs of a key, in the order of the values.
     pub(crate) fn get(&self, key: &K) -> &[(K, V)]
         ensures any { (p : K × V → Bool)
