@@ -5,7 +5,8 @@ ghost use Rattle.csp_model.specs.Grammar.{is_scheme_char};
 ghost use Rattle.csp_model.specs.Reading as spec;
 ghost use Rattle.csp_source.specs.Schemes.{has_scheme};
 
-use csp_model::{Memory, Source, Text, is_scheme};
+use crate::texts::lower_text;
+use csp_model::{Memory, Source, is_scheme};
 use memchr::memchr;
 use std::alloc::Global;
 
@@ -37,7 +38,7 @@ pub(crate) fn scheme_source(alloc: Global, token: &[u8]) -> Result<Option<Source
 {
     match token.strip_suffix(b":") {
         Some(letters) if is_scheme(letters) => Ok(Some(Source::SchemeOnly {
-            scheme: Text::from_ascii_lowercase(alloc, letters)?,
+            scheme: lower_text(alloc, letters)?,
         })),
         _ => Ok(None),
     }
