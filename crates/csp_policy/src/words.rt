@@ -7,7 +7,7 @@ ghost use Rattle.csp_model.specs.Ascii.{words, is_ascii_text};
 pub(crate) fn is_ascii(text: &[u8]) -> bool
     ensures { result ≡ is_ascii_text text.now }
 {
-    text.is_ascii()
+    text.iter().fold(true, |all, byte| all & (*byte < 128))
 }
 
 fn space_at(text: &[u8]) -> Option<usize>
