@@ -27,13 +27,14 @@ fn len_to_slash(text: &[u8]) -> usize
     text.iter().take_while(|b| is_no_slash(**b)).count()
 }
 
-// A scheme in lower case, where there is one.
+// A scheme in lower case, where there is one. Mostly it is the same one, which is known to be a text.
 fn lower_scheme(alloc: Global, letters: Option<&[u8]>) -> Result<Option<Text>, Memory>
     requires { IfSome letters (λ l. IsTrue (is_ascii_text l.now)) }
     ensures { IfOk result (λ made. made ≡ option_map (λ l. lower l.now) letters.entry) }
 {
     match letters {
         None => Ok(None),
+        Some(b"https") => Ok(Some(Text::new(alloc, "https")?)),
         Some(letters) => Ok(Some(lower_text(alloc, letters)?)),
     }
 }
