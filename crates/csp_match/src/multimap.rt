@@ -1,5 +1,5 @@
 //! Values by key, of which a key may have several.
-ghost use Rattle.std.specs.Prelude.{◌≡◌, ◌≤◌, ◌&&◌, Bool, true, false, length};
+ghost use Rattle.std.specs.Prelude.{◌≡◌, ◌≤◌, ◌&&◌, Bool, IsTrue, true, false, length};
 ghost use Rattle.std.specs.List.{Any, Contains, list_any};
 ghost use Rattle.std.specs.List.Sorted.{IsPartitionPoint, IsPartitionedBy, IsSortedBy, IsStrictlySortedBy};
 ghost use Rattle.std.specs.Ordering.{is_eq, is_le, is_lt};
@@ -12,9 +12,18 @@ pub(crate) fn sorted_once<T: Ord + Drop>(mut items: Vec<T>) -> Vec<T>
     ensures kept { (x : T) → Contains items.items x → Any (λ y. T.eq x y ≡ true) result.items }
     ensures rises { IsStrictlySortedBy T.cmp result.items }
 {
-    items.sort_unstable();
-    items.dedup();
+    if !rises(items.as_slice()) {
+        items.sort_unstable();
+        items.dedup();
+    }
     items
+}
+
+// Whether each item is less than the one behind it, so that there is nothing to sort.
+fn rises<T: Ord>(items: &[T]) -> bool
+    ensures { IsTrue result → IsStrictlySortedBy T.cmp items.now }
+{
+    items.is_sorted_by(|item, next| item.cmp(next).is_lt())
 }
 
 // Of equal items that stand side by side one is kept.
