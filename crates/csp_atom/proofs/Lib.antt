@@ -1,4 +1,5 @@
 pub mod HoldingDecided
+pub mod LastPieces
 pub mod OrderLaws
 pub mod Own
 pub mod Refutes

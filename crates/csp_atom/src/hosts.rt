@@ -4,14 +4,14 @@ ghost use Rattle.csp_model.specs.DecideMatching as matching;
 ghost use Rattle.csp_model.specs.DecideEnds as ends;
 ghost use Rattle.csp_atom.specs.Follows as spec;
 
-use csp_model::{Host, is_subdomain};
+use csp_model::Host;
 
 // Whether a host is a domain that ends in a dot and the suffix.
 pub(crate) fn is_host_under(host: &Host, suffix: &str) -> bool
     ensures { result ≡ ends.is_host_under host.now suffix.now }
 {
     match host {
-        Host::Domain(domain) => is_subdomain(domain.as_str(), suffix),
+        Host::Domain(domain) => ends_in_dot_and(domain.as_str().as_bytes(), suffix.as_bytes()),
         Host::Address(_) => false,
     }
 }
@@ -27,14 +27,15 @@ pub(crate) fn is_domain_host(host: &Host) -> bool
 pub(crate) fn lies_within(domain: &str, suffix: &str) -> bool
     ensures { result ≡ spec.lies_within domain.now suffix.now }
 {
-    is_or_ends_in_dot_and(domain.as_bytes(), suffix.as_bytes())
+    domain.as_bytes() == suffix.as_bytes() || ends_in_dot_and(domain.as_bytes(), suffix.as_bytes())
 }
 
-fn is_or_ends_in_dot_and(domain: &[u8], suffix: &[u8]) -> bool
-    ensures { result ≡ spec.lies_within domain.now suffix.now }
+// Whether a domain ends in a dot and the suffix. Most have no dot there, so the dot is looked for first.
+fn ends_in_dot_and(domain: &[u8], suffix: &[u8]) -> bool
+    ensures { result ≡ ends.is_subdomain domain.now suffix.now }
 {
-    match domain.strip_suffix(suffix) {
-        None => false,
-        Some(front) => front.is_empty() || front.ends_with(b"."),
+    match domain.len().checked_sub(suffix.len()) {
+        None | Some(0) => false,
+        Some(front) => domain[front - 1] == b'.' && suffix == &domain[front..],
     }
 }

@@ -9,6 +9,7 @@ mod holding;
 mod hosts;
 pub mod laws;
 pub mod order;
+mod paths;
 mod table;
 mod valid;
 mod vocabulary;

@@ -7,7 +7,8 @@ ghost use Rattle.csp_atom.specs.Holding.{holds, is_true_of};
 
 use crate::atom::{Atom, Literal};
 use crate::hosts::{is_domain_host, is_host_under, lies_within};
-use csp_model::{Digest, begins_with, goes_beyond};
+use crate::paths::{begins, is_path_under};
+use csp_model::Digest;
 
 /// What a literal says of an atom: the value that the atom has for each check of which the literal is true.
 /// None comes exactly where the table of `specs/Follows` says nothing.
@@ -93,15 +94,15 @@ fn follows_true(known: &Atom, asked: &Atom) -> Option<bool>
         (Atom::HostDomain, Atom::HostIs(host)) => false_where(!is_domain_host(host)),
         (Atom::PortIs(known), Atom::PortIs(asked)) => Some(known == asked),
         (Atom::PathIs(known), Atom::PathIs(asked)) => Some(known == asked),
-        (Atom::PathIs(path), Atom::PathUnder(front)) => Some(goes_beyond(
+        (Atom::PathIs(path), Atom::PathUnder(front)) => Some(is_path_under(
             path.as_slice(),
             front.as_slice(),
         )),
         (Atom::PathUnder(known), Atom::PathUnder(asked)) => nested(
-            begins_with(known.as_slice(), asked.as_slice()),
-            begins_with(asked.as_slice(), known.as_slice()),
+            begins(known.as_slice(), asked.as_slice()),
+            begins(asked.as_slice(), known.as_slice()),
         ),
-        (Atom::PathUnder(front), Atom::PathIs(path)) => false_where(!goes_beyond(
+        (Atom::PathUnder(front), Atom::PathIs(path)) => false_where(!is_path_under(
             path.as_slice(),
             front.as_slice(),
         )),
@@ -132,11 +133,11 @@ fn follows_false(known: &Atom, asked: &Atom) -> Option<bool>
         (Atom::HostDomain, Atom::HostIs(host)) => false_where(is_domain_host(host)),
         (Atom::PortIs(known), Atom::PortIs(asked)) => false_where(known == asked),
         (Atom::PathIs(known), Atom::PathIs(asked)) => false_where(known == asked),
-        (Atom::PathUnder(known), Atom::PathUnder(asked)) => false_where(begins_with(
+        (Atom::PathUnder(known), Atom::PathUnder(asked)) => false_where(begins(
             asked.as_slice(),
             known.as_slice(),
         )),
-        (Atom::PathUnder(front), Atom::PathIs(path)) => false_where(goes_beyond(
+        (Atom::PathUnder(front), Atom::PathIs(path)) => false_where(is_path_under(
             path.as_slice(),
             front.as_slice(),
         )),

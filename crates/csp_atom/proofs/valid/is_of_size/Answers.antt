@@ -1,4 +1,4 @@
-use Rattle.std.proofs.Common.{◌≡◌, true, arith}
+use Rattle.std.proofs.Common.{arith}
 use Rattle.std.proofs.lemmas.Bool.Decides.{nat_tests}
 use Rattle.csp_grammar.proofs.Bytes.{bytes_are}
 use Rattle.csp_atom.proofs.valid.is_of_size.Goals as goal
