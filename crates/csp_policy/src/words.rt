@@ -3,7 +3,7 @@ ghost use Rattle.std.specs.Prelude.{◌≡◌, ◌<◌, ◌∷◌, [], length, p
 ghost use Rattle.std.specs.Char.{is_ascii_whitespace};
 ghost use Rattle.csp_model.specs.Ascii.{words, is_ascii_text};
 
-// Whether each byte is below 128.
+// Whether each byte is below 128. There is no branch at each, so that many can be looked at together.
 pub(crate) fn is_ascii(text: &[u8]) -> bool
     ensures { result ≡ is_ascii_text text.now }
 {
