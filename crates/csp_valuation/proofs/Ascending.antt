@@ -56,7 +56,7 @@ next_at atoms n x y h p q low d =
 
 -- What goes down with the order
 
-rank_up : (m n : ℕ) (r : Ordering) → is_gt (ordering_then (ordering_then (nat_cmp m n) Equal) r) ≡ false → m ≤ n
+pub rank_up : (m n : ℕ) (r : Ordering) → is_gt (ordering_then (ordering_then (nat_cmp m n) Equal) r) ≡ false → m ≤ n
 rank_up m n r e = grind (arith, nat_tests)
 
 pub before_down : (l : Literal) (a b : Atom) → is_gt (atom_cmp a b) ≡ false → is_before l b ≡ true → is_before l a ≡ true

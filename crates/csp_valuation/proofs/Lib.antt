@@ -1,10 +1,15 @@
 pub mod Ascending
+pub mod Denying
 pub mod Finding
+pub mod FrontReach
+pub mod Fronts
 pub mod Gaining
 pub mod Kept
 pub mod Layers
 pub mod Listed
+pub mod Looking
 pub mod Marking
 pub mod ReachLaws
 pub mod Values
+pub mod Waiting
 pub mod Within

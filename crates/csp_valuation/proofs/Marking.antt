@@ -1,8 +1,7 @@
 -- What is marked is what the first literal that decides an atom says, and by which.
-use Rattle.std.proofs.Common.{◌≡◌, ◌∙◌, ℕ, zero, suc, ◌+◌, ◌<◌, ◌≤◌, Bool, false, refl, sym, ap, List, [], ◌∷◌, ◌++◌, length, map, Option, Some, None, arith, get_or, slice_get, take, drop, drop-cons, add-one, append_assoc, length-append, replicate, add-zero, zero-add}
+use Rattle.std.proofs.Common.{◌≡◌, ◌∙◌, ℕ, zero, suc, ◌+◌, ◌<◌, ◌≤◌, Bool, refl, sym, ap, List, [], ◌∷◌, ◌++◌, length, map, Option, Some, None, arith, get_or, slice_get, take, drop, drop-cons, add-one, append_assoc, length-append, replicate, add-zero, zero-add}
 use Rattle.std.proofs.lemmas.Bool.Decides.{nat_tests}
-use Rattle.std.proofs.lemmas.Option.{slice_get-map, slice_get-get_or}
-use Rattle.std.specs.Option.{option_map}
+use Rattle.std.proofs.lemmas.Option.{slice_get-get_or}
 use Rattle.std.proofs.Math.ListN.{set}
 use Rattle.std.proofs.lemmas.List.{take_more_set, drop-set-lt}
 use Rattle.std.proofs.Math.Seq.{take-append_seam}
@@ -13,7 +12,6 @@ use Rattle.csp_valuation.specs.declared.marks.Decision.{Decision}
 use Rattle.csp_valuation.specs.declared.taken.Taken.{Taken}
 use Rattle.csp_valuation.specs.Paths.{literal_of, literals_of}
 use Rattle.csp_valuation.specs.Marks.{answered, mark, marked, all_marked, cleared, forgotten}
-use Rattle.csp_valuation.specs.Valuations.{value_of_atom}
 
 -- taking a literal
 
@@ -64,19 +62,6 @@ value_answered None n r rest e = e
 pub value_mark : (n : ℕ) (ls : List Literal) (a : Atom) → value_of (mark n ls a) ≡ decided ls a
 value_mark n [] a = refl
 value_mark n (l ∷ ls) a = value_answered (follows l a) n (mark (n + 1) ls a) (decided ls a) (value_mark (n + 1) ls a)
-
--- the value by what stands at a place of the marks
-abbrev pub value_found : Option (Option Decision) → Option Bool
-value_found None = Some false
-value_found (Some m) = value_of m
-
-found_atom : (ls : List Literal) (o : Option Atom) → value_found (option_map (mark 0 ls) o) ≡ value_of_atom ls o
-found_atom ls None = refl
-found_atom ls (Some a) = value_mark 0 ls a
-
-pub value_found_at : (ls : List Literal) (atoms : List Atom) (marks : List (Option Decision)) (place : ℕ) → marks ≡ map (mark 0 ls) atoms →
-    value_found (slice_get marks place) ≡ value_of_atom ls (slice_get atoms place)
-value_found_at ls atoms marks place e = rw (e, slice_get-map (mark 0 ls) atoms place) (found_atom ls (slice_get atoms place))
 
 -- nothing is marked where there are no literals
 pub none_marked : (n : ℕ) (atoms : List Atom) → n ≡ length atoms → replicate n None ≡ map (mark 0 []) atoms

@@ -24,7 +24,7 @@ unless_true : {P : Type 0} (test : Bool) → Decides test P → ¬ P → true_wh
 unless_true true d n = absurd (n (d.0 refl))
 unless_true false d n = refl
 
-unless_false : {P : Type 0} (test : Bool) → Decides test P → ¬ P → false_where test ≡ None
+pub unless_false : {P : Type 0} (test : Bool) → Decides test P → ¬ P → false_where test ≡ None
 unless_false true d n = absurd (n (d.0 refl))
 unless_false false d n = refl
 

@@ -1,4 +1,5 @@
 pub mod Facts
+pub mod Glimpses
 pub mod Keys
 pub mod Marks
 pub mod Paths

@@ -1,5 +1,5 @@
 -- What is decided of an atom, and by which literal.
-use Rattle.std.specs.Prelude.{ℕ, ◌+◌, ◌==◌, Bool, List, [], ◌∷◌, Option, Some, None, if◌then◌else◌}
+use Rattle.std.specs.Prelude.{ℕ, ◌+◌, ◌==◌, Bool, false, List, [], ◌∷◌, Option, Some, None, if◌then◌else◌}
 use Rattle.csp_atom.specs.Follows.{follows}
 use Rattle.csp_atom.specs.declared.atom.Atom.{Atom}
 use Rattle.csp_atom.specs.declared.atom.Literal.{Literal}
@@ -24,6 +24,11 @@ abbrev pub all_marked : Literal → ℕ → List (Option Decision) → List Atom
 all_marked l n [] atoms = []
 all_marked l n (d ∷ marks) [] = []
 all_marked l n (d ∷ marks) (a ∷ atoms) = marked l n d a ∷ all_marked l n marks atoms
+
+-- a mark, once the literal of this number denies what isn't decided
+abbrev pub denied : ℕ → Option Decision → Option Decision
+denied n None = Some (record { value = false; by = n })
+denied n (Some d) = Some d
 
 -- a mark, once the literal of this number is taken back
 abbrev pub cleared : ℕ → Option Decision → Option Decision

@@ -1,14 +1,19 @@
 -- Which atoms a literal can decide, by their places in a list that ascends.
-use Rattle.std.specs.Prelude.{◌≡◌, ℕ, ◌≤◌, ◌<◌, Bool, false, true, not, List, length, Option, None, if◌then◌else◌, nat_lt}
+use Rattle.std.specs.Prelude.{◌≡◌, ℕ, ◌≤◌, ◌<◌, Bool, false, true, not, ◌&&◌, List, [], length, take, Option, None, Some, IsSome, if◌then◌else◌, nat_lt}
+use Rattle.std.specs.Cmp.Lexicographic.{slice_cmp}
 use Rattle.std.specs.List.{AllWithin, slice_index_or}
-use Rattle.std.specs.Ordering.{is_lt, is_gt}
+use Rattle.std.specs.Ordering.{nat_cmp, ordering_then, is_lt, is_gt}
+use Rattle.std.specs.declared.cmp.Ordering.{Ordering}
+use Rattle.std.specs.declared.cmp.Ordering.TheVariants.{Less, Equal, Greater}
 use Rattle.csp_atom.specs.Follows.{follows}
 use Rattle.csp_atom.specs.declared.atom.Atom.{Atom}
 use Rattle.csp_atom.specs.declared.atom.Atom.TheVariants.{HostIs, HostUnder, HostDomain, PortIs, PathIs, PathUnder, SchemeIs, NonceIs, IntegrityHas, IntegrityOutside, DigestIs}
 use Rattle.csp_atom.specs.declared.atom.Literal.{Literal}
 use Rattle.csp_valuation.specs.Marks.{cleared}
 use Rattle.csp_atom.specs.Order.{rank, atom_cmp}
+use Rattle.csp_valuation.specs.Paths.{literal_of, denial_of}
 use Rattle.csp_valuation.specs.declared.marks.Decision.{Decision}
+use Rattle.csp_valuation.specs.declared.taken.Taken.{Taken}
 
 -- no atom is above a later one
 abbrev pub Ascends : List Atom → Type 0
@@ -26,6 +31,15 @@ decides_itself_alone (DigestIs digest) positive = not positive
 decides_itself_alone (IntegrityHas hash) positive = true
 decides_itself_alone IntegrityOutside positive = true
 decides_itself_alone atom positive = false
+
+-- of the atoms of its kind at most one holds
+abbrev pub is_sole : Atom → Bool
+is_sole (HostIs host) = true
+is_sole (PortIs n) = true
+is_sole (PathIs pieces) = true
+is_sole (SchemeIs scheme) = true
+is_sole (NonceIs value) = true
+is_sole atom = false
 
 -- the ranks of the kinds that speak of the same part of a check
 abbrev pub first_rank : Atom → ℕ
@@ -52,6 +66,33 @@ is_after literal atom =
     if decides_itself_alone literal.atom literal.positive then is_gt (atom_cmp atom literal.atom)
     else nat_lt (last_rank literal.atom) (rank atom)
 
+-- the path that the atom speaks of, with no pieces where it speaks of none
+abbrev pub path_of : Atom → List (List ℕ)
+path_of (PathIs path) = path
+path_of (PathUnder path) = path
+path_of atom = []
+
+-- the order of a path, cut to the length of the front, and the front
+abbrev pub start_cmp : List (List ℕ) → List (List ℕ) → Ordering
+start_cmp path front = slice_cmp (slice_cmp nat_cmp) (take (length front) path) front
+
+-- where the atom stands to those of this rank whose paths begin with the front: level with them if it is one
+abbrev pub front_cmp : List (List ℕ) → ℕ → Atom → Ordering
+front_cmp front kind atom = ordering_then (nat_cmp (rank atom) kind) (start_cmp (path_of atom) front)
+
+-- the atoms of this rank whose paths begin with the front are those at these places
+pub record ArePlacesBelow (front : List (List ℕ)) (kind : ℕ) (atoms : List Atom) (start end : ℕ)
+    : Type 0 where
+  pub ordered : start ≤ end
+  pub inside : end ≤ length atoms
+  pub before : AllWithin (λ atom. front_cmp front kind atom ≡ Less) atoms 0 start
+  pub within : AllWithin (λ atom. front_cmp front kind atom ≡ Equal) atoms start end
+  pub after : AllWithin (λ atom. front_cmp front kind atom ≡ Greater) atoms end (length atoms)
+
+-- the denial that the path lies under the front
+abbrev pub denied_front : List (List ℕ) → Literal
+denied_front front = record { atom = PathUnder front; positive = false }
+
 -- the literal decides none of the atoms outside of these places
 pub record Covers (literal : Literal) (atoms : List Atom) (start end : ℕ) : Type 0 where
   pub ordered : start ≤ end
@@ -65,6 +106,15 @@ pub record IsNear (literal : Literal) (atoms : List Atom) (start end : ℕ) : Ty
       → follows literal (slice_index_or atoms j d) ≡ None
   pub after : (j : ℕ) (d : Atom) → end ≤ j → j < length atoms
       → follows literal (slice_index_or atoms j d) ≡ None
+
+-- where the literal holds, no other atom of its kind does
+abbrev pub excludes_its_kind : Literal → Bool
+excludes_its_kind literal = literal.positive && is_sole literal.atom
+
+-- the literal decides the atom, and makes it false unless it is its own
+pub record Excludes (literal : Taken) (atom : Atom) : Type 0 where
+  pub decides : IsSome (follows (literal_of literal) atom)
+  pub denies : follows (denial_of literal) atom ≡ None → follows (literal_of literal) atom ≡ Some false
 
 -- the literal of this number gave none of the marks outside of these places
 pub record KeepsOutside (by : ℕ) (marks : List (Option Decision)) (start end : ℕ) : Type 0 where

@@ -1,9 +1,10 @@
 //! What is decided of each atom of a list, and which literal of the path decided it.
-ghost use Rattle.std.specs.Prelude.{◌≡◌, None, false, length, map};
+ghost use Rattle.std.specs.Prelude.{◌≡◌, ◌≤◌, None, false, length, map};
+ghost use Rattle.std.specs.List.{AllWithin};
 ghost use Rattle.csp_atom.specs.Follows.{follows};
-ghost use Rattle.csp_valuation.specs.Marks.{all_marked, cleared, forgotten};
+ghost use Rattle.csp_valuation.specs.Marks.{all_marked, cleared, denied, forgotten};
 ghost use Rattle.csp_valuation.specs.Paths.{denial_of, literal_of};
-ghost use Rattle.csp_valuation.specs.Reach.{Covers, IsNear, KeepsOutside};
+ghost use Rattle.csp_valuation.specs.Reach.{Covers, Excludes, IsNear, KeepsOutside};
 
 use crate::reach::Reach;
 use crate::taken::Taken;
@@ -16,11 +17,13 @@ pub(crate) struct Decision {
     pub by: usize,
 }
 
-// Marks the atoms that are not decided and that this literal decides, which stand within the reach. Those that
-// aren't near can't be the literal's own atom.
+// Marks the atoms that are not decided and that this literal decides, which stand within the reach. Those
+// that aren't near can't be the literal's own atom. Those from the start of the reach up to `kind_end` are of
+// its kind, of which no other holds.
 pub(crate) fn mark_within(
     reach: Reach,
     near: Reach,
+    kind_end: usize,
     marks: &mut [Option<Decision>],
     atoms: &[Atom],
     literal: Taken,
@@ -29,20 +32,70 @@ pub(crate) fn mark_within(
     requires long { length marks.old ≡ length atoms.now }
     requires covers { Covers (literal_of literal) atoms.now reach.start reach.end }
     requires near { Covers (denial_of literal) atoms.now near.start near.end }
+    requires after_start { reach.start ≤ kind_end }
+    requires before_end { kind_end ≤ reach.end }
+    requires kind { AllWithin (Excludes literal) atoms.now reach.start kind_end }
     ensures { marks.new ≡ all_marked (literal_of literal.entry) by marks.old atoms.now }
 {
     let Reach { start, end } = reach;
-    let near = Reach {
-        start: near.start.saturating_sub(start),
-        end: near.end.saturating_sub(start),
-    };
-    mark_all(
-        near,
+    mark_by_kind(
+        near.seen_from(start),
+        kind_end - start,
         &mut marks[start..end],
         &atoms[start..end],
         literal,
         by,
     );
+}
+
+// Marks the first atoms, so many, which are of the literal's kind, and then the rest.
+fn mark_by_kind(
+    near: Reach,
+    kind: usize,
+    marks: &mut [Option<Decision>],
+    atoms: &[Atom],
+    literal: Taken,
+    by: usize,
+)
+    requires long { length marks.old ≡ length atoms.now }
+    requires near { IsNear (denial_of literal) atoms.now near.start near.end }
+    requires inside { kind ≤ length atoms.now }
+    requires kind { AllWithin (Excludes literal) atoms.now 0 kind }
+    ensures { marks.new ≡ all_marked (literal_of literal.entry) by marks.old atoms.now }
+{
+    let (marks_of_kind, other_marks) = marks.split_at_mut(kind);
+    let (atoms_of_kind, other_atoms) = atoms.split_at(kind);
+    mark_kind(near, marks_of_kind, atoms_of_kind, literal, by);
+    mark_all(near.seen_from(kind), other_marks, other_atoms, literal, by);
+}
+
+// Marks atoms of the literal's kind, of which no other holds: once the near ones are marked, the rest are
+// false, and needn't be looked at.
+fn mark_kind(near: Reach, marks: &mut [Option<Decision>], atoms: &[Atom], literal: Taken, by: usize)
+    requires long { length marks.old ≡ length atoms.now }
+    requires near { IsNear (denial_of literal) atoms.now near.start near.end }
+    requires kind { AllWithin (Excludes literal) atoms.now 0 (length atoms.now) }
+    ensures { marks.new ≡ all_marked (literal_of literal.entry) by marks.old atoms.now }
+{
+    let end = near.end.min(marks.len());
+    let start = near.start.min(end);
+    let all = Reach {
+        start: 0,
+        end: end - start,
+    };
+    mark_all(all, &mut marks[start..end], &atoms[start..end], literal, by);
+    deny_all(marks, by);
+}
+
+// Marks as false what isn't marked.
+fn deny_all(marks: &mut [Option<Decision>], by: usize)
+    ensures { marks.new ≡ map (denied by) marks.old }
+{
+    for mark in marks.iter_mut() {
+        if mark.is_none() {
+            *mark = Some(Decision { value: false, by });
+        }
+    }
 }
 
 fn mark_all(near: Reach, marks: &mut [Option<Decision>], atoms: &[Atom], literal: Taken, by: usize)

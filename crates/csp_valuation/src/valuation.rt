@@ -1,17 +1,23 @@
 //! The partial assignment that the literals of a path give.
-ghost use Rattle.std.specs.Prelude.{◌≡◌, ◌<◌, ◌++◌, [], ◌∷◌, ℕ, length, IfOk, MatchOption, IsSome, None};
+ghost use Rattle.std.specs.Prelude.{◌≡◌, ◌<◌, ◌++◌, [], ◌∷◌, ℕ, length, map, true};
+ghost use Rattle.std.specs.Prelude.{IfOk, MatchOption, IsSome, None};
+ghost use Rattle.csp_atom.specs.Follows.{decided};
 ghost use Rattle.csp_formula.specs.Surely.{surely};
-ghost use Rattle.csp_valuation.specs.Paths.{literal_of, literals_of};
+ghost use Rattle.csp_valuation.specs.Glimpses.{Tells};
+ghost use Rattle.csp_valuation.specs.Marks.{mark};
+ghost use Rattle.csp_valuation.specs.Paths.{literal_of, literals_of, settled_part, waiting_part};
 ghost use Rattle.csp_valuation.specs.Placed.{sentence_at};
+ghost use Rattle.csp_valuation.specs.Reach.{Ascends};
 ghost use Rattle.csp_valuation.specs.Standings.{IsOpenAt, value_in};
 ghost use Rattle.csp_valuation.specs.Valuations.{value_at};
 
+use crate::glance::{Glance, Glimpse, look};
 use crate::marks::{Decision, clear_within, forget_all, mark_within};
 use crate::placed::PlacedFormula;
-use crate::reach::{ascends, near_of, reach_of};
+use crate::reach::{ascends, kind_end_of, near_of, reach_of};
 use crate::standing::{Standing, standing_under};
 use crate::taken::Taken;
-use csp_atom::Atom;
+use csp_atom::{Atom, follows_as};
 use csp_model::{List, Memory};
 use std::alloc::Global;
 use std::marker::Model;
@@ -19,9 +25,12 @@ use std::marker::Model;
 /// What the literals of a path decide of each atom of a list: the first of them, from the root, that decides
 /// an atom gives it its value. A literal's own atom needn't be in the list.
 ///
-/// In a list that ascends, as `place_formulas` makes it, a literal that decides no atom but its own is taken and
-/// taken back by a binary search, and any other in time linear in the atoms on the same part of a check. In other
-/// lists each literal takes time linear in all atoms.
+/// What the last literal decides is marked only once another is taken on top of it, so a literal that is
+/// taken and taken back at once costs nothing. In a list that ascends, as `place_formulas` makes it, a
+/// literal that decides no atom but its own is marked and cleared by a binary search. The denial that a path
+/// lies under a front takes binary searches and time linear in the atoms from the first file below the front,
+/// or else the first front below it, to the last front below it; any other literal takes time linear in the
+/// atoms on the same part of a check. In other lists each literal takes time linear in all atoms.
 #[derive(Debug, Drop)]
 pub struct Valuation<'a> {
     atoms: Vec<Atom>,
@@ -29,12 +38,15 @@ pub struct Valuation<'a> {
     path: Vec<Taken<'a>>,
     room: usize,
     ascending: bool,
+    // Whether the last literal of the path waits: what it decides isn't marked before another literal comes
+    // after it.
+    waits: bool,
 }
 
 impl<'a> Model for Valuation<'a> {
     ghost use Rattle.std.specs.Prelude.{◌≡◌, ◌≤◌, length, map, true, vec_capacity};
     ghost use Rattle.csp_valuation.specs.Marks.{mark};
-    ghost use Rattle.csp_valuation.specs.Paths.{literals_of};
+    ghost use Rattle.csp_valuation.specs.Paths.{literals_of, settled_part};
     ghost use Rattle.csp_valuation.specs.Reach.{Ascends};
     ghost use Rattle.csp_valuation.specs.Valuations.{Assignment};
 
@@ -46,7 +58,8 @@ impl<'a> Model for Valuation<'a> {
       room = v.room;
     } };
 
-    ghost invariant = { λ v. (v.marks.items ≡ map (mark 0 (literals_of v.path.items)) v.atoms.items)
+    ghost invariant = { λ v.
+        (v.marks.items ≡ map (mark 0 (literals_of (settled_part v.waits v.path.items))) v.atoms.items)
         × (length v.path.items ≤ v.room) × (v.room ≤ vec_capacity v.path)
         × (v.ascending ≡ true → Ascends v.atoms.items) };
 }
@@ -66,6 +79,7 @@ impl<'a> Valuation<'a> {
             path,
             room,
             ascending,
+            waits: false,
         })
     }
 
@@ -75,17 +89,15 @@ impl<'a> Valuation<'a> {
         ensures { self.new
             ≡ record self.old { literals = self.old.literals ++ literal_of literal.entry ∷ [] } }
     {
-        let reach = reach_of(literal, &self.atoms, self.ascending);
-        let near = near_of(literal, reach, &self.atoms, self.ascending);
-        mark_within(
-            reach,
-            near,
+        settle(
+            self.waits,
+            &self.path,
             &mut self.marks,
             &self.atoms,
-            literal,
-            self.path.len(),
+            self.ascending,
         );
         self.path.push(literal).unwrap();
+        self.waits = true;
     }
 
     /// Takes the last literal back, if there is one: all is as before it was taken.
@@ -97,6 +109,10 @@ impl<'a> Valuation<'a> {
             × (length self.new.literals < self.new.room)) }
     {
         let last = self.path.pop()?;
+        if self.waits {
+            self.waits = false;
+            return Some(last);
+        }
         let reach = reach_of(last, &self.atoms, self.ascending);
         clear_within(reach, &mut self.marks, self.path.len());
         Some(last)
@@ -108,6 +124,7 @@ impl<'a> Valuation<'a> {
     {
         forget_all(&mut self.marks);
         self.path.clear();
+        self.waits = false;
     }
 
     /// The atoms, each at its place.
@@ -130,7 +147,7 @@ impl<'a> Valuation<'a> {
     {
         match self.marks.get(place) {
             Some(Some(decision)) => Some(decision.value),
-            Some(None) => None,
+            Some(None) => said_by_last(self.waits, &self.path, &self.atoms[place]),
             None => Some(false),
         }
     }
@@ -145,6 +162,16 @@ impl<'a> Valuation<'a> {
         }
     }
 
+    /// A short look at the formula: in each or at a few parts, from the one on that was not surely false when
+    /// the last look ended there. Of the places that an and waits on, it tells the one with the greatest
+    /// weight, and the first of several; a place without a weight has 0. `Nothing` doesn't mean that the
+    /// formula is false, but that no part was seen that isn't.
+    pub fn glance(&self, formula: &PlacedFormula, weights: &[u32], from: &mut Glance) -> Glimpse
+        ensures { Tells self.now (sentence_at self.now.atoms formula.now) result }
+    {
+        look(self, formula, weights, from.parts())
+    }
+
     /// The value of the formula, where the path decides it. Else the place of a fact that the path doesn't
     /// decide, nor any part of the formula that the fact stands in.
     pub fn standing_of(&self, formula: &PlacedFormula) -> Standing
@@ -155,8 +182,8 @@ impl<'a> Valuation<'a> {
         standing_under(self, formula)
     }
 
-    /// The place of a fact of the formula that the path doesn't decide, nor any part of the formula that the fact
-    /// stands in. There is one exactly where the path doesn't decide the formula.
+    /// The place of a fact of the formula that the path doesn't decide, nor any part of the formula that the
+    /// fact stands in. There is one exactly where the path doesn't decide the formula.
     pub fn undecided_in(&self, formula: &PlacedFormula) -> Option<usize>
         ensures { MatchOption result
             (IsSome (surely self.now.literals (sentence_at self.now.atoms formula.now)))
@@ -184,4 +211,38 @@ impl<'a> Valuation<'a> {
         }
         None
     }
+}
+
+// Marks what the last literal of a path decides, if it waits.
+fn settle(
+    waits: bool,
+    path: &[Taken],
+    marks: &mut [Option<Decision>],
+    atoms: &[Atom],
+    ascending: bool,
+)
+    requires marked { marks.old ≡ map (mark 0 (literals_of (settled_part waits path.now))) atoms.now }
+    requires ascends { ascending ≡ true → Ascends atoms.now }
+    ensures { marks.new ≡ map (mark 0 (literals_of path.now)) atoms.now }
+{
+    if !waits {
+        return;
+    }
+    if let Some((last, before)) = path.split_last() {
+        let reach = reach_of(*last, atoms, ascending);
+        let near = near_of(*last, reach, atoms, ascending);
+        let kind_end = kind_end_of(*last, reach, atoms, ascending);
+        mark_within(reach, near, kind_end, marks, atoms, *last, before.len());
+    }
+}
+
+// What the last literal of a path says of an atom, if it waits.
+fn said_by_last(waits: bool, path: &[Taken], atom: &Atom) -> Option<bool>
+    ensures { result ≡ decided (literals_of (waiting_part waits path.now)) atom.now }
+{
+    if !waits {
+        return None;
+    }
+    let last = path.last()?;
+    follows_as(last.atom, last.positive, atom)
 }

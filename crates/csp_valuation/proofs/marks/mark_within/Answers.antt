@@ -8,5 +8,5 @@ returns c =
     let marks = c.args.marks.now in
     let start = c.args.reach.start in
     let end = c.args.reach.end in
-    ap (λ within. take start marks ++ (within ++ drop (end - start) (drop start marks))) c.mark_all.ensures
+    ap (λ within. take start marks ++ (within ++ drop (end - start) (drop start marks))) c.mark_by_kind.ensures
     ∙ marked_within (literal_of c.args.literal) c.args.by marks c.args.atoms.now start end c.requires.long c.requires.covers

@@ -4,7 +4,7 @@ use Rattle.csp_atom.specs.declared.atom.Atom.{Atom}
 use Rattle.csp_valuation.specs.Paths.{literal_of}
 use Rattle.csp_valuation.specs.Reach.{is_before, is_after}
 use Rattle.csp_valuation.proofs.Ascending.{parted_before, parted_after, covers}
-use Rattle.csp_valuation.proofs.reach.reach_by_order.Goals as goal
+use Rattle.csp_valuation.proofs.reach.reach_by_kind.Goals as goal
 
 pub returns : goal.returns
 returns c =

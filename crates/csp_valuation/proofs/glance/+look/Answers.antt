@@ -1,0 +1,36 @@
+use Rattle.std.proofs.Common.{arith, map, slice_get, take}
+use Rattle.std.proofs.lemmas.List.{take_all}
+use Rattle.csp_formula.specs.Sentences.{all_of}
+use Rattle.csp_valuation.specs.Placed.{fact, sentence_at}
+use Rattle.csp_valuation.proofs.Layers.{placed_FactAnd}
+use Rattle.csp_valuation.proofs.Looking.{told_of_one, told_of_more}
+use Rattle.csp_valuation.proofs.glance.+look.Goals as goal
+
+pub look-returns-in_default-first : goal.look-returns-in_default-first
+look-returns-in_default-first t c =
+    let valuation = c.args.valuation.now in
+    let place = c.in-FactAnd.place in
+    let rest = all_of (map (sentence_at valuation.atoms) c.deref-in-FactAnd.result.now) in
+    let told = c.both.ensures valuation (fact (slice_get valuation.atoms place)) rest
+    c.glimpse_at-first.ensures c.look_at_all-in-FactAnd.ensures in
+    rw (c.in-FactAnd.is, placed_FactAnd valuation.atoms place c.in-FactAnd.parts)
+    (rw c.deref-in-FactAnd.ensures.value at told)
+
+pub look_at_all-returns : goal.look_at_all-returns
+look_at_all-returns t c =
+    rw (take_all c.every.part-index c.args.parts.now c.every-test.false) at c.every.invariant
+
+pub look_at_all-every-preserved : goal.look_at_all-every-preserved
+look_at_all-every-preserved t c =
+    let valuation = c.args.valuation.now in
+    let part = c.part-item.result in
+    let first = all_of (map (sentence_at valuation.atoms) (take c.every.part-index c.args.parts.now)) in
+    let told = c.both-so_far.ensures valuation first (sentence_at valuation.atoms part)
+    c.every.invariant c.look.ensures in
+    told_of_more valuation c.args.parts.now c.every.part-index part c.both-so_far.result
+    c.every-test.true c.part-item.is told
+
+pub look_at_one-returns-then-not-matches : goal.look_at_one-returns-then-not-matches
+look_at_one-returns-then-not-matches t c =
+    told_of_one c.args.valuation.now c.args.parts.now c.one.place c.index-parts-place.result c.look-seen.result
+    (omega arith) c.index-parts-place.is c.look-seen.ensures
