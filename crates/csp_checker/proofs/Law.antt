@@ -87,13 +87,13 @@ tree_walk lists pair line nodes is =
     ∙ sym (ap (bad_tree lists pair line) (ap cases_in (sym is.1) ∙ cases_back is.0))
 
 -- what the code finds of a policy and its formula is what they say
-pub says_found : (expected : Bool) (ls : List Literal) (p : Policy) (ps : List Policy) (n : ℕ) (atoms : List Atom) (fs : List PlacedFormula) (f : PlacedFormula) (value : Option Bool) (b : Bool)
-    → Some p ≡ slice_get ps n → Some f ≡ slice_get fs n → true ≡ is_enforce p.disposition → value ≡ surely ls (sentence_at atoms f) → b ≡ is_surely expected value
+pub says_found : (expected : Bool) (ls : List Literal) (p : Policy) (ps : List Policy) (n : ℕ) (atoms : List Atom) (fs : List PlacedFormula) (f : PlacedFormula) (b : Bool)
+    → Some p ≡ slice_get ps n → Some f ≡ slice_get fs n → true ≡ is_enforce p.disposition → b ≡ is_surely expected (surely ls (sentence_at atoms f))
     → b ≡ says_surely expected ls (slice_get ps n) (slice_get (map (sentence_at atoms) fs) n)
-says_found expected ls p ps n atoms fs f value b policy formula enforces value_is is =
+says_found expected ls p ps n atoms fs f b policy formula enforces is =
     let sentence = sentence_at atoms f in
     let there : slice_get (map (sentence_at atoms) fs) n ≡ Some sentence = slice_get-map (sentence_at atoms) fs n ∙ ap (option_map (sentence_at atoms)) (sym formula) in
-    is ∙ ap (is_surely expected) value_is
+    is
     ∙ ap (λ e. e && is_surely expected (surely ls sentence)) enforces
     ∙ ap (λ o. says_surely expected ls o (Some sentence)) policy
     ∙ ap (says_surely expected ls (slice_get ps n)) (sym there)

@@ -1,5 +1,6 @@
 //! The leaves of a tree, and what they are judged by.
-ghost use Rattle.std.specs.Prelude.{◌≡◌, map, slice_get};
+ghost use Rattle.std.specs.Prelude.{◌≡◌, Some, map, slice_get, true};
+ghost use Rattle.csp_formula.specs.Surely.{surely};
 ghost use Rattle.csp_model.specs.Verdict.{is_enforce};
 ghost use Rattle.csp_proof.specs.Accepts as accepts;
 ghost use Rattle.csp_valuation.specs.Placed.{sentence_at};
@@ -7,7 +8,7 @@ ghost use Rattle.csp_checker.specs.Leaves as spec;
 
 use csp_model::{Disposition, List, PolicyList};
 use csp_proof::Node;
-use csp_valuation::{PlacedFormula, PlacedFormulas, Valuation};
+use csp_valuation::{Glance, Glimpse, PlacedFormula, PlacedFormulas, Valuation};
 
 // What the leaves of a tree are judged by: both lists with their formulas at the tree's shape, and the
 // number of its policy of the second list.
@@ -19,8 +20,14 @@ pub(crate) struct Judge<'q> {
     pub policy: u32,
 }
 
-// Whether a leaf keeps its rule where the path of the valuation leads. A split has none to keep.
-pub(crate) fn keeps_rule(judge: Judge, node: &Node, valuation: &Valuation) -> bool
+// Whether a leaf keeps its rule where the path of the valuation leads. A split has none to keep. A look at
+// what a leaf claims to be true begins where the last such look ended.
+pub(crate) fn keeps_rule(
+    judge: Judge,
+    node: &Node,
+    valuation: &Valuation,
+    from: &mut Glance,
+) -> bool
     ensures { result
         ≡ spec.keeps_rule (spec.sayings_at valuation.now.atoms judge.entry) valuation.now.literals node.now }
 {
@@ -33,6 +40,7 @@ pub(crate) fn keeps_rule(judge: Judge, node: &Node, valuation: &Valuation) -> bo
                 &judge.formulas.first,
                 *policy,
                 valuation,
+                from,
             )
         }
         Node::Met => says_surely(
@@ -41,6 +49,7 @@ pub(crate) fn keeps_rule(judge: Judge, node: &Node, valuation: &Valuation) -> bo
             &judge.formulas.second,
             judge.policy,
             valuation,
+            from,
         ),
     }
 }
@@ -52,6 +61,7 @@ fn says_surely(
     formulas: &List<PlacedFormula>,
     number: u32,
     valuation: &Valuation,
+    from: &mut Glance,
 ) -> bool
     ensures { result ≡ spec.says_surely expected valuation.now.literals (slice_get list.now.policies number)
         (slice_get (map (sentence_at valuation.now.atoms) formulas.now) number) }
@@ -63,7 +73,7 @@ fn says_surely(
     let Some(formula) = formulas.get(place) else {
         return false;
     };
-    is_enforced(policy.disposition) && is_surely(expected, valuation.value_of(formula))
+    is_enforced(policy.disposition) && has_surely(expected, formula, valuation, from)
 }
 
 fn is_enforced(disposition: Disposition) -> bool
@@ -72,6 +82,32 @@ fn is_enforced(disposition: Disposition) -> bool
     match disposition {
         Disposition::Enforce => true,
         Disposition::Report => false,
+    }
+}
+
+// Whether the formula surely has this value.
+fn has_surely(
+    expected: bool,
+    formula: &PlacedFormula,
+    valuation: &Valuation,
+    from: &mut Glance,
+) -> bool
+    ensures { result ≡ accepts.is_surely expected
+        (surely valuation.now.literals (sentence_at valuation.now.atoms formula.now)) }
+{
+    if expected && holds_at_a_glance(formula, valuation, from) {
+        return true;
+    }
+    is_surely(expected, valuation.value_of(formula))
+}
+
+fn holds_at_a_glance(formula: &PlacedFormula, valuation: &Valuation, from: &mut Glance) -> bool
+    ensures { result ≡ true
+        → surely valuation.now.literals (sentence_at valuation.now.atoms formula.now) ≡ Some true }
+{
+    match valuation.glance(formula, &[], from) {
+        Glimpse::Holds => true,
+        Glimpse::Open { .. } | Glimpse::Nothing => false,
     }
 }
 

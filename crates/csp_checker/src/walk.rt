@@ -5,7 +5,7 @@ ghost use Rattle.csp_checker.specs.Walk as spec;
 
 use crate::leaf::{Judge, keeps_rule};
 use csp_proof::Node;
-use csp_valuation::{Taken, Valuation};
+use csp_valuation::{Glance, Taken, Valuation};
 
 // The place of the first node that breaks a rule, whatever path the valuation has.
 pub(crate) fn first_bad<'a>(
@@ -40,6 +40,7 @@ fn walk<'a>(judge: Judge, nodes: &'a [Node], valuation: &mut Valuation<'a>) -> O
     ensures space { valuation.new.room ≡ valuation.old.room }
 {
     let mut place = 0;
+    let mut from = Glance::default();
     'nodes: for node in nodes {
         match node {
             Node::Split { atom } => {
@@ -49,7 +50,7 @@ fn walk<'a>(judge: Judge, nodes: &'a [Node], valuation: &mut Valuation<'a>) -> O
                 });
             }
             _ => {
-                if !keeps_rule(judge, node, valuation) {
+                if !keeps_rule(judge, node, valuation, &mut from) {
                     return Some(place);
                 }
                 if !next_case(valuation) {

@@ -1,5 +1,5 @@
 -- A policy's formula says what the policy's sentence says.
-use Rattle.std.proofs.Common.{◌≡◌, ℕ, ◌+◌, ◌<◌, zero, suc, Bool, true, false, not, ◌&&◌, refl, ap, sym, subst, List, [], ◌∷◌, map, Option, Some, None, IsSome, MatchOption, slice_get}
+use Rattle.std.proofs.Common.{◌≡◌, ℕ, ◌+◌, ◌<◌, zero, suc, Bool, true, false, not, ◌&&◌, ◌∙◌, refl, ap, sym, subst, List, [], ◌∷◌, map, Option, Some, None, IsSome, MatchOption, slice_get}
 use Rattle.std.specs.Prelude.{if◌then◌else◌, ⊤}
 use Rattle.std.specs.Option.{option_or}
 use borrow.Author.Count.{below_more}
@@ -12,11 +12,15 @@ use Rattle.csp_shape.specs.declared.shape.Shape.{Shape}
 use Rattle.csp_formula.specs.Compiled.{policy_sentence}
 use Rattle.csp_formula.specs.Sentences.{Sentence}
 use Rattle.csp_formula.specs.Surely.{surely}
+use Rattle.csp_valuation.specs.Glimpses.{Tells}
 use Rattle.csp_valuation.specs.Placed.{sentence_at}
+use Rattle.csp_valuation.specs.Valuations.{Assignment}
+use Rattle.csp_valuation.specs.declared.glance.Glimpse.{Glimpse}
+use Rattle.csp_valuation.specs.declared.glance.Glimpse.TheVariants as glimpse
 use Rattle.csp_valuation.specs.declared.placed.PlacedFormula.{PlacedFormula}
 use Rattle.csp_proof.specs.Accepts.{hashes_in, is_surely, policy_is, Lists}
-use Rattle.csp_search.specs.Leaves.{enforced_at, is_surely_at, IsDecidedAt, IsDecided, IsSurely, HasNoLeaf, LeavesNothing, IsOpen}
-use Rattle.csp_search.specs.Questions.{IsPosed, lists_of}
+use Rattle.csp_search.specs.Leaves.{enforced_at, is_surely_at, IsDecidedAt, IsDecided, IsSurely, IsGlimpse, HasNoLeaf, LeavesNothing, IsOpen}
+use Rattle.csp_search.specs.Questions.{IsPosed, lists_of, pair_of}
 use Rattle.csp_search.specs.declared.searching.Question.{Question}
 use Rattle.csp_proof.specs.Pairs.{Pair}
 
@@ -89,6 +93,15 @@ pub second_says : (q : Question) (atoms : List Atom) → IsPosed q → atoms ≡
     → SaysThem (hashes_in (lists_of q)) q.shape atoms q.second.now.policies q.formulas.now.second
 second_says q atoms posed there =
     says_by q.vocabulary.now.hashes (hashes_in (lists_of q)) q.shape atoms q.formulas.now.atoms q.second.now.policies q.formulas.now.second posed.hashes there posed.formulas.second
+
+-- what a short look tells of the formula of the pair's policy
+pub glimpse_said : (q : Question) (v : Assignment) (f : PlacedFormula) (seen : Glimpse) → IsPosed q → v.atoms ≡ q.formulas.now.atoms
+    → Some f ≡ enforced_at q.second.now.policies q.formulas.now.second q.policy → Tells v (sentence_at v.atoms f) seen → IsGlimpse (lists_of q) (pair_of q) v seen
+glimpse_said q v f glimpse.Holds posed there found tells =
+    sym (value_said (hashes_in (lists_of q)) q.shape v.literals v.atoms true q.second.now.policies q.formulas.now.second q.policy (second_says q v.atoms posed there))
+    ∙ ap (λ (o : Option PlacedFormula). is_surely_at v.literals v.atoms true o) (sym found) ∙ ap (is_surely true) tells
+glimpse_said q v f (glimpse.Open place) posed there found tells = tells
+glimpse_said q v f glimpse.Nothing posed there found tells = tt
 
 -- What is decided and hasn't the one value has the other
 

@@ -10,6 +10,8 @@ use Rattle.csp_formula.specs.Compiled.{policy_sentence}
 use Rattle.csp_formula.specs.Surely.{surely}
 use Rattle.csp_valuation.specs.Placed.{sentence_at}
 use Rattle.csp_valuation.specs.Valuations.{Assignment, value_at}
+use Rattle.csp_valuation.specs.declared.glance.Glimpse.{Glimpse}
+use Rattle.csp_valuation.specs.declared.glance.Glimpse.TheVariants as glimpse
 use Rattle.csp_valuation.specs.declared.placed.PlacedFormula.{PlacedFormula}
 use Rattle.csp_proof.specs.Accepts.{Lists, blocks, hashes_in, is_met, is_surely}
 use Rattle.csp_proof.specs.Pairs.{Pair}
@@ -89,6 +91,13 @@ pub record IsOpen (lists : Lists) (pair : Pair) (literals : List Literal) : Type
       IsSurely false (hashes_in lists) pair.shape literals (slice_get lists.second.policies pair.policy)
 
 -- How a search goes on from a branch
+
+-- what a short look tells of the pair's policy: that the branch is met, that a place isn't decided, or
+-- nothing
+abbrev pub IsGlimpse : Lists → Pair → Assignment → Glimpse → Type 0
+IsGlimpse lists pair valuation glimpse.Holds = is_met lists pair valuation.literals ≡ true
+IsGlimpse lists pair valuation (glimpse.Open place) = value_at valuation place ≡ None
+IsGlimpse lists pair valuation glimpse.Nothing = ⊤
 
 -- a leaf that may stand there, a place that isn't decided, or none of both
 abbrev pub IsStep : Lists → Pair → Assignment → Step → Type 0

@@ -1,5 +1,5 @@
 //! The leaves of a tree of cases, and what a branch waits on that none ends.
-ghost use Rattle.std.specs.Prelude.{◌≡◌, MatchOption, None, false, option_copied, slice_get, true, ⊤};
+ghost use Rattle.std.specs.Prelude.{◌≡◌, IfSome, MatchOption, None, false, option_copied, slice_get, true, ⊤};
 ghost use Rattle.csp_proof.specs.Accepts as rules;
 ghost use Rattle.csp_proof.specs.Accepts.{hashes_in, is_surely};
 ghost use Rattle.csp_search.specs.Leaves as spec;
@@ -7,11 +7,11 @@ ghost use Rattle.csp_search.specs.Questions.{IsPosed, lists_of, pair_of};
 ghost use Rattle.csp_valuation.specs.Standings.{IsOpenAt, value_in};
 ghost use Rattle.csp_valuation.specs.Valuations.{value_at};
 
+use crate::hints::Hints;
 use crate::searching::Question;
-use crate::witness::{Witness, may_hold};
 use csp_model::{Disposition, Policy};
 use csp_proof::Node;
-use csp_valuation::{PlacedFormula, Standing, Valuation};
+use csp_valuation::{Glimpse, PlacedFormula, Standing, Valuation};
 
 // The formula of the policy at a place, where there is one and it is enforced.
 fn enforced_formula<'f>(
@@ -40,7 +40,7 @@ fn first_formula<'f>(question: Question<'f>, place: usize) -> Option<&'f PlacedF
 }
 
 // That of the policy of the second list that the question is about.
-fn second_formula<'f>(question: Question<'f>) -> Option<&'f PlacedFormula>
+pub(crate) fn second_formula<'f>(question: Question<'f>) -> Option<&'f PlacedFormula>
     ensures { option_copied result
         ≡ spec.enforced_at question.entry.second.now.policies question.entry.formulas.now.second
         question.entry.policy }
@@ -107,69 +107,108 @@ pub(crate) enum Step {
     Leave,
 }
 
-// What a branch calls for. The witnesses are those of the policies of the first list.
-pub(crate) fn next_step(
+// What a branch calls for.
+pub(crate) fn next_step(question: Question, valuation: &Valuation, hints: &mut Hints) -> Step
+    requires posed { IsPosed question }
+    requires atoms { valuation.now.atoms ≡ question.formulas.now.atoms }
+    ensures { spec.IsStep
+        (lists_of question.entry) (pair_of question.entry) valuation.now result }
+{
+    match glimpse(question, valuation, hints) {
+        Glimpse::Holds => Step::Close { leaf: Node::Met },
+        Glimpse::Open { place } => {
+            if hints.has_seen_all(valuation) {
+                step_of_open(question, valuation, place, hints)
+            } else {
+                step_of_whole(question, valuation, Some(place), hints)
+            }
+        }
+        Glimpse::Nothing => match blocking(question, valuation, hints) {
+            Some(leaf) => Step::Close { leaf },
+            None => step_of_whole(question, valuation, None, hints),
+        },
+    }
+}
+
+// What a short look tells of the policy of the second list.
+fn glimpse(question: Question, valuation: &Valuation, hints: &mut Hints) -> Glimpse
+    requires posed { IsPosed question }
+    requires atoms { valuation.now.atoms ≡ question.formulas.now.atoms }
+    ensures { spec.IsGlimpse
+        (lists_of question.entry) (pair_of question.entry) valuation.now result }
+{
+    match second_formula(question) {
+        Some(formula) => hints.look(valuation, formula),
+        None => Glimpse::Nothing,
+    }
+}
+
+// What a branch calls for, by the whole formula of the policy of the second list. A place where a short look
+// found it open goes before others.
+fn step_of_whole(
     question: Question,
     valuation: &Valuation,
-    witnesses: &mut [Witness],
+    seen: Option<usize>,
+    hints: &mut Hints,
 ) -> Step
     requires posed { IsPosed question }
     requires atoms { valuation.now.atoms ≡ question.formulas.now.atoms }
+    requires open { IfSome seen (λ place. value_at valuation.now place ≡ None) }
     ensures { spec.IsStep
         (lists_of question.entry) (pair_of question.entry) valuation.now result }
 {
     match second_standing(question, valuation) {
         Standing::Decided(true) => Step::Close { leaf: Node::Met },
         Standing::Decided(false) => step_of_first(question, valuation),
-        Standing::Open { place } => step_of_open(question, valuation, place, witnesses),
+        Standing::Open { place } => {
+            step_of_open(question, valuation, seen.unwrap_or(place), hints)
+        }
     }
 }
 
-// What a branch calls for whose policy of the second list waits on the atom at this place. Of the first list only
-// those count that surely allow nothing more.
-fn step_of_open(
-    question: Question,
-    valuation: &Valuation,
-    place: usize,
-    witnesses: &mut [Witness],
-) -> Step
+// What a branch calls for whose policy of the second list waits on the atom at this place.
+fn step_of_open(question: Question, valuation: &Valuation, place: usize, hints: &mut Hints) -> Step
     requires posed { IsPosed question }
     requires atoms { valuation.now.atoms ≡ question.formulas.now.atoms }
     requires open { value_at valuation.now place ≡ None }
     ensures { spec.IsStep
         (lists_of question.entry) (pair_of question.entry) valuation.now result }
 {
+    match blocking(question, valuation, hints) {
+        Some(leaf) => Step::Close { leaf },
+        None => Step::Split { place },
+    }
+}
+
+// The leaf of a policy of the first list that surely allows nothing more, if there is one.
+fn blocking(question: Question, valuation: &Valuation, hints: &mut Hints) -> Option<Node>
+    requires posed { IsPosed question }
+    requires atoms { valuation.now.atoms ≡ question.formulas.now.atoms }
+    ensures { IfSome result (spec.IsLeaf
+        (lists_of question.entry) (pair_of question.entry) valuation.now.literals) }
+{
     for policy in 0..question.first.policies.len() {
-        if has_witness(question, valuation, policy, witnesses) {
+        if may_hold(question, valuation, policy, hints) {
             continue;
         }
         if let Standing::Decided(false) = first_standing(question, valuation, policy) {
             let policy = policy as u32;
-            return Step::Close {
-                leaf: Node::Blocked { policy },
-            };
+            return Some(Node::Blocked { policy });
         }
     }
-    Step::Split { place }
+    None
 }
 
-// Whether a part of the formula of a policy of the first list is known to leave it more than false.
-fn has_witness(
-    question: Question,
-    valuation: &Valuation,
-    policy: usize,
-    witnesses: &mut [Witness],
-) -> bool {
-    match (
-        question.formulas.first.get(policy),
-        witnesses.get_mut(policy),
-    ) {
-        (Some(formula), Some(witness)) => may_hold(formula, valuation, witness),
-        _ => false,
+// Whether a short look tells that a policy of the first list may allow something.
+fn may_hold(question: Question, valuation: &Valuation, policy: usize, hints: &mut Hints) -> bool {
+    match question.formulas.first.get(policy) {
+        Some(formula) => hints.may_hold(valuation, policy, formula),
+        None => false,
     }
 }
 
-// What a branch calls for that the policy of the second list surely refuses. Each policy's formula is evaluated once.
+// What a branch calls for that the policy of the second list surely refuses. Each policy's formula is
+// evaluated once.
 fn step_of_first(question: Question, valuation: &Valuation) -> Step
     requires posed { IsPosed question }
     requires atoms { valuation.now.atoms ≡ question.formulas.now.atoms }

@@ -2,10 +2,11 @@
 //! there is none.
 #![tactic(auto)]
 
+mod hints;
 mod leaf;
 mod open;
 mod searching;
 mod tree;
-mod witness;
+mod uses;
 
 pub use searching::{Found, Question, search};

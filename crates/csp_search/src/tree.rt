@@ -7,9 +7,9 @@ ghost use Rattle.csp_search.specs.Branches.{IsBranch, pending};
 ghost use Rattle.csp_search.specs.Leaves.{IsOpen};
 ghost use Rattle.csp_search.specs.Questions.{IsPosed, lists_of, pair_of};
 
-use crate::leaf::{Step, next_step};
+use crate::hints::Hints;
+use crate::leaf::{Step, next_step, second_formula};
 use crate::searching::Question;
-use crate::witness::Witness;
 use csp_model::{Duplicate, List, Memory};
 use csp_proof::Node;
 use csp_valuation::{Taken, Valuation};
@@ -37,15 +37,18 @@ pub(crate) fn find_tree<'a>(
 {
     let atoms = question.formulas.atoms.as_slice();
     let mut nodes = List::new(alloc);
-    let mut witnesses = vec![in alloc; Witness::first(); question.first.policies.len()]?;
+    let formula = second_formula(question);
+    let policies = question.first.policies.len();
+    let mut hints = Hints::new(alloc, formula, atoms, policies)?;
     valuation.clear();
     'steps: loop {
-        match next_step(question, valuation, &mut witnesses) {
+        match next_step(question, valuation, &mut hints) {
             Step::Close { leaf } => {
                 nodes.push(leaf)?;
                 if !next_branch(valuation) {
                     return Ok(Some(nodes));
                 }
+                hints.turn(valuation.path().len());
             }
             Step::Leave => return Ok(None),
             Step::Split { place } => {
@@ -53,6 +56,7 @@ pub(crate) fn find_tree<'a>(
                 nodes.push(Node::Split {
                     atom: atom.copy(alloc)?,
                 })?;
+                hints.split(alloc, place)?;
                 valuation.take(Taken {
                     atom,
                     positive: true,

@@ -28,14 +28,14 @@ returns-then-not-next_branch-clause-tree c =
     let last = subst (λ (bs : List (List Literal)). Keeps (lists_of q) (pair_of q) atoms c.push.new.self bs) c.if-not-next_branch.ensures.branch kept in
     ends (lists_of q) (pair_of q) atoms c.push.new.self last
 
-pub steps-smaller-else-not-next_branch : goal.steps-smaller-else-not-next_branch
-steps-smaller-else-not-next_branch c =
+pub steps-smaller-in-Close : goal.steps-smaller-in-Close
+steps-smaller-in-Close c =
     let atoms = c.args.question.formulas.now.atoms in
     let ls = c.steps.valuation.literals in
     subst (λ (bs : List (List Literal)). work atoms bs < work atoms (ls ∷ pending [] ls)) (sym c.if-not-next_branch.ensures.branch) (less_leaf atoms ls (pending [] ls))
 
-pub steps-preserved-else-not-next_branch : goal.steps-preserved-else-not-next_branch
-steps-preserved-else-not-next_branch c =
+pub steps-preserved-in-Close : goal.steps-preserved-in-Close
+steps-preserved-in-Close c =
     let q = c.args.question in
     let atoms = q.formulas.now.atoms in
     let ls = c.steps.valuation.literals in
