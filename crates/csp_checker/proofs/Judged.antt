@@ -16,8 +16,8 @@ use Rattle.csp_proof.specs.declared.proof.Format.{Format}
 use Rattle.csp_proof.specs.declared.proof.Node.{Node}
 use Rattle.csp_proof.specs.declared.proof.Tree.{Tree}
 use Rattle.csp_table.specs.declared.table.FormulaTable.{FormulaTable}
-use Rattle.csp_valuation.specs.Placed.{sentence_at}
-use Rattle.csp_valuation.specs.declared.placing.PlacedFormulas.{PlacedFormulas}
+use Rattle.csp_placed.specs.Placed.{sentence_at}
+use Rattle.csp_placed.specs.declared.placing.PlacedFormulas.{PlacedFormulas}
 use Rattle.csp_checker.specs.Asked.{IsTableOf, IsAsked, IsFor, IsReached, AreKept, bad_in, bad_line, due, numbered, numbers_fit, lists_of, trees_of}
 use Rattle.csp_checker.specs.Checked.{Claim}
 use Rattle.csp_checker.specs.Walk.{walk, splits, splits_below}

@@ -16,8 +16,8 @@ use Rattle.csp_proof.specs.WellFormed.{Cases, Splits, IsBlocked, IsMet, preorder
 use Rattle.csp_proof.specs.declared.proof.Node.{Node}
 use Rattle.csp_proof.specs.declared.proof.Node.TheVariants.{Blocked, Met}
 use Rattle.csp_proof.proofs.CasesRead.{cases_back}
-use Rattle.csp_valuation.specs.Placed.{sentence_at}
-use Rattle.csp_valuation.specs.declared.placed.PlacedFormula.{PlacedFormula}
+use Rattle.csp_placed.specs.Placed.{sentence_at}
+use Rattle.csp_placed.specs.declared.placed.PlacedFormula.{PlacedFormula}
 use Rattle.csp_checker.specs.Leaves.{says_surely, keeps_rule, sayings_for}
 use Rattle.csp_checker.specs.Walk.{with, unless_first, walk}
 

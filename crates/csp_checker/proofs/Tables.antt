@@ -17,9 +17,9 @@ use Rattle.csp_proof.specs.declared.proof.Node.{Node}
 use Rattle.csp_proof.specs.declared.proof.Node.TheVariants as node
 use Rattle.csp_table.specs.Tables.{AreAt, said_of}
 use Rattle.csp_table.specs.declared.table.FormulaTable.{FormulaTable}
-use Rattle.csp_valuation.specs.Placed.{sentence_at}
+use Rattle.csp_placed.specs.Placed.{sentence_at}
 use Rattle.csp_valuation.specs.Valuations.{Assignment}
-use Rattle.csp_valuation.specs.declared.placing.PlacedFormulas.{PlacedFormulas}
+use Rattle.csp_placed.specs.declared.placing.PlacedFormulas.{PlacedFormulas}
 use Rattle.csp_checker.specs.Asked.{IsTableOf, unused}
 use Rattle.csp_checker.specs.Leaves.{Sayings, keeps_rule, says_surely, sayings_for}
 use Rattle.csp_checker.specs.Walk.{at_root, is_unmet, unless_first, walk, with}

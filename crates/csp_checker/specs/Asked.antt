@@ -13,7 +13,7 @@ use Rattle.csp_proof.specs.declared.proof.Tree.{Tree}
 use Rattle.csp_table.specs.Tables.{AreAt, formulas_at}
 use Rattle.csp_table.specs.declared.table.FormulaTable.{FormulaTable}
 use Rattle.csp_valuation.specs.Valuations.{Assignment}
-use Rattle.csp_valuation.specs.declared.placing.PlacedFormulas.{PlacedFormulas}
+use Rattle.csp_placed.specs.declared.placing.PlacedFormulas.{PlacedFormulas}
 use Rattle.csp_checker.specs.Walk.{splits_below, is_unmet_below, at_root}
 use Rattle.csp_checker.specs.declared.asked.Asked.{Asked}
 use Rattle.csp_checker.specs.declared.asked.NumberedPair.{NumberedPair}

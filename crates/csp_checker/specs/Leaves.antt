@@ -11,7 +11,7 @@ use Rattle.csp_proof.specs.Pairs.{Pair}
 use Rattle.csp_proof.specs.declared.proof.Node.{Node}
 use Rattle.csp_proof.specs.declared.proof.Node.TheVariants as node
 use Rattle.csp_table.specs.Tables.{said_of}
-use Rattle.csp_valuation.specs.Placed.{sentence_at}
+use Rattle.csp_placed.specs.Placed.{sentence_at}
 use Rattle.csp_checker.specs.declared.leaf.Judge.{Judge}
 
 -- the policies of the first list and what each says, and the same of one policy of the second

@@ -1,14 +1,15 @@
 //! The leaves of a tree, and what they are judged by.
-ghost use Rattle.std.specs.Prelude.{◌≡◌, Some, map, slice_get, true};
+ghost use Rattle.std.specs.Prelude.{◌≡◌, Some, false, map, slice_get, true};
 ghost use Rattle.csp_formula.specs.Surely.{surely};
 ghost use Rattle.csp_model.specs.Verdict.{is_enforce};
 ghost use Rattle.csp_proof.specs.Accepts as accepts;
-ghost use Rattle.csp_valuation.specs.Placed.{sentence_at};
+ghost use Rattle.csp_placed.specs.Placed.{sentence_at};
 ghost use Rattle.csp_checker.specs.Leaves as spec;
 
 use csp_model::{Disposition, List, PolicyList};
+use csp_placed::{IndexedFormula, PlacedFormula, PlacedFormulas};
 use csp_proof::Node;
-use csp_valuation::{Glance, Glimpse, PlacedFormula, PlacedFormulas, Valuation};
+use csp_valuation::{Glance, Glimpse, Valuation};
 
 // What the leaves of a tree are judged by: both lists with their formulas at the tree's shape, and the
 // number of its policy of the second list.
@@ -34,17 +35,9 @@ pub(crate) fn keeps_rule(
     match node {
         Node::Split { .. } => true,
         Node::Blocked { policy } => {
-            says_surely(
-                false,
-                judge.first,
-                &judge.formulas.first,
-                *policy,
-                valuation,
-                from,
-            )
+            says_false(judge.first, &judge.formulas.first, *policy, valuation)
         }
-        Node::Met => says_surely(
-            true,
+        Node::Met => says_true(
             judge.second,
             &judge.formulas.second,
             judge.policy,
@@ -54,16 +47,14 @@ pub(crate) fn keeps_rule(
     }
 }
 
-// Whether the policy of this number is enforced, and its formula surely has this value.
-fn says_surely(
-    expected: bool,
+// Whether the policy of this number is enforced, and its formula is surely false.
+fn says_false(
     list: &PolicyList,
-    formulas: &List<PlacedFormula>,
+    formulas: &List<IndexedFormula>,
     number: u32,
     valuation: &Valuation,
-    from: &mut Glance,
 ) -> bool
-    ensures { result ≡ spec.says_surely expected valuation.now.literals (slice_get list.now.policies number)
+    ensures { result ≡ spec.says_surely false valuation.now.literals (slice_get list.now.policies number)
         (slice_get (map (sentence_at valuation.now.atoms) formulas.now) number) }
 {
     let place = number as usize;
@@ -73,7 +64,28 @@ fn says_surely(
     let Some(formula) = formulas.get(place) else {
         return false;
     };
-    is_enforced(policy.disposition) && has_surely(expected, formula, valuation, from)
+    is_enforced(policy.disposition) && is_surely_false(formula, valuation)
+}
+
+// Whether it is enforced, and its formula is surely true.
+fn says_true(
+    list: &PolicyList,
+    formulas: &List<PlacedFormula>,
+    number: u32,
+    valuation: &Valuation,
+    from: &mut Glance,
+) -> bool
+    ensures { result ≡ spec.says_surely true valuation.now.literals (slice_get list.now.policies number)
+        (slice_get (map (sentence_at valuation.now.atoms) formulas.now) number) }
+{
+    let place = number as usize;
+    let Some(policy) = list.policies.get(place) else {
+        return false;
+    };
+    let Some(formula) = formulas.get(place) else {
+        return false;
+    };
+    is_enforced(policy.disposition) && is_surely_true(formula, valuation, from)
 }
 
 fn is_enforced(disposition: Disposition) -> bool
@@ -85,20 +97,26 @@ fn is_enforced(disposition: Disposition) -> bool
     }
 }
 
-// Whether the formula surely has this value.
-fn has_surely(
-    expected: bool,
-    formula: &PlacedFormula,
-    valuation: &Valuation,
-    from: &mut Glance,
-) -> bool
-    ensures { result ≡ accepts.is_surely expected
+// Whether the formula is surely false. Its index tells it soonest, where it does.
+fn is_surely_false(formula: &IndexedFormula, valuation: &Valuation) -> bool
+    ensures { result ≡ accepts.is_surely false
         (surely valuation.now.literals (sentence_at valuation.now.atoms formula.now)) }
 {
-    if expected && holds_at_a_glance(formula, valuation, from) {
+    if valuation.denies(formula) {
         return true;
     }
-    is_surely(expected, valuation.value_of(formula))
+    is_surely(false, valuation.value_of(formula.formula()))
+}
+
+// Whether the formula is surely true.
+fn is_surely_true(formula: &PlacedFormula, valuation: &Valuation, from: &mut Glance) -> bool
+    ensures { result ≡ accepts.is_surely true
+        (surely valuation.now.literals (sentence_at valuation.now.atoms formula.now)) }
+{
+    if holds_at_a_glance(formula, valuation, from) {
+        return true;
+    }
+    is_surely(true, valuation.value_of(formula))
 }
 
 fn holds_at_a_glance(formula: &PlacedFormula, valuation: &Valuation, from: &mut Glance) -> bool

@@ -10,8 +10,9 @@ ghost use Rattle.csp_checker.specs.Walk.{is_unmet, is_unmet_below, splits_below}
 use crate::asked::NumberedPair;
 use crate::walk::splits;
 use csp_model::{Disposition, Duplicate, Memory, PolicyList};
+use csp_placed::PlacedFormulas;
 use csp_proof::{Body, Node, Tree};
-use csp_valuation::{PlacedFormulas, Valuation};
+use csp_valuation::Valuation;
 use std::alloc::Global;
 
 // The numbers of the enforced policies, in order.

@@ -12,9 +12,10 @@ use crate::asked::{Asked, NumberedPair};
 use crate::before::{are_for_any, asks_the_same, place_of, was_walked};
 use crate::leaf::Judge;
 use crate::walk::first_bad;
+use csp_placed::PlacedFormulas;
 use csp_proof::{Body, Node, Tree};
 use csp_table::FormulaTable;
-use csp_valuation::{PlacedFormulas, Valuation};
+use csp_valuation::Valuation;
 
 // The line of the first failure of the whole proof.
 pub(crate) fn first_bad_line<'a>(

@@ -1,15 +1,15 @@
 -- Trees that show the pairs of all shapes are a proof.
-use Rattle.std.proofs.Common.{arith, ◌≡◌, ◌∙◌, sym, ap, subst, refl, ℕ, ◌+◌, ◌*◌, ◌<◌, ◌≤◌, ◌^◌, List, [], ◌∷◌, ◌++◌, length, map, take, get_or, append-nil}
+use Rattle.std.proofs.Common.{arith, ◌≡◌, ◌∙◌, sym, ap, subst, refl, ℕ, ◌+◌, ◌*◌, ◌<◌, ◌≤◌, ◌^◌, List, [], ◌∷◌, ◌++◌, length, map, take, append-nil}
 use Rattle.std.specs.Prelude.{None, IsTrue}
 use Rattle.std.specs.List.{flat_map}
-use Rattle.std.proofs.lemmas.List.{take_more, take_all}
+use Rattle.std.proofs.lemmas.List.{take_more}
 use Rattle.std.proofs.lemmas.List.Concat.{flat_map-append}
 use Rattle.std.proofs.Math.Nat.{mul-le-mul_left}
 use Rattle.csp_model.specs.Policies.{policy_limit}
 use Rattle.csp_shape.specs.Numbers.{number, shape_count}
 use Rattle.csp_shape.specs.Shapes.{is_shape}
 use Rattle.csp_shape.specs.declared.shape.Shape.{Shape}
-use Rattle.csp_proof.specs.Accepts.{Lists, IsAccepted, bad_from}
+use Rattle.csp_proof.specs.Accepts.{Lists, bad_from}
 use Rattle.csp_proof.specs.Pairs.{Pair, enforced, pairs, shapes}
 use Rattle.csp_proof.specs.WellFormed.{AreTrees, line_behind}
 use Rattle.csp_proof.specs.declared.proof.Format.{Format}

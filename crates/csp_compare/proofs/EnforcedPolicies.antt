@@ -1,5 +1,5 @@
 -- What the numbers of the enforced policies of a list are.
-use Rattle.std.proofs.Common.{arith, ◌≡◌, ◌∙◌, sym, ap, subst, refl, ℕ, ◌+◌, ◌<◌, ◌≤◌, suc, get_or, true, List, [], ◌∷◌, ◌++◌, length, append_assoc, inl, inr, All}
+use Rattle.std.proofs.Common.{arith, ◌≡◌, ◌∙◌, sym, subst, refl, ℕ, ◌+◌, ◌<◌, ◌≤◌, suc, get_or, true, List, [], ◌∷◌, ◌++◌, length, append_assoc, inl, inr, All}
 use Rattle.std.specs.Prelude.{Some, IsTrue, MatchOption, slice_get}
 use Rattle.std.proofs.lemmas.Bool.{cases_Bool, cond-true, cond-false}
 use Rattle.std.proofs.lemmas.List.{length_push}

@@ -1,6 +1,6 @@
 -- Numbers of trees that are known under a kind of formulas stay known, and become known.
-use Rattle.std.proofs.Common.{◌≡◌, ◌∙◌, sym, ap, subst, ℕ, Bool, true, cond, List, inl, inr}
-use Rattle.std.specs.Prelude.{Option, Some, slice_get}
+use Rattle.std.proofs.Common.{◌≡◌, ◌∙◌, sym, ap, subst, ℕ, cond, List, inl, inr}
+use Rattle.std.specs.Prelude.{Some, slice_get}
 use Rattle.std.specs.BTreeMap.{BTreeMap, get}
 use Rattle.std.specs.Global.{Vec}
 use Rattle.std.specs.Ordering.{nat_cmp, is_eq}
@@ -11,7 +11,7 @@ use Rattle.csp_proof.specs.Pairs.{Pair}
 use Rattle.csp_proof.specs.declared.proof.Tree.{Tree}
 use Rattle.csp_shape.specs.declared.shape.Shape.{Shape}
 use Rattle.csp_table.specs.Tables.{AreAt}
-use Rattle.csp_valuation.specs.declared.placing.PlacedFormulas.{PlacedFormulas}
+use Rattle.csp_placed.specs.declared.placing.PlacedFormulas.{PlacedFormulas}
 use Rattle.csp_compare.specs.Drafts.{Adds}
 use Rattle.csp_compare.specs.Tasks.{lists_of, IsTask, AreShown, AreKnown}
 use Rattle.csp_compare.specs.declared.task.Task.{Task}

@@ -1,7 +1,7 @@
 -- What is left of a formula has the formula's value, and is a constant exactly where the literals decide the
 -- formula.
-use Rattle.std.proofs.Common.{arith, ◌≡◌, ◌∙◌, sym, ap, subst, refl, ℕ, ◌<◌, Bool, true, false, not, ◌&&◌, ◌||◌, List, [], ◌∷◌, ◌++◌, length, map, inl, inr, All, ◌↔◌}
-use Rattle.std.specs.Prelude.{Option, Some, None, IfSome, IsSome, IsTrue, Contains, ◌⊎◌}
+use Rattle.std.proofs.Common.{arith, ◌≡◌, ◌∙◌, sym, ap, subst, refl, Bool, true, false, not, ◌&&◌, ◌||◌, List, [], ◌∷◌, map, inl, inr, All, ◌↔◌}
+use Rattle.std.specs.Prelude.{Option, Some, None, IfSome, IsSome, IsTrue, Contains}
 use Rattle.std.proofs.lemmas.List.Elements.{All-nil, All-cons}
 use Rattle.std.proofs.lemmas.List.Folds.{list_all-map}
 use Rattle.std.proofs.lemmas.Option.{same_Some}

@@ -1,7 +1,7 @@
 -- What is left of the and, or of the or, of formulas that are gone over one after another.
-use Rattle.std.proofs.Common.{arith, ◌≡◌, ◌∙◌, sym, ap, subst, refl, ℕ, ◌+◌, ◌<◌, get_or, drop, Bool, true, false, not, ◌&&◌, List, [], ◌∷◌, ◌++◌, length, map, append-nil, inl, inr, All}
-use Rattle.std.specs.Prelude.{Option, Some, None, IsTrue, Contains, ◌⊎◌}
-use Rattle.std.specs.List.{flat_map, list_all}
+use Rattle.std.proofs.Common.{arith, ◌≡◌, ◌∙◌, sym, ap, subst, refl, ℕ, ◌+◌, ◌<◌, get_or, drop, Bool, true, false, not, List, [], ◌∷◌, ◌++◌, length, map, append-nil, inl, inr, All}
+use Rattle.std.specs.Prelude.{Option, Some, None, Contains, ◌⊎◌}
+use Rattle.std.specs.List.{list_all}
 use Rattle.std.proofs.lemmas.Bool.{and_from}
 use Rattle.std.proofs.lemmas.List.{map_push, drop_more}
 use mathlib.Core.Bool.{beq}
@@ -10,13 +10,13 @@ use Rattle.std.proofs.lemmas.List.Elements.{All-nil, All-push, All-head, All-tai
 use Rattle.csp_atom.specs.Follows.{decided}
 use Rattle.csp_atom.specs.declared.atom.Atom.{Atom}
 use Rattle.csp_atom.specs.declared.atom.Literal.{Literal}
-use Rattle.csp_formula.specs.Sentences.{Sentence, Known, sentence_of}
+use Rattle.csp_formula.specs.Sentences.{Sentence, sentence_of}
 use Rattle.csp_formula.specs.Surely.{maybe_and, maybe_or, surely}
 use Rattle.csp_formula.specs.Values.{atoms_in}
 use Rattle.csp_formula.specs.declared.formula.Formula.{Formula}
 use Rattle.csp_formula.specs.declared.formula.Formula.TheVariants as formula
-use Rattle.csp_valuation.specs.Facts.{facts_of}
-use Rattle.csp_valuation.proofs.Gaining.{all_facts, any_facts}
+use Rattle.csp_placed.specs.Facts.{facts_of}
+use Rattle.csp_placed.proofs.Gaining.{all_facts, any_facts}
 use Rattle.csp_compare.specs.Residuals.{has_no_constant, KeepsValues, value_under, joined_by, IsUnsure, IsLeft}
 use Rattle.csp_compare.proofs.LeftOver.{says_Constant, surely_is}
 

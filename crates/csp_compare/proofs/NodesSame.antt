@@ -1,5 +1,5 @@
 -- The test that nodes are equal decides it.
-use Rattle.std.proofs.Common.{◌≡◌, ◌∙◌, sym, ap, refl, ℕ, Bool, true, false, List, []}
+use Rattle.std.proofs.Common.{◌≡◌, ap, refl, ℕ, Bool, List, []}
 use Rattle.std.specs.Bool.{Decides}
 use Rattle.std.specs.Cmp.Lexicographic.{pointwise_decides}
 use Rattle.std.proofs.lemmas.Bool.Decides.{Decides-eqb}

@@ -16,7 +16,7 @@ use Rattle.csp_proof.specs.declared.proof.Body.{Body}
 use Rattle.csp_proof.specs.declared.proof.Body.TheVariants as body
 use Rattle.csp_proof.specs.declared.proof.Tree.{Tree}
 use Rattle.csp_table.specs.Tables.{AreAt, said_of}
-use Rattle.csp_valuation.specs.declared.placing.PlacedFormulas.{PlacedFormulas}
+use Rattle.csp_placed.specs.declared.placing.PlacedFormulas.{PlacedFormulas}
 use Rattle.csp_compare.specs.Drafts.{at_shape, IsShown}
 
 policy_same : (expected : Bool) (hashes : List Hash) (kind other : Shape) (literals : List Literal) (ps : List Policy) (i : ℕ)

@@ -1,5 +1,5 @@
 -- One tree more keeps the nodes of trees different, and the numbers of those with nodes listed.
-use Rattle.std.proofs.Common.{arith, ◌≡◌, ◌≢◌, ◌∙◌, sym, ap, subst, refl, ℕ, ◌+◌, ◌*◌, ◌<◌, ◌^◌, zero, suc, true, cond, List, [], ◌∷◌, ◌++◌, length, append-nil, length-append, All, inl, inr}
+use Rattle.std.proofs.Common.{arith, ◌≡◌, ◌≢◌, ◌∙◌, sym, ap, subst, refl, ℕ, ◌+◌, ◌<◌, ◌^◌, zero, suc, true, cond, List, [], ◌∷◌, ◌++◌, length, append-nil, length-append, All, inl, inr}
 use Rattle.std.specs.Prelude.{Option, Some, None, Contains, AllPairs, MatchOption, ◌⊎◌}
 use Rattle.std.specs.List.{flat_map}
 use Rattle.std.specs.BTreeMap.{BTreeMap, get}

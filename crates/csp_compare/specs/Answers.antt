@@ -1,5 +1,5 @@
 -- What a comparison of two lists answers.
-use Rattle.std.specs.Prelude.{◌≡◌, ◌≢◌, Bool, true, false, List, [], ◌∷◌, ◌++◌, IsTrue, AllPairs}
+use Rattle.std.specs.Prelude.{◌≡◌, ◌≢◌, true, false, List, [], ◌∷◌, AllPairs}
 use Rattle.std.specs.List.{flat_map}
 use Rattle.csp_model.specs.Inclusion.{Subsumes}
 use Rattle.csp_model.specs.Validity.{IsValidCheck}

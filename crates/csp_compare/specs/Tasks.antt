@@ -12,7 +12,7 @@ use Rattle.csp_proof.specs.Pairs.{enforced}
 use Rattle.csp_proof.specs.declared.proof.Tree.{Tree}
 use Rattle.csp_shape.specs.declared.shape.Shape.{Shape}
 use Rattle.csp_table.specs.Tables.{AreAt}
-use Rattle.csp_valuation.specs.declared.placing.PlacedFormulas.{PlacedFormulas}
+use Rattle.csp_placed.specs.declared.placing.PlacedFormulas.{PlacedFormulas}
 use Rattle.csp_compare.specs.Answers.{IsCounterexample}
 use Rattle.csp_compare.specs.Drafts.{Adds, IsShown, at_shape}
 use Rattle.csp_compare.specs.declared.task.Task.{Task}

@@ -9,9 +9,10 @@ ghost use Rattle.csp_table.specs.Tables.{AreAt};
 use crate::draft::Draft;
 use crate::task::Task;
 use csp_model::{Check, Duplicate, Memory};
+use csp_placed::PlacedFormulas;
 use csp_search::{Found, Question, search};
 use csp_shape::{Shape, shape_number};
-use csp_valuation::{PlacedFormulas, Valuation};
+use csp_valuation::Valuation;
 use std::alloc::Global;
 
 // What comes of the pairs of one shape with each of the enforced policies.

@@ -11,7 +11,8 @@ use csp_formula::{Formula, compile, surely};
 use csp_model::{Check, Duplicate, List, Memory, Policy, PolicyList};
 use csp_pick::{can_pick, representative};
 use csp_shape::{Shape, shape_at};
-use csp_valuation::{PlacedFormula, Taken, Valuation, place_formulas};
+use csp_placed::{PlacedFormula, place_formulas};
+use csp_valuation::{Taken, Valuation};
 use csp_verdict::allows;
 use std::alloc::Global;
 use std::process::Abort;
@@ -187,7 +188,8 @@ fn decided_by_places(
     let known = literals(rt.alloc(), known)?;
     let formula = placed.first.get(0).ok_or("no formula")?;
     let atoms = placed.atoms.copy(rt.alloc())?;
-    Ok(decided_along(rt.alloc(), atoms, formula, known.as_slice())?)
+    let known = known.as_slice();
+    Ok(decided_along(rt.alloc(), atoms, formula.formula(), known)?)
 }
 
 #[test]

@@ -14,7 +14,7 @@ use Rattle.csp_shape.specs.declared.shape.Shape.{Shape}
 use Rattle.csp_cell.specs.Cells.{Covers, StandTogether}
 use Rattle.csp_pick.specs.Picks.{LeavesPorts, denies_port, denies_port_of}
 use Rattle.csp_table.specs.Tables.{AreAt, atoms_of, names_port}
-use Rattle.csp_valuation.specs.declared.placing.PlacedFormulas.{PlacedFormulas}
+use Rattle.csp_placed.specs.declared.placing.PlacedFormulas.{PlacedFormulas}
 use Rattle.csp_search.proofs.Lists.{AreApart, contains_filter, no_more, pairs_head, pairs_tail}
 
 -- Denials of different ports

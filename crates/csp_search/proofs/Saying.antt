@@ -13,11 +13,11 @@ use Rattle.csp_formula.specs.Compiled.{policy_sentence}
 use Rattle.csp_formula.specs.Sentences.{Sentence}
 use Rattle.csp_formula.specs.Surely.{surely}
 use Rattle.csp_valuation.specs.Glimpses.{Tells}
-use Rattle.csp_valuation.specs.Placed.{sentence_at}
+use Rattle.csp_placed.specs.Placed.{sentence_at}
 use Rattle.csp_valuation.specs.Valuations.{Assignment}
 use Rattle.csp_valuation.specs.declared.glance.Glimpse.{Glimpse}
 use Rattle.csp_valuation.specs.declared.glance.Glimpse.TheVariants as glimpse
-use Rattle.csp_valuation.specs.declared.placed.PlacedFormula.{PlacedFormula}
+use Rattle.csp_placed.specs.declared.placed.PlacedFormula.{PlacedFormula}
 use Rattle.csp_proof.specs.Accepts.{hashes_in, is_surely, policy_is, Lists}
 use Rattle.csp_search.specs.Leaves.{enforced_at, is_surely_at, IsDecidedAt, IsDecided, IsSurely, IsGlimpse, HasNoLeaf, LeavesNothing, IsOpen}
 use Rattle.csp_search.specs.Questions.{IsPosed, lists_of, pair_of}

@@ -8,11 +8,11 @@ use Rattle.csp_atom.specs.declared.atom.Literal.{Literal}
 use Rattle.csp_shape.specs.declared.shape.Shape.{Shape}
 use Rattle.csp_formula.specs.Compiled.{policy_sentence}
 use Rattle.csp_formula.specs.Surely.{surely}
-use Rattle.csp_valuation.specs.Placed.{sentence_at}
+use Rattle.csp_placed.specs.Placed.{sentence_at}
 use Rattle.csp_valuation.specs.Valuations.{Assignment, value_at}
 use Rattle.csp_valuation.specs.declared.glance.Glimpse.{Glimpse}
 use Rattle.csp_valuation.specs.declared.glance.Glimpse.TheVariants as glimpse
-use Rattle.csp_valuation.specs.declared.placed.PlacedFormula.{PlacedFormula}
+use Rattle.csp_placed.specs.declared.placed.PlacedFormula.{PlacedFormula}
 use Rattle.csp_proof.specs.Accepts.{Lists, blocks, hashes_in, is_met, is_surely}
 use Rattle.csp_proof.specs.Pairs.{Pair}
 use Rattle.csp_proof.specs.WellFormed.{IsValidNode}
@@ -23,14 +23,14 @@ use Rattle.csp_search.specs.declared.leaf.Step.TheVariants as step
 
 -- Formulas of policies
 
-abbrev pub where_enforced : Option Policy → Option PlacedFormula → Option PlacedFormula
+abbrev pub where_enforced : {F : Type 0} → Option Policy → Option F → Option F
 where_enforced None formula = None
 where_enforced (Some policy) None = None
 where_enforced (Some policy) (Some formula) =
     if is_enforce policy.disposition then Some formula else None
 
 -- the formula of the policy at this place, where it is enforced
-abbrev pub enforced_at : List Policy → List PlacedFormula → ℕ → Option PlacedFormula
+abbrev pub enforced_at : {F : Type 0} → List Policy → List F → ℕ → Option F
 enforced_at policies formulas place = where_enforced (slice_get policies place) (slice_get formulas place)
 
 -- the formula over these atoms surely has the value

@@ -1,12 +1,13 @@
 //! What a search keeps from node to node, so that it needn't look at whole formulas. No answer stands on it:
 //! hints that mislead cost time alone.
 ghost use Rattle.csp_valuation.specs.Glimpses.{Tells};
-ghost use Rattle.csp_valuation.specs.Placed.{sentence_at};
+ghost use Rattle.csp_placed.specs.Placed.{sentence_at};
 
 use crate::uses::Uses;
 use csp_atom::Atom;
 use csp_model::Memory;
-use csp_valuation::{Glance, Glimpse, PlacedFormula, Valuation};
+use csp_placed::PlacedFormula;
+use csp_valuation::{Glance, Glimpse, Valuation};
 use std::alloc::Global;
 
 // What was known where the path splits by the atom at this place.
@@ -22,17 +23,18 @@ struct Turn {
 enum Last {
     // No part.
     Nothing,
-    // Its own atom, which stands in one part, and the wide ones that it lies in.
-    OwnPart,
+    // The parts in which its own atom stands, which is at this place, and those of the wide ones that it lies
+    // in.
+    OwnParts { place: usize },
     // Any part.
     Anything,
 }
 
 #[derive(Debug, Drop)]
-pub(crate) struct Hints {
+pub(crate) struct Hints<'f> {
     // How the atoms stand in the formula of the policy of the second list. Those that most of its parts speak
     // of are split by first, which leaves one case for most parts, not two.
-    uses: Uses,
+    uses: Uses<'f>,
     // Where the next look at that formula begins, and at those of the first list.
     second: Glance,
     first: Vec<Glance>,
@@ -41,14 +43,14 @@ pub(crate) struct Hints {
     last: Last,
 }
 
-impl Hints {
+impl<'f> Hints<'f> {
     // At the root, for a formula of the second list over these atoms, and so many of the first list.
     pub(crate) fn new(
         alloc: Global,
-        formula: Option<&PlacedFormula>,
+        formula: Option<&'f PlacedFormula>,
         atoms: &[Atom],
         policies: usize,
-    ) -> Result<Hints, Memory> {
+    ) -> Result<Hints<'f>, Memory> {
         Ok(Hints {
             uses: Uses::new(alloc, formula, atoms)?,
             second: Glance::default(),
@@ -83,7 +85,10 @@ impl Hints {
     pub(crate) fn has_seen_all(&self, valuation: &Valuation) -> bool {
         match self.last {
             Last::Nothing => true,
-            Last::OwnPart => !self.uses.has_wide(valuation),
+            Last::OwnParts { place } => {
+                !self.uses.holds_with_wide(place, valuation)
+                    && !self.uses.may_have_true_part(place, valuation)
+            }
             Last::Anything => false,
         }
     }
@@ -97,11 +102,7 @@ impl Hints {
             second: self.second,
             first,
         })?;
-        self.last = if self.uses.stands_once(place) {
-            Last::OwnPart
-        } else {
-            Last::Anything
-        };
+        self.last = Last::OwnParts { place };
         Ok(())
     }
 

@@ -1,5 +1,7 @@
 //! The leaves of a tree of cases, and what a branch waits on that none ends.
 ghost use Rattle.std.specs.Prelude.{◌≡◌, IfSome, MatchOption, None, false, option_copied, slice_get, true, ⊤};
+ghost use Rattle.csp_formula.specs.Surely.{surely};
+ghost use Rattle.csp_placed.specs.Placed.{sentence_at};
 ghost use Rattle.csp_proof.specs.Accepts as rules;
 ghost use Rattle.csp_proof.specs.Accepts.{hashes_in, is_surely};
 ghost use Rattle.csp_search.specs.Leaves as spec;
@@ -10,15 +12,12 @@ ghost use Rattle.csp_valuation.specs.Valuations.{value_at};
 use crate::hints::Hints;
 use crate::searching::Question;
 use csp_model::{Disposition, Policy};
+use csp_placed::{IndexedFormula, PlacedFormula};
 use csp_proof::Node;
-use csp_valuation::{Glimpse, PlacedFormula, Standing, Valuation};
+use csp_valuation::{Glimpse, Standing, Valuation};
 
 // The formula of the policy at a place, where there is one and it is enforced.
-fn enforced_formula<'f>(
-    policies: &[Policy],
-    formulas: &'f [PlacedFormula],
-    place: usize,
-) -> Option<&'f PlacedFormula>
+fn enforced_formula<'f, F>(policies: &[Policy], formulas: &'f [F], place: usize) -> Option<&'f F>
     ensures { option_copied result ≡ spec.enforced_at policies.now formulas.now place }
 {
     let policy = policies.get(place)?;
@@ -31,7 +30,7 @@ fn enforced_formula<'f>(
 }
 
 // That of a policy of the first list.
-fn first_formula<'f>(question: Question<'f>, place: usize) -> Option<&'f PlacedFormula>
+fn first_formula<'f>(question: Question<'f>, place: usize) -> Option<&'f IndexedFormula>
     ensures { option_copied result
         ≡ spec.enforced_at question.entry.first.now.policies question.entry.formulas.now.first place }
 {
@@ -53,18 +52,43 @@ pub(crate) fn second_formula<'f>(question: Question<'f>) -> Option<&'f PlacedFor
     )
 }
 
-// Where a formula stands. Where there is none, as of a policy that isn't enforced, it has the other value
-// than the one that would end a branch.
-fn standing_of(formula: Option<&PlacedFormula>, ending: bool, valuation: &Valuation) -> Standing
-    ensures value { is_surely ending (value_in result) ≡ spec.is_surely_at
-        valuation.now.literals valuation.now.atoms ending (option_copied formula.entry) }
+// Where a formula of the first list stands. Its index is asked first. Where there is none, as of a policy that
+// isn't enforced, it doesn't block a branch.
+fn standing_of_first(formula: Option<&IndexedFormula>, valuation: &Valuation) -> Standing
+    ensures value { is_surely false (value_in result) ≡ spec.is_surely_at
+        valuation.now.literals valuation.now.atoms false (option_copied formula.entry) }
+    ensures waits { MatchOption (value_in result) ⊤
+        (λ _. spec.IsDecidedAt valuation.now.literals valuation.now.atoms (option_copied formula.entry)) }
+    ensures open { IsOpenAt valuation.now result }
+{
+    match formula {
+        Some(formula) => standing_by_index(formula, valuation),
+        None => Standing::Decided(true),
+    }
+}
+
+fn standing_by_index(formula: &IndexedFormula, valuation: &Valuation) -> Standing
+    ensures value { value_in result
+        ≡ surely valuation.now.literals (sentence_at valuation.now.atoms formula.now) }
+    ensures open { IsOpenAt valuation.now result }
+{
+    if valuation.denies(formula) {
+        return Standing::Decided(false);
+    }
+    valuation.standing_of(formula.formula())
+}
+
+// Where a formula of the second list stands. Where there is none, a branch isn't met.
+fn standing_of_second(formula: Option<&PlacedFormula>, valuation: &Valuation) -> Standing
+    ensures value { is_surely true (value_in result) ≡ spec.is_surely_at
+        valuation.now.literals valuation.now.atoms true (option_copied formula.entry) }
     ensures waits { MatchOption (value_in result) ⊤
         (λ _. spec.IsDecidedAt valuation.now.literals valuation.now.atoms (option_copied formula.entry)) }
     ensures open { IsOpenAt valuation.now result }
 {
     match formula {
         Some(formula) => valuation.standing_of(formula),
-        None => Standing::Decided(!ending),
+        None => Standing::Decided(false),
     }
 }
 
@@ -79,7 +103,7 @@ fn first_standing(question: Question, valuation: &Valuation, policy: usize) -> S
         (slice_get question.entry.first.now.policies policy)) }
     ensures open { IsOpenAt valuation.now result }
 {
-    standing_of(first_formula(question, policy), false, valuation)
+    standing_of_first(first_formula(question, policy), valuation)
 }
 
 // Where the policy of the second list stands. The branch is met where it surely allows each check of it.
@@ -93,7 +117,7 @@ fn second_standing(question: Question, valuation: &Valuation) -> Standing
         (slice_get question.entry.second.now.policies question.entry.policy)) }
     ensures open { IsOpenAt valuation.now result }
 {
-    standing_of(second_formula(question), true, valuation)
+    standing_of_second(second_formula(question), valuation)
 }
 
 // How a search goes on from a branch.
@@ -202,7 +226,7 @@ fn blocking(question: Question, valuation: &Valuation, hints: &mut Hints) -> Opt
 // Whether a short look tells that a policy of the first list may allow something.
 fn may_hold(question: Question, valuation: &Valuation, policy: usize, hints: &mut Hints) -> bool {
     match question.formulas.first.get(policy) {
-        Some(formula) => hints.may_hold(valuation, policy, formula),
+        Some(formula) => hints.may_hold(valuation, policy, formula.formula()),
         None => false,
     }
 }

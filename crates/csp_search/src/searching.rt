@@ -14,10 +14,11 @@ use crate::tree::find_tree;
 use csp_atom::Vocabulary;
 use csp_formula::laws::the_atoms_of_a_formula_are_of_its_shape;
 use csp_model::{Check, List, Memory, PolicyList};
+use csp_placed::PlacedFormulas;
 use csp_proof::Node;
 use csp_shape::Shape;
 use csp_source::laws::each_token_has_one_source;
-use csp_valuation::{PlacedFormulas, Valuation};
+use csp_valuation::Valuation;
 use std::alloc::Global;
 
 /// Whether a policy of the second list allows all checks of a shape that the first list allows.

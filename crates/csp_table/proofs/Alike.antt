@@ -3,12 +3,12 @@ use Rattle.std.proofs.Common.{◌≡◌, ◌∙◌, sym, ap, ap₂, ℕ, ◌+◌
 use Rattle.std.proofs.lemmas.List.{map_more}
 use Rattle.csp_atom.specs.declared.atom.Atom.{Atom}
 use Rattle.csp_formula.specs.Sentences.{Sentence, Not}
-use Rattle.csp_valuation.specs.Placed.{placed_step, sentence_at}
-use Rattle.csp_valuation.specs.declared.placed.PlacedFormula.{PlacedFormula}
-use Rattle.csp_valuation.specs.declared.placed.PlacedFormula.TheVariants.{Not as NotOf, rolls-Not}
-use Rattle.csp_valuation.specs.declared.placed.PlacedFormula.TheOpen.{PlacedFormula-F}
-use Rattle.csp_valuation.specs.declared.placed.PlacedFormula.TheFolds.{fold-roll-PlacedFormula}
-use Rattle.csp_valuation.specs.declared.placing.PlacedFormulas.{PlacedFormulas}
+use Rattle.csp_placed.specs.Placed.{placed_step, sentence_at}
+use Rattle.csp_placed.specs.declared.placed.PlacedFormula.{PlacedFormula}
+use Rattle.csp_placed.specs.declared.placed.PlacedFormula.TheVariants.{Not as NotOf, rolls-Not}
+use Rattle.csp_placed.specs.declared.placed.PlacedFormula.TheOpen.{PlacedFormula-F}
+use Rattle.csp_placed.specs.declared.placed.PlacedFormula.TheFolds.{fold-roll-PlacedFormula}
+use Rattle.csp_placed.specs.declared.placing.PlacedFormulas.{PlacedFormulas}
 use Rattle.csp_table.specs.Kinds.{SayAlike, AllSayAlike, SaysSame}
 
 pub placed_Not : (atoms : List Atom) (v : _) → sentence_at atoms (NotOf v) ≡ Not (sentence_at atoms v.value)

@@ -9,9 +9,9 @@ use Rattle.csp_shape.specs.declared.shape.Shape.{Shape}
 use Rattle.csp_formula.specs.Sentences.{sentence_of}
 use Rattle.csp_formula.specs.Values.{atoms_in}
 use Rattle.csp_formula.specs.declared.formula.Formula.{Formula}
-use Rattle.csp_valuation.specs.Facts.{facts_of}
-use Rattle.csp_valuation.specs.Placed.{sentence_at}
-use Rattle.csp_valuation.specs.declared.placing.PlacedFormulas.{PlacedFormulas}
+use Rattle.csp_placed.specs.Facts.{facts_of}
+use Rattle.csp_placed.specs.Placed.{sentence_at}
+use Rattle.csp_placed.specs.declared.placing.PlacedFormulas.{PlacedFormulas}
 use Rattle.csp_table.specs.Tables.{AreAt, said_of, atoms_of}
 
 facts_are : (formulas : List Formula) → facts_of formulas ≡ flat_map atoms_in (map sentence_of formulas)

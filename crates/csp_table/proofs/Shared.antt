@@ -11,7 +11,7 @@ use Rattle.csp_shape.specs.declared.shape.Shape.{Shape}
 use Rattle.csp_formula.specs.Compiled.{policy_sentence}
 use Rattle.csp_formula.specs.Sentences.{Sentence}
 use Rattle.csp_formula.specs.Values.{atoms_in}
-use Rattle.csp_valuation.specs.declared.placing.PlacedFormulas.{PlacedFormulas}
+use Rattle.csp_placed.specs.declared.placing.PlacedFormulas.{PlacedFormulas}
 use Rattle.csp_table.specs.declared.question.Question.{Question}
 use Rattle.csp_table.specs.declared.sharing.Earlier.{Earlier}
 use Rattle.csp_table.specs.declared.sharing.Sharing.{Sharing}

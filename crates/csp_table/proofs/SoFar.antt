@@ -8,7 +8,7 @@ use Rattle.csp_model.specs.declared.source.Hash.{Hash}
 use Rattle.csp_shape.specs.Numbers.{number}
 use Rattle.csp_shape.specs.Shapes.{is_shape}
 use Rattle.csp_shape.specs.declared.shape.Shape.{Shape}
-use Rattle.csp_valuation.specs.declared.placing.PlacedFormulas.{PlacedFormulas}
+use Rattle.csp_placed.specs.declared.placing.PlacedFormulas.{PlacedFormulas}
 use Rattle.csp_table.specs.Kinds.{Extends}
 use Rattle.csp_table.specs.Sharing.{HasFormulas}
 use Rattle.csp_table.specs.Tables.{AreAt}

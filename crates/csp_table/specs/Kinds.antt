@@ -1,9 +1,9 @@
 -- Formulas of shapes, of which equal ones are kept once.
 use Rattle.std.specs.Prelude.{◌≡◌, ℕ, List, ◌++◌, map, MatchOption, slice_get}
 use Rattle.csp_atom.specs.declared.atom.Atom.{Atom}
-use Rattle.csp_valuation.specs.Placed.{sentence_at}
-use Rattle.csp_valuation.specs.declared.placed.PlacedFormula.{PlacedFormula}
-use Rattle.csp_valuation.specs.declared.placing.PlacedFormulas.{PlacedFormulas}
+use Rattle.csp_placed.specs.Placed.{sentence_at}
+use Rattle.csp_placed.specs.declared.placed.PlacedFormula.{PlacedFormula}
+use Rattle.csp_placed.specs.declared.placing.PlacedFormulas.{PlacedFormulas}
 
 -- over each list of atoms the formulas say the same
 abbrev pub SayAlike : PlacedFormula → PlacedFormula → Type 0

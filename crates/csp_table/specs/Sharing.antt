@@ -4,7 +4,7 @@ use Rattle.csp_model.specs.declared.policy.Policy.{Policy}
 use Rattle.csp_model.specs.declared.policy.PolicyList.{PolicyList}
 use Rattle.csp_model.specs.declared.source.Hash.{Hash}
 use Rattle.csp_shape.specs.declared.shape.Shape.{Shape}
-use Rattle.csp_valuation.specs.declared.placing.PlacedFormulas.{PlacedFormulas}
+use Rattle.csp_placed.specs.declared.placing.PlacedFormulas.{PlacedFormulas}
 use Rattle.csp_table.specs.declared.question.Question.{Question}
 use Rattle.csp_table.specs.declared.sharing.Earlier.{Earlier}
 use Rattle.csp_table.specs.declared.sharing.Sharing.{Sharing}

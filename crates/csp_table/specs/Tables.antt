@@ -12,8 +12,8 @@ use Rattle.csp_shape.specs.declared.shape.Shape.{Shape}
 use Rattle.csp_formula.specs.Compiled.{policy_sentence}
 use Rattle.csp_formula.specs.Sentences.{Sentence}
 use Rattle.csp_formula.specs.Values.{atoms_in}
-use Rattle.csp_valuation.specs.Placed.{sentence_at}
-use Rattle.csp_valuation.specs.declared.placing.PlacedFormulas.{PlacedFormulas}
+use Rattle.csp_placed.specs.Placed.{sentence_at}
+use Rattle.csp_placed.specs.declared.placing.PlacedFormulas.{PlacedFormulas}
 use Rattle.csp_table.specs.declared.table.FormulaTable.{FormulaTable}
 
 -- what the policies of a list say of a shape, in order

@@ -8,8 +8,8 @@ ghost use Rattle.csp_table.specs.Tables.{AreAt};
 use csp_atom::Vocabulary;
 use csp_formula::{Formula, compile};
 use csp_model::{Memory, Policy, PolicyList};
+use csp_placed::{PlacedFormulas, place_formulas};
 use csp_shape::Shape;
-use csp_valuation::{PlacedFormulas, place_formulas};
 use std::alloc::Global;
 
 // What the policies of both lists say of the shape, over one list of atoms.

@@ -2,9 +2,9 @@
 ghost use Rattle.std.specs.Prelude.{IfOk, IfSome, IsTrue, OnOk};
 ghost use Rattle.csp_table.specs.Kinds as spec;
 
-use crate::same::{same_atoms, same_formulas};
+use crate::same::{same_atoms, same_formulas, same_indexed};
 use csp_model::{List, Memory};
-use csp_valuation::PlacedFormulas;
+use csp_placed::PlacedFormulas;
 
 // The place of formulas among the kinds. They are added where no kind equals them.
 pub(crate) fn keep(
@@ -40,7 +40,7 @@ fn place_of(kinds: &[PlacedFormulas], formulas: &PlacedFormulas) -> Option<usize
 fn is_same(one: &PlacedFormulas, other: &PlacedFormulas) -> bool
     ensures { IsTrue result → spec.SaysSame one.now other.now }
 {
-    same_formulas(one.first.as_slice(), other.first.as_slice())
+    same_indexed(one.first.as_slice(), other.first.as_slice())
         && same_formulas(one.second.as_slice(), other.second.as_slice())
         && same_atoms(one.atoms.as_slice(), other.atoms.as_slice())
 }

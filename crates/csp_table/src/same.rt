@@ -3,7 +3,7 @@ ghost use Rattle.std.specs.Prelude.{◌≡◌, ◌↔◌, IsTrue};
 ghost use Rattle.csp_table.specs.Kinds as spec;
 
 use csp_atom::Atom;
-use csp_valuation::PlacedFormula;
+use csp_placed::{IndexedFormula, PlacedFormula};
 
 // Whether the atoms are equal, and in the same order.
 pub(crate) fn same_atoms(one: &[Atom], other: &[Atom]) -> bool
@@ -48,6 +48,21 @@ pub(crate) fn same_formulas(one: &[PlacedFormula], other: &[PlacedFormula]) -> b
     }
     for (place, formula) in one.iter().enumerate() {
         if !same_formula(formula, &other[place]) {
+            return false;
+        }
+    }
+    true
+}
+
+// The same of formulas that have an index.
+pub(crate) fn same_indexed(ones: &[IndexedFormula], others: &[IndexedFormula]) -> bool
+    ensures { IsTrue result → spec.AllSayAlike ones.now others.now }
+{
+    if ones.len() != others.len() {
+        return false;
+    }
+    for (place, one) in ones.iter().enumerate() {
+        if !same_formula(one.formula(), others[place].formula()) {
             return false;
         }
     }

@@ -8,8 +8,8 @@ use crate::kinds::keep;
 use crate::question::{Question, question_at, same_questions};
 use csp_atom::Vocabulary;
 use csp_model::{List, Memory, Policy, PolicyList};
+use csp_placed::PlacedFormulas;
 use csp_shape::Shape;
-use csp_valuation::PlacedFormulas;
 use std::alloc::Global;
 
 // What a shape asked of the policies of each list, and the place of its formulas among the kinds. Where no

@@ -7,9 +7,9 @@ ghost use Rattle.csp_table.specs.Tables.{AreAt, formulas_at};
 use crate::sharing::{Sharing, place_at};
 use csp_atom::Vocabulary;
 use csp_model::{List, Memory, PolicyList};
+use csp_placed::PlacedFormulas;
 use csp_shape::laws::each_number_is_one_shape;
 use csp_shape::shape_at;
-use csp_valuation::PlacedFormulas;
 use std::alloc::Global;
 
 /// The formulas of two lists of policies at each shape. Shapes at which all formulas are equal share them.

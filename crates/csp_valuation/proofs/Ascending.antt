@@ -12,7 +12,8 @@ use Rattle.csp_atom.specs.declared.atom.Atom.{Atom}
 use Rattle.csp_atom.specs.declared.atom.Atom.TheVariants.{HostIs, HostUnder, HostDomain, PortIs, PathIs, PathUnder, SchemeIs, NonceIs, IntegrityHas, IntegrityOutside, DigestIs}
 use Rattle.csp_atom.specs.declared.atom.Literal.{Literal}
 use Rattle.csp_atom.specs.Order.{rank, atom_cmp}
-use Rattle.csp_valuation.specs.Reach.{Ascends, Covers, decides_itself_alone, first_rank, last_rank, is_before, is_after}
+use Rattle.csp_valuation.specs.Reach.{Covers, decides_itself_alone, first_rank, last_rank, is_before, is_after}
+use Rattle.csp_placed.specs.Facts.{Ascends}
 use Rattle.csp_atom.proofs.OrderLaws.{atom_total}
 use Rattle.csp_atom.proofs.SameAtom.{less_down}
 use Rattle.csp_valuation.proofs.ReachLaws.{none_before, none_after}

@@ -8,10 +8,10 @@ use Rattle.csp_atom.specs.Follows.{follows, follows_true, follows_false, false_w
 use Rattle.csp_atom.specs.Order.{rank}
 use Rattle.csp_atom.specs.declared.atom.Atom.{Atom}
 use Rattle.csp_atom.specs.declared.atom.Atom.TheVariants.{HostIs, PortIs, PathIs, SchemeIs, NonceIs}
-use Rattle.csp_valuation.specs.Marks.{answered, marked, all_marked, denied}
+use Rattle.csp_valuation.specs.Marks.{Decision, answered, marked, all_marked, denied}
 use Rattle.csp_valuation.specs.Paths.{literal_of, denial_of}
-use Rattle.csp_valuation.specs.Reach.{Ascends, Excludes, is_sole, excludes_its_kind}
-use Rattle.csp_valuation.specs.declared.marks.Decision.{Decision}
+use Rattle.csp_valuation.specs.Reach.{Excludes, is_sole, excludes_its_kind}
+use Rattle.csp_placed.specs.Facts.{Ascends}
 use Rattle.csp_valuation.specs.declared.taken.Taken.{Taken}
 use Rattle.csp_valuation.proofs.Ascending.{rank_up}
 

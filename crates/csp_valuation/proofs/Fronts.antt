@@ -11,7 +11,8 @@ use Rattle.std.specs.declared.cmp.Ordering.TheVariants.{Less, Equal, Greater}
 use Rattle.csp_atom.specs.declared.atom.Atom.{Atom}
 use Rattle.csp_atom.specs.declared.atom.Atom.TheVariants.{HostDomain, PathIs, PathUnder}
 use Rattle.csp_atom.specs.Order.{rank, atom_cmp}
-use Rattle.csp_valuation.specs.Reach.{Ascends, ArePlacesBelow, path_of, start_cmp, front_cmp}
+use Rattle.csp_valuation.specs.Reach.{ArePlacesBelow, path_of, start_cmp, front_cmp}
+use Rattle.csp_placed.specs.Facts.{Ascends}
 use Rattle.csp_valuation.proofs.Ascending.{rank_up}
 
 -- What goes up with the order

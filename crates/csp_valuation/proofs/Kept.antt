@@ -1,16 +1,17 @@
 -- A literal gave only marks that stand within its reach.
-use Rattle.std.proofs.Common.{◌≡◌, ◌∙◌, refl, sym, ℕ, ◌+◌, ◌≤◌, ◌<◌, Bool, List, [], ◌∷◌, ◌++◌, length, map, Option, Some, None, arith}
+use Rattle.std.proofs.Common.{◌≡◌, ◌∙◌, refl, sym, ap, ℕ, ◌+◌, ◌≤◌, ◌<◌, Bool, List, [], ◌∷◌, ◌++◌, length, map, Option, Some, None, arith, inl, inr}
 use Rattle.std.proofs.lemmas.Bool.Decides.{nat_tests}
-use Rattle.std.proofs.lemmas.List.{get_or-map, length-map}
+use Rattle.std.proofs.lemmas.List.{get_or-map, get_or_default, length-map}
 use Rattle.std.specs.List.{slice_index_or}
 use Rattle.csp_atom.specs.Follows.{follows}
 use Rattle.csp_atom.specs.declared.atom.Atom.{Atom}
 use Rattle.csp_atom.specs.declared.atom.Atom.TheVariants.{HostDomain}
 use Rattle.csp_atom.specs.declared.atom.Literal.{Literal}
-use Rattle.csp_valuation.specs.Marks.{answered, mark, cleared}
+use Rattle.csp_valuation.specs.Changes.{GaveOnly}
+use Rattle.csp_valuation.specs.Marks.{Decision, answered, mark, cleared}
+use Rattle.csp_placed.specs.Nesting.{Lists}
 use Rattle.csp_valuation.specs.Paths.{literal_of, literals_of}
 use Rattle.csp_valuation.specs.Reach.{Covers, KeepsOutside}
-use Rattle.csp_valuation.specs.declared.marks.Decision.{Decision}
 use Rattle.csp_valuation.specs.declared.taken.Taken.{Taken}
 use Rattle.csp_valuation.proofs.Marking.{mark_taken, literals_push, length_literals}
 use Rattle.csp_valuation.proofs.Within.{marked_none}
@@ -24,21 +25,21 @@ kept_before : (n m : ℕ) (ls : List Literal) (a : Atom) → n + length ls ≤ m
 kept_before n m [] a h = refl
 kept_before n m (l ∷ ls) a h = kept_answer (follows l a) n m (mark (n + 1) ls a) (omega arith) (kept_before (n + 1) m ls a (omega arith))
 
-kept_where : (n : ℕ) (ls : List Literal) (l : Literal) (a : Atom) → n ≡ length ls → follows l a ≡ None → cleared n (mark 0 (ls ++ l ∷ []) a) ≡ mark 0 (ls ++ l ∷ []) a
+kept_where : (n : ℕ) (ls : List Literal) (l : Literal) (a : Atom) → n ≡ length ls + 1 → follows l a ≡ None → cleared n (mark 1 (ls ++ l ∷ []) a) ≡ mark 1 (ls ++ l ∷ []) a
 kept_where n ls l a e none =
-    let same : mark 0 (ls ++ l ∷ []) a ≡ mark 0 ls a = mark_taken 0 ls l a ∙ marked_none l (0 + length ls) (mark 0 ls a) a none in
-    rw same (kept_before 0 n ls a (omega arith))
+    let same : mark 1 (ls ++ l ∷ []) a ≡ mark 1 ls a = mark_taken 1 ls l a ∙ marked_none l (1 + length ls) (mark 1 ls a) a none in
+    rw same (kept_before 1 n ls a (omega arith))
 
-kept_at : (n : ℕ) (ls : List Literal) (l : Literal) (atoms : List Atom) (j : ℕ) (d : Option Decision) → n ≡ length ls → j < length atoms
+kept_at : (n : ℕ) (ls : List Literal) (l : Literal) (atoms : List Atom) (j : ℕ) (d : Option Decision) → n ≡ length ls + 1 → j < length atoms
     → ((e : Atom) → follows l (slice_index_or atoms j e) ≡ None)
-    → cleared n (slice_index_or (map (mark 0 (ls ++ l ∷ [])) atoms) j d) ≡ slice_index_or (map (mark 0 (ls ++ l ∷ [])) atoms) j d
+    → cleared n (slice_index_or (map (mark 1 (ls ++ l ∷ [])) atoms) j d) ≡ slice_index_or (map (mark 1 (ls ++ l ∷ [])) atoms) j d
 kept_at n ls l atoms j d e h none =
-    rw (get_or-map (mark 0 (ls ++ l ∷ [])) atoms j HostDomain d h) (kept_where n ls l (slice_index_or atoms j HostDomain) e (none HostDomain))
+    rw (get_or-map (mark 1 (ls ++ l ∷ [])) atoms j HostDomain d h) (kept_where n ls l (slice_index_or atoms j HostDomain) e (none HostDomain))
 
-kept_outside : (n : ℕ) (ls : List Literal) (l : Literal) (atoms : List Atom) (start end : ℕ) → n ≡ length ls → Covers l atoms start end
-    → KeepsOutside n (map (mark 0 (ls ++ l ∷ [])) atoms) start end
+kept_outside : (n : ℕ) (ls : List Literal) (l : Literal) (atoms : List Atom) (start end : ℕ) → n ≡ length ls + 1 → Covers l atoms start end
+    → KeepsOutside n (map (mark 1 (ls ++ l ∷ [])) atoms) start end
 kept_outside n ls l atoms start end e reach =
-    let long : length (map (mark 0 (ls ++ l ∷ [])) atoms) ≡ length atoms = length-map atoms (mark 0 (ls ++ l ∷ [])) in
+    let long : length (map (mark 1 (ls ++ l ∷ [])) atoms) ≡ length atoms = length-map atoms (mark 1 (ls ++ l ∷ [])) in
     let inside = reach.inside in
     let ordered = reach.ordered in
     record {
@@ -49,7 +50,19 @@ kept_outside n ls l atoms start end e reach =
     }
 
 pub keeps_outside : (path later : List Taken) (s : Taken) (n : ℕ) (atoms : List Atom) (marks : List (Option Decision)) (start end : ℕ)
-    → marks ≡ map (mark 0 (literals_of path)) atoms → n ≡ length later → path ≡ later ++ s ∷ []
+    → marks ≡ map (mark 1 (literals_of path)) atoms → n ≡ length later + 1 → path ≡ later ++ s ∷ []
     → Covers (literal_of s) atoms start end → KeepsOutside n marks start end
 keeps_outside path later s n atoms marks start end b e p reach =
-    rw (b, p, literals_push later s) (kept_outside n (literals_of later) (literal_of s) atoms start end (e ∙ sym (length_literals later)) reach)
+    rw (b, p, literals_push later s) (kept_outside n (literals_of later) (literal_of s) atoms start end (e ∙ ap (λ k. k + 1) (sym (length_literals later))) reach)
+
+pub gives_only : (path later : List Taken) (s : Taken) (n : ℕ) (atoms : List Atom) (marks : List (Option Decision)) (listed : List ℕ)
+    → marks ≡ map (mark 1 (literals_of path)) atoms → n ≡ length later + 1 → path ≡ later ++ s ∷ []
+    → Lists (literal_of s) atoms listed → GaveOnly n marks listed
+gives_only path later s n atoms marks listed b e p lists j d h = elim (lists j HostDomain low) [
+  | inl none ↦ inl (rw (b, p, literals_push later s)
+      (kept_at n (literals_of later) (literal_of s) atoms j d (e ∙ ap (λ k. k + 1) (sym (length_literals later))) low (λ a. ap (follows (literal_of s)) (get_or_default atoms j a HostDomain low) ∙ none)))
+  | inr has ↦ inr has
+]
+  where
+    low : j < length atoms
+    low = omega (arith, ap length b, length-map atoms (mark 1 (literals_of path)))

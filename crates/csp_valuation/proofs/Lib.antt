@@ -1,12 +1,11 @@
 pub mod Ascending
+pub mod Changing
 pub mod Denying
-pub mod Finding
 pub mod FrontReach
 pub mod Fronts
-pub mod Gaining
+pub mod Hosts
 pub mod Kept
-pub mod Layers
-pub mod Listed
+pub mod Leads
 pub mod Looking
 pub mod Marking
 pub mod ReachLaws

@@ -7,11 +7,11 @@ use Rattle.csp_formula.proofs.Maybe.{maybe_and_assoc}
 use Rattle.csp_formula.specs.Sentences.{Sentence, Both, all_of, any_of}
 use Rattle.csp_formula.specs.Surely.{surely, maybe_and, maybe_or}
 use Rattle.csp_valuation.specs.Glimpses.{Tells}
-use Rattle.csp_valuation.specs.Placed.{sentence_at}
+use Rattle.csp_placed.specs.Placed.{sentence_at}
 use Rattle.csp_valuation.specs.Valuations.{Assignment}
 use Rattle.csp_valuation.specs.declared.glance.Glimpse.{Glimpse}
 use Rattle.csp_valuation.specs.declared.glance.Glimpse.TheVariants as glimpse
-use Rattle.csp_valuation.specs.declared.placed.PlacedFormula.{PlacedFormula}
+use Rattle.csp_placed.specs.declared.placed.PlacedFormula.{PlacedFormula}
 
 or_with_true : (x : Option Bool) → maybe_or x (Some true) ≡ Some true
 or_with_true (Some true) = refl

@@ -4,7 +4,7 @@ use Rattle.csp_atom.specs.declared.atom.Atom.{Atom}
 use Rattle.csp_atom.specs.declared.atom.Literal.{Literal}
 use Rattle.csp_formula.proofs.Maybe.{maybe_and_assoc, maybe_or_assoc}
 use Rattle.csp_formula.specs.Surely.{surely}
-use Rattle.csp_valuation.specs.Placed.{fact}
+use Rattle.csp_placed.specs.Placed.{fact}
 use Rattle.csp_valuation.specs.Valuations.{value_of_atom}
 
 -- a fact has the value of the atom at its place

@@ -6,12 +6,12 @@ use Rattle.std.specs.Option.{option_map}
 use Rattle.csp_atom.specs.Follows.{follows, decided, or_else}
 use Rattle.csp_atom.specs.declared.atom.Atom.{Atom}
 use Rattle.csp_atom.specs.declared.atom.Literal.{Literal}
-use Rattle.csp_valuation.specs.Marks.{mark}
+use Rattle.csp_valuation.specs.Marks.{Decision, value_of, mark}
 use Rattle.csp_valuation.specs.Paths.{literal_of, literals_of, settled_part, waiting_part}
 use Rattle.csp_valuation.specs.Valuations.{value_of_atom}
-use Rattle.csp_valuation.specs.declared.marks.Decision.{Decision}
 use Rattle.csp_valuation.specs.declared.taken.Taken.{Taken}
-use Rattle.csp_valuation.proofs.Marking.{value_of, value_mark, written}
+use Rattle.csp_valuation.proofs.Marking.{value_mark}
+use Rattle.csp_placed.proofs.Written.{written}
 
 -- the parts
 
@@ -45,30 +45,34 @@ abbrev value_found : Option (Option Decision) → Option Bool → Option Bool
 value_found None said = Some false
 value_found (Some m) said = or_else (value_of m) said
 
-found_atom : (ls ms : List Literal) (o : Option Atom) → value_found (option_map (mark 0 ls) o) (said_of ms o) ≡ value_of_atom (ls ++ ms) o
+found_atom : (ls ms : List Literal) (o : Option Atom) → value_found (option_map (mark 1 ls) o) (said_of ms o) ≡ value_of_atom (ls ++ ms) o
 found_atom ls ms None = refl
-found_atom ls ms (Some a) = ap (λ (v : Option Bool). or_else v (decided ms a)) (value_mark 0 ls a) ∙ sym (decided_joined ls ms a)
+found_atom ls ms (Some a) = ap (λ (v : Option Bool). or_else v (decided ms a)) (value_mark 1 ls a) ∙ sym (decided_joined ls ms a)
 
-value_found_at : (waits : Bool) (path : List Taken) (atoms : List Atom) (marks : List (Option Decision)) (place : ℕ) → marks ≡ map (mark 0 (literals_of (settled_part waits path))) atoms →
+value_found_at : (waits : Bool) (path : List Taken) (atoms : List Atom) (marks : List (Option Decision)) (place : ℕ) → marks ≡ map (mark 1 (literals_of (settled_part waits path))) atoms →
     value_found (slice_get marks place) (said_of (literals_of (waiting_part waits path)) (slice_get atoms place)) ≡ value_of_atom (literals_of path) (slice_get atoms place)
 value_found_at waits path atoms marks place b =
     let settled = literals_of (settled_part waits path) in
-    rw (b, slice_get-map (mark 0 settled) atoms place, literals_joined waits path) (found_atom settled (literals_of (waiting_part waits path)) (slice_get atoms place))
+    rw (b, slice_get-map (mark 1 settled) atoms place, literals_joined waits path) (found_atom settled (literals_of (waiting_part waits path)) (slice_get atoms place))
 
-pub value_where_marked : (waits : Bool) (path : List Taken) (atoms : List Atom) (marks : List (Option Decision)) (place : ℕ) (d : Decision) → marks ≡ map (mark 0 (literals_of (settled_part waits path))) atoms →
-    Some (Some d) ≡ slice_get marks place → Some d.value ≡ value_of_atom (literals_of path) (slice_get atoms place)
-value_where_marked waits path atoms marks place d b found =
-    ap (λ (m : Option (Option Decision)). value_found m (said_of (literals_of (waiting_part waits path)) (slice_get atoms place))) found ∙ value_found_at waits path atoms marks place b
+known_mark : (m : Option Decision) (said : Option Bool) → (value_of m ≡ None → ⊥) → value_of m ≡ value_found (Some m) said
+known_mark None said h = absurd (h refl)
+known_mark (Some d) said h = refl
 
-pub value_past : (waits : Bool) (path : List Taken) (atoms : List Atom) (marks : List (Option Decision)) (place : ℕ) → marks ≡ map (mark 0 (literals_of (settled_part waits path))) atoms →
-    None ≡ slice_get marks place → Some false ≡ value_of_atom (literals_of path) (slice_get atoms place)
-value_past waits path atoms marks place b found =
-    ap (λ (m : Option (Option Decision)). value_found m (said_of (literals_of (waiting_part waits path)) (slice_get atoms place))) found ∙ value_found_at waits path atoms marks place b
+unknown_mark : (m : Option Decision) (said : Option Bool) → value_of m ≡ None → said ≡ value_found (Some m) said
+unknown_mark m said e = rw e refl
 
-pub value_where_unmarked : (waits : Bool) (path : List Taken) (atoms : List Atom) (marks : List (Option Decision)) (place : ℕ) (a : Atom) (said : Option Bool) → marks ≡ map (mark 0 (literals_of (settled_part waits path))) atoms →
-    Some None ≡ slice_get marks place → a ≡ get_or atoms place a → said ≡ decided (literals_of (waiting_part waits path)) a → said ≡ value_of_atom (literals_of path) (slice_get atoms place)
-value_where_unmarked waits path atoms marks place a said b found at e =
+pub value_where_marked : (waits : Bool) (path : List Taken) (atoms : List Atom) (marks : List (Option Decision)) (place : ℕ) (m : Option Decision) → marks ≡ map (mark 1 (literals_of (settled_part waits path))) atoms →
+    Some m ≡ slice_get marks place → (value_of m ≡ None → ⊥) → value_of m ≡ value_of_atom (literals_of path) (slice_get atoms place)
+value_where_marked waits path atoms marks place m b found known =
+    let said = said_of (literals_of (waiting_part waits path)) (slice_get atoms place) in
+    known_mark m said known ∙ ap (λ (o : Option (Option Decision)). value_found o said) found ∙ value_found_at waits path atoms marks place b
+
+pub value_where_unmarked : (waits : Bool) (path : List Taken) (atoms : List Atom) (marks : List (Option Decision)) (place : ℕ) (m : Option Decision) (a : Atom) (said : Option Bool) → marks ≡ map (mark 1 (literals_of (settled_part waits path))) atoms →
+    Some m ≡ slice_get marks place → value_of m ≡ None → a ≡ get_or atoms place a → said ≡ decided (literals_of (waiting_part waits path)) a → said ≡ value_of_atom (literals_of path) (slice_get atoms place)
+value_where_unmarked waits path atoms marks place m a said b found unknown at e =
     let waiting = literals_of (waiting_part waits path) in
-    let within : place < length atoms = omega (arith, slice_get_within marks place None (sym found), ap length b, length-map atoms (mark 0 (literals_of (settled_part waits path)))) in
+    let within : place < length atoms = omega (arith, slice_get_within marks place m (sym found), ap length b, length-map atoms (mark 1 (literals_of (settled_part waits path)))) in
     let here : Some a ≡ slice_get atoms place = sym (slice_get_read atoms (length atoms) place a refl within at) in
-    e ∙ ap (said_of waiting) here ∙ ap (λ (m : Option (Option Decision)). value_found m (said_of waiting (slice_get atoms place))) found ∙ value_found_at waits path atoms marks place b
+    e ∙ ap (said_of waiting) here ∙ unknown_mark m (said_of waiting (slice_get atoms place)) unknown
+    ∙ ap (λ (o : Option (Option Decision)). value_found o (said_of waiting (slice_get atoms place))) found ∙ value_found_at waits path atoms marks place b

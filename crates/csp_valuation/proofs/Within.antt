@@ -4,9 +4,8 @@ use Rattle.std.specs.List.{slice_index_or}
 use Rattle.csp_atom.specs.Follows.{follows}
 use Rattle.csp_atom.specs.declared.atom.Atom.{Atom}
 use Rattle.csp_atom.specs.declared.atom.Literal.{Literal}
-use Rattle.csp_valuation.specs.Marks.{marked, all_marked, cleared}
+use Rattle.csp_valuation.specs.Marks.{Decision, marked, all_marked, cleared}
 use Rattle.csp_valuation.specs.Reach.{Covers, KeepsOutside}
-use Rattle.csp_valuation.specs.declared.marks.Decision.{Decision}
 
 -- Marks
 

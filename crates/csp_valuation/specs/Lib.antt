@@ -1,9 +1,10 @@
-pub mod Facts
+pub mod Changes
+pub mod Denials
 pub mod Glimpses
-pub mod Keys
+pub mod Hosts
 pub mod Marks
 pub mod Paths
-pub mod Placed
 pub mod Reach
 pub mod Standings
 pub mod Valuations
+pub mod Words

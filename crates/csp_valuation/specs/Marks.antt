@@ -3,7 +3,15 @@ use Rattle.std.specs.Prelude.{ℕ, ◌+◌, ◌==◌, Bool, false, List, [], ◌
 use Rattle.csp_atom.specs.Follows.{follows}
 use Rattle.csp_atom.specs.declared.atom.Atom.{Atom}
 use Rattle.csp_atom.specs.declared.atom.Literal.{Literal}
-use Rattle.csp_valuation.specs.declared.marks.Decision.{Decision}
+
+-- a truth value, and the number of the literal that gave it
+pub record Decision : Type 0 where
+  pub value : Bool
+  pub by : ℕ
+
+abbrev pub value_of : Option Decision → Option Bool
+value_of None = None
+value_of (Some d) = Some d.value
 
 -- an answer of the literal with this number, else what comes
 abbrev pub answered : Option Bool → ℕ → Option Decision → Option Decision

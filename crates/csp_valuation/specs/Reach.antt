@@ -9,16 +9,10 @@ use Rattle.csp_atom.specs.Follows.{follows}
 use Rattle.csp_atom.specs.declared.atom.Atom.{Atom}
 use Rattle.csp_atom.specs.declared.atom.Atom.TheVariants.{HostIs, HostUnder, HostDomain, PortIs, PathIs, PathUnder, SchemeIs, NonceIs, IntegrityHas, IntegrityOutside, DigestIs}
 use Rattle.csp_atom.specs.declared.atom.Literal.{Literal}
-use Rattle.csp_valuation.specs.Marks.{cleared}
+use Rattle.csp_valuation.specs.Marks.{Decision, cleared}
 use Rattle.csp_atom.specs.Order.{rank, atom_cmp}
 use Rattle.csp_valuation.specs.Paths.{literal_of, denial_of}
-use Rattle.csp_valuation.specs.declared.marks.Decision.{Decision}
 use Rattle.csp_valuation.specs.declared.taken.Taken.{Taken}
-
--- no atom is above a later one
-abbrev pub Ascends : List Atom → Type 0
-Ascends atoms = (i j : ℕ) (d : Atom) → i ≤ j → j < length atoms
-    → is_gt (atom_cmp (slice_index_or atoms i d) (slice_index_or atoms j d)) ≡ false
 
 -- the literal of this atom and sign decides no other atom
 abbrev pub decides_itself_alone : Atom → Bool → Bool

@@ -3,13 +3,13 @@ ghost use Rattle.std.specs.Prelude.{◌≡◌, map, slice_get};
 ghost use Rattle.csp_formula.specs.Sentences.{Sentence, Both, all_of, any_of};
 ghost use Rattle.csp_formula.specs.Surely.{surely};
 ghost use Rattle.csp_valuation.specs.Glimpses.{Tells};
-ghost use Rattle.csp_valuation.specs.Placed.{fact, sentence_at};
+ghost use Rattle.csp_placed.specs.Placed.{fact, sentence_at};
 ghost use Rattle.csp_valuation.specs.Standings.{IsOpenAt, value_in};
 ghost use Rattle.csp_valuation.specs.Valuations.{Assignment};
 
-use crate::placed::PlacedFormula;
 use crate::standing::{Standing, standing_under};
 use crate::valuation::Valuation;
+use csp_placed::PlacedFormula;
 
 // At how many parts of an or one look looks.
 const FEW: usize = 16;

@@ -1,20 +1,91 @@
 //! What is decided of each atom of a list, and which literal of the path decided it.
-ghost use Rattle.std.specs.Prelude.{◌≡◌, ◌≤◌, None, false, length, map};
+ghost use Rattle.std.specs.Prelude.{◌≡◌, ◌<◌, ◌≤◌, None, Some, false, length, map};
 ghost use Rattle.std.specs.List.{AllWithin};
+ghost use Rattle.std.specs.Option.{is_some};
 ghost use Rattle.csp_atom.specs.Follows.{follows};
-ghost use Rattle.csp_valuation.specs.Marks.{all_marked, cleared, denied, forgotten};
+ghost use Rattle.csp_placed.specs.Nesting.{Lists};
+ghost use Rattle.csp_valuation.specs.Changes.{GaveOnly, cleared_at, marked_at};
+ghost use Rattle.csp_valuation.specs.Marks.{all_marked, cleared, denied, forgotten, value_of};
 ghost use Rattle.csp_valuation.specs.Paths.{denial_of, literal_of};
 ghost use Rattle.csp_valuation.specs.Reach.{Covers, Excludes, IsNear, KeepsOutside};
 
 use crate::reach::Reach;
 use crate::taken::Taken;
 use csp_atom::{Atom, follows_as};
+use std::marker::Model;
 
-// A truth value, and the number of the literal that gave it, where that of the root has 0.
+// What is decided of an atom: a truth value, and the number of the literal that gave it, where that of the
+// root has 1.
 #[derive(Clone, Copy, Debug)]
-pub(crate) struct Decision {
-    pub value: bool,
-    pub by: usize,
+pub(crate) struct Mark {
+    // 0 where nothing is decided, and the value is false.
+    by: usize,
+    value: bool,
+}
+
+impl Model for Mark {
+    ghost use Rattle.std.specs.Prelude.{◌≡◌, Option, false};
+    ghost use Rattle.csp_valuation.specs.Marks.{Decision};
+    ghost use Rattle.csp_valuation.specs.Words.{decision_of, number_in, truth_in, words_kept};
+
+    ghost Value = { Option Decision };
+
+    ghost view = { λ m. decision_of m.by m.value };
+
+    ghost invariant = { λ m. m.by ≡ 0 → m.value ≡ false };
+
+    ghost inverse = { λ d. record { by = number_in d; value = truth_in d } };
+
+    ghost inverse_ok = { λ m h. words_kept (λ n b. record { by = n; value = b }) m.by m.value h };
+}
+
+impl Mark {
+    pub(crate) fn none() -> Mark
+        ensures { result ≡ None }
+    {
+        Mark {
+            by: 0,
+            value: false,
+        }
+    }
+
+    fn given(value: bool, by: usize) -> Mark
+        requires { 0 < by }
+        ensures { result ≡ Some (record { value = value; by = by }) }
+    {
+        Mark { by, value }
+    }
+
+    pub(crate) fn value(self) -> Option<bool>
+        ensures { result ≡ value_of self }
+    {
+        if self.by == 0 { None } else { Some(self.value) }
+    }
+
+    fn is_marked(self) -> bool
+        ensures { result ≡ is_some self }
+    {
+        self.by != 0
+    }
+
+    // Marks as false what isn't marked.
+    fn deny(&mut self, by: usize)
+        requires { 0 < by }
+        ensures { self.new ≡ denied by self.old }
+    {
+        if self.by == 0 {
+            self.by = by;
+        }
+    }
+
+    // Takes back what the literal of this number gave.
+    fn clear(&mut self, by: usize)
+        ensures { self.new ≡ cleared by self.old }
+    {
+        if self.by == by {
+            *self = Mark::none();
+        }
+    }
 }
 
 // Marks the atoms that are not decided and that this literal decides, which stand within the reach. Those
@@ -24,11 +95,12 @@ pub(crate) fn mark_within(
     reach: Reach,
     near: Reach,
     kind_end: usize,
-    marks: &mut [Option<Decision>],
+    marks: &mut [Mark],
     atoms: &[Atom],
     literal: Taken,
     by: usize,
 )
+    requires numbered { 0 < by }
     requires long { length marks.old ≡ length atoms.now }
     requires covers { Covers (literal_of literal) atoms.now reach.start reach.end }
     requires near { Covers (denial_of literal) atoms.now near.start near.end }
@@ -52,11 +124,12 @@ pub(crate) fn mark_within(
 fn mark_by_kind(
     near: Reach,
     kind: usize,
-    marks: &mut [Option<Decision>],
+    marks: &mut [Mark],
     atoms: &[Atom],
     literal: Taken,
     by: usize,
 )
+    requires numbered { 0 < by }
     requires long { length marks.old ≡ length atoms.now }
     requires near { IsNear (denial_of literal) atoms.now near.start near.end }
     requires inside { kind ≤ length atoms.now }
@@ -71,7 +144,8 @@ fn mark_by_kind(
 
 // Marks atoms of the literal's kind, of which no other holds: once the near ones are marked, the rest are
 // false, and needn't be looked at.
-fn mark_kind(near: Reach, marks: &mut [Option<Decision>], atoms: &[Atom], literal: Taken, by: usize)
+fn mark_kind(near: Reach, marks: &mut [Mark], atoms: &[Atom], literal: Taken, by: usize)
+    requires numbered { 0 < by }
     requires long { length marks.old ≡ length atoms.now }
     requires near { IsNear (denial_of literal) atoms.now near.start near.end }
     requires kind { AllWithin (Excludes literal) atoms.now 0 (length atoms.now) }
@@ -88,27 +162,27 @@ fn mark_kind(near: Reach, marks: &mut [Option<Decision>], atoms: &[Atom], litera
 }
 
 // Marks as false what isn't marked.
-fn deny_all(marks: &mut [Option<Decision>], by: usize)
+fn deny_all(marks: &mut [Mark], by: usize)
+    requires { 0 < by }
     ensures { marks.new ≡ map (denied by) marks.old }
 {
     for mark in marks.iter_mut() {
-        if mark.is_none() {
-            *mark = Some(Decision { value: false, by });
-        }
+        mark.deny(by);
     }
 }
 
-fn mark_all(near: Reach, marks: &mut [Option<Decision>], atoms: &[Atom], literal: Taken, by: usize)
+fn mark_all(near: Reach, marks: &mut [Mark], atoms: &[Atom], literal: Taken, by: usize)
+    requires numbered { 0 < by }
     requires long { length marks.old ≡ length atoms.now }
     requires near { IsNear (denial_of literal) atoms.now near.start near.end }
     ensures { marks.new ≡ all_marked (literal_of literal.entry) by marks.old atoms.now }
 {
     for place in 0..marks.len() {
-        if let Some(_) = marks[place] {
+        if marks[place].is_marked() {
             continue;
         }
         if let Some(value) = says_of(literal, &atoms[place], near.has(place)) {
-            marks[place] = Some(Decision { value, by });
+            marks[place] = Mark::given(value, by);
         }
     }
 }
@@ -145,7 +219,7 @@ fn follows_apart(literal: Taken, atom: &Atom) -> Option<bool>
 }
 
 // Clears what the literal of this number decided, which stands within the reach.
-pub(crate) fn clear_within(reach: Reach, marks: &mut [Option<Decision>], by: usize)
+pub(crate) fn clear_within(reach: Reach, marks: &mut [Mark], by: usize)
     requires { KeepsOutside by marks.old reach.start reach.end }
     ensures { marks.new ≡ map (cleared by) marks.old }
 {
@@ -153,23 +227,72 @@ pub(crate) fn clear_within(reach: Reach, marks: &mut [Option<Decision>], by: usi
     clear_all(&mut marks[start..end], by);
 }
 
-fn clear_all(marks: &mut [Option<Decision>], by: usize)
+fn clear_all(marks: &mut [Mark], by: usize)
     ensures { marks.new ≡ map (cleared by) marks.old }
 {
     for mark in marks.iter_mut() {
-        if let Some(decision) = *mark {
-            if decision.by == by {
-                *mark = None;
-            }
-        }
+        mark.clear(by);
     }
 }
 
 // Clears everything.
-pub(crate) fn forget_all(marks: &mut [Option<Decision>])
+pub(crate) fn forget_all(marks: &mut [Mark])
     ensures { marks.new ≡ map forgotten marks.old }
 {
     for mark in marks.iter_mut() {
-        *mark = None;
+        *mark = Mark::none();
     }
+}
+
+// Marks the atoms that are not decided and that this literal decides, which stand at the listed places.
+pub(crate) fn mark_listed(
+    listed: &[usize],
+    marks: &mut [Mark],
+    atoms: &[Atom],
+    literal: Taken,
+    by: usize,
+)
+    requires number { 0 < by }
+    requires long { length marks.old ≡ length atoms.now }
+    requires lists { Lists (literal_of literal) atoms.now listed.now }
+    ensures { marks.new ≡ all_marked (literal_of literal.entry) by marks.old atoms.now }
+{
+    for place in listed {
+        mark_at(*place, marks, atoms, literal, by);
+    }
+}
+
+fn mark_at(place: usize, marks: &mut [Mark], atoms: &[Atom], literal: Taken, by: usize)
+    requires number { 0 < by }
+    requires long { length marks.old ≡ length atoms.now }
+    ensures { marks.new ≡ marked_at (literal_of literal.entry) by place marks.old atoms.now }
+{
+    if place >= marks.len() {
+        return;
+    }
+    if marks[place].is_marked() {
+        return;
+    }
+    if let Some(value) = follows_as(literal.atom, literal.positive, &atoms[place]) {
+        marks[place] = Mark::given(value, by);
+    }
+}
+
+// Clears what the literal of this number gave at the listed places, outside of which it gave nothing.
+pub(crate) fn clear_listed(listed: &[usize], marks: &mut [Mark], by: usize)
+    requires { GaveOnly by marks.old listed.now }
+    ensures { marks.new ≡ map (cleared by) marks.old }
+{
+    for place in listed {
+        clear_at(*place, marks, by);
+    }
+}
+
+fn clear_at(place: usize, marks: &mut [Mark], by: usize)
+    ensures { marks.new ≡ cleared_at by place marks.old }
+{
+    if place >= marks.len() {
+        return;
+    }
+    marks[place].clear(by);
 }

@@ -1,6 +1,8 @@
 //! The places of the atoms that a literal can decide, where the atoms of a list ascend.
-ghost use Rattle.std.specs.Prelude.{◌≡◌, ◌≤◌, ◌<◌, ◌↔◌, ◌-◌, IsTrue, true};
+ghost use Rattle.std.specs.Prelude.{◌≡◌, ◌≤◌, ◌<◌, ◌↔◌, ◌-◌, IsTrue, MatchOption, true};
 ghost use Rattle.std.specs.List.{AllWithin};
+ghost use Rattle.csp_placed.specs.Facts.{Ascends};
+ghost use Rattle.csp_placed.specs.Nesting.{Lists, Nests};
 ghost use Rattle.csp_valuation.specs.Paths.{denial_of, literal_of};
 ghost use Rattle.csp_valuation.specs.Reach as spec;
 
@@ -8,6 +10,7 @@ use crate::taken::Taken;
 use csp_atom::Atom;
 use csp_atom::order::{compare, compare_paths, rank};
 use csp_model::Bytes;
+use csp_placed::listed_at;
 use std::cmp::Ordering;
 
 // The places from `start` on, up to `end` and without it.
@@ -38,7 +41,7 @@ impl Reach {
 
 // Whether no atom is above a later one.
 pub(crate) fn ascends(atoms: &[Atom]) -> bool
-    ensures { result ≡ true → spec.Ascends atoms.now }
+    ensures { result ≡ true → Ascends atoms.now }
 {
     for place in 1..atoms.len() {
         if compare(&atoms[place - 1], &atoms[place]).is_gt() {
@@ -50,7 +53,7 @@ pub(crate) fn ascends(atoms: &[Atom]) -> bool
 
 // Places outside of which the literal decides no atom: all, where it isn't known that the atoms ascend.
 pub(crate) fn reach_of(literal: Taken, atoms: &[Atom], ascending: bool) -> Reach
-    requires { ascending ≡ true → spec.Ascends atoms.now }
+    requires { ascending ≡ true → Ascends atoms.now }
     ensures { spec.Covers (literal_of literal.entry) atoms.now result.start result.end }
 {
     if ascending {
@@ -63,10 +66,31 @@ pub(crate) fn reach_of(literal: Taken, atoms: &[Atom], ascending: bool) -> Reach
     }
 }
 
+// The places of the atoms that the literal decides, where they are listed: where it denies a suffix that
+// stands in the list.
+pub(crate) fn listed_under<'b>(
+    literal: Taken,
+    below: &'b [Vec<usize>],
+    atoms: &[Atom],
+    ascending: bool,
+) -> Option<&'b [usize]>
+    requires ascends { ascending ≡ true → Ascends atoms.now }
+    requires nests { Nests atoms.now below.now }
+    ensures { MatchOption result (Unit {0})
+        (λ listed. Lists (literal_of literal.entry) atoms.now listed.now) }
+{
+    match literal.atom {
+        Atom::HostUnder(suffix) if ascending && !literal.positive => {
+            listed_at(suffix.as_str().as_bytes(), below, atoms)
+        }
+        _ => None,
+    }
+}
+
 // Places outside of which the denial of the literal's atom decides no atom, where this is the literal's
 // reach.
 pub(crate) fn near_of(literal: Taken, reach: Reach, atoms: &[Atom], ascending: bool) -> Reach
-    requires ascends { ascending ≡ true → spec.Ascends atoms.now }
+    requires ascends { ascending ≡ true → Ascends atoms.now }
     requires covers { spec.Covers (literal_of literal) atoms.now reach.start reach.end }
     ensures { spec.Covers (denial_of literal.entry) atoms.now result.start result.end }
 {
@@ -83,7 +107,7 @@ pub(crate) fn near_of(literal: Taken, reach: Reach, atoms: &[Atom], ascending: b
 // The end of the atoms of the literal's kind, which stand first in its reach, if no other of the kind holds
 // with it. Else, or where it isn't known that the atoms ascend, the start of the reach.
 pub(crate) fn kind_end_of(literal: Taken, reach: Reach, atoms: &[Atom], ascending: bool) -> usize
-    requires ascends { ascending ≡ true → spec.Ascends atoms.now }
+    requires ascends { ascending ≡ true → Ascends atoms.now }
     requires covers { spec.Covers (literal_of literal) atoms.now reach.start reach.end }
     ensures start { reach.start ≤ result }
     ensures end { result ≤ reach.end }
@@ -118,7 +142,7 @@ fn excludes_its_kind(literal: Taken) -> bool
 }
 
 fn reach_by_order(literal: Taken, atoms: &[Atom]) -> Reach
-    requires { spec.Ascends atoms.now }
+    requires { Ascends atoms.now }
     ensures { spec.Covers (literal_of literal.entry) atoms.now result.start result.end }
 {
     match literal.atom {
@@ -130,7 +154,7 @@ fn reach_by_order(literal: Taken, atoms: &[Atom]) -> Reach
 // The place of the literal's own atom, where it decides that alone, or else those of the kinds on the same
 // part of a check.
 fn reach_by_kind(literal: Taken, atoms: &[Atom]) -> Reach
-    requires { spec.Ascends atoms.now }
+    requires { Ascends atoms.now }
     ensures { spec.Covers (literal_of literal.entry) atoms.now result.start result.end }
 {
     let start = atoms.partition_point(|atom| is_before(literal, atom));
@@ -199,7 +223,7 @@ fn last_rank(atom: &Atom) -> u8
 // The reach of the denial that the path lies under this front: from the first file below the front, or else
 // the first front, to the last front.
 fn reach_below(front: &[Bytes], atoms: &[Atom]) -> Reach
-    requires { spec.Ascends atoms.now }
+    requires { Ascends atoms.now }
     ensures { spec.Covers (spec.denied_front front.now) atoms.now result.start result.end }
 {
     let files = places_below(front, 4, atoms);
@@ -217,7 +241,7 @@ fn reach_below(front: &[Bytes], atoms: &[Atom]) -> Reach
 
 // The places of the atoms of a kind, given by its rank, whose paths begin with the front.
 fn places_below(front: &[Bytes], kind: u8, atoms: &[Atom]) -> Reach
-    requires { spec.Ascends atoms.now }
+    requires { Ascends atoms.now }
     ensures { spec.ArePlacesBelow front.now kind atoms.now result.start result.end }
 {
     let start = atoms.partition_point(|atom| compare_to_front(atom, kind, front).is_lt());

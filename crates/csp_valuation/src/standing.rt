@@ -2,12 +2,12 @@
 ghost use Rattle.std.specs.Prelude.{◌≡◌, Some, map, true};
 ghost use Rattle.csp_formula.specs.Sentences.{all_of};
 ghost use Rattle.csp_formula.specs.Surely.{surely, maybe_and, maybe_or, maybe_not};
-ghost use Rattle.csp_valuation.specs.Placed.{sentence_at};
+ghost use Rattle.csp_placed.specs.Placed.{sentence_at};
 ghost use Rattle.csp_valuation.specs.Standings.{IsOpenAt, value_in};
 ghost use Rattle.csp_valuation.specs.Valuations.{Assignment, value_at};
 
-use crate::placed::PlacedFormula;
 use crate::valuation::Valuation;
+use csp_placed::PlacedFormula;
 
 /// What a path decides of a formula.
 #[derive(Clone, Copy, Debug)]

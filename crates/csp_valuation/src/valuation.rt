@@ -1,24 +1,27 @@
 //! The partial assignment that the literals of a path give.
 ghost use Rattle.std.specs.Prelude.{◌≡◌, ◌<◌, ◌++◌, [], ◌∷◌, ℕ, length, map, true};
-ghost use Rattle.std.specs.Prelude.{IfOk, MatchOption, IsSome, None};
+ghost use Rattle.std.specs.Prelude.{IfOk, IfSome, MatchOption, IsSome, None, Some, false};
 ghost use Rattle.csp_atom.specs.Follows.{decided};
 ghost use Rattle.csp_formula.specs.Surely.{surely};
+ghost use Rattle.csp_valuation.specs.Denials.{AreDenied};
 ghost use Rattle.csp_valuation.specs.Glimpses.{Tells};
 ghost use Rattle.csp_valuation.specs.Marks.{mark};
+ghost use Rattle.csp_placed.specs.Nesting.{Nests};
 ghost use Rattle.csp_valuation.specs.Paths.{literal_of, literals_of, settled_part, waiting_part};
-ghost use Rattle.csp_valuation.specs.Placed.{sentence_at};
-ghost use Rattle.csp_valuation.specs.Reach.{Ascends};
+ghost use Rattle.csp_placed.specs.Placed.{sentence_at};
+ghost use Rattle.csp_placed.specs.Facts.{Ascends};
 ghost use Rattle.csp_valuation.specs.Standings.{IsOpenAt, value_in};
 ghost use Rattle.csp_valuation.specs.Valuations.{value_at};
 
+use crate::denial::{Denied, denies_each, denies_indexed, host_with, host_without};
 use crate::glance::{Glance, Glimpse, look};
-use crate::marks::{Decision, clear_within, forget_all, mark_within};
-use crate::placed::PlacedFormula;
-use crate::reach::{ascends, kind_end_of, near_of, reach_of};
+use crate::marks::{Mark, clear_listed, clear_within, forget_all, mark_listed, mark_within};
+use crate::reach::{ascends, kind_end_of, listed_under, near_of, reach_of};
 use crate::standing::{Standing, standing_under};
 use crate::taken::Taken;
 use csp_atom::{Atom, follows_as};
 use csp_model::{List, Memory};
+use csp_placed::{IndexedFormula, PlacedFormula, nesting_of};
 use std::alloc::Global;
 use std::marker::Model;
 
@@ -29,25 +32,34 @@ use std::marker::Model;
 /// taken and taken back at once costs nothing. In a list that ascends, as `place_formulas` makes it, a
 /// literal that decides no atom but its own is marked and cleared by a binary search. The denial that a path
 /// lies under a front takes binary searches and time linear in the atoms from the first file below the front,
-/// or else the first front below it, to the last front below it; any other literal takes time linear in the
-/// atoms on the same part of a check. In other lists each literal takes time linear in all atoms.
+/// or else the first front below it, to the last front below it. The denial that a host lies under a suffix
+/// of the list takes a binary search and time linear in the atoms that it decides. Any other literal takes
+/// time linear in the atoms on the same part of a check. In other lists each literal takes time linear in all
+/// atoms.
 #[derive(Debug, Drop)]
 pub struct Valuation<'a> {
     atoms: Vec<Atom>,
-    marks: Vec<Option<Decision>>,
+    marks: Vec<Mark>,
     path: Vec<Taken<'a>>,
     room: usize,
     ascending: bool,
+    // For each place where a suffix stands, the places of the atoms that its denial decides, where the list
+    // ascends.
+    below: Vec<Vec<usize>>,
     // Whether the last literal of the path waits: what it decides isn't marked before another literal comes
     // after it.
     waits: bool,
+    // The number of the first literal of the path that says of hosts what holds.
+    host: Option<usize>,
 }
 
 impl<'a> Model for Valuation<'a> {
     ghost use Rattle.std.specs.Prelude.{◌≡◌, ◌≤◌, length, map, true, vec_capacity};
+    ghost use Rattle.csp_valuation.specs.Hosts.{IsFirstHost};
     ghost use Rattle.csp_valuation.specs.Marks.{mark};
+    ghost use Rattle.csp_placed.specs.Nesting.{Nests};
     ghost use Rattle.csp_valuation.specs.Paths.{literals_of, settled_part};
-    ghost use Rattle.csp_valuation.specs.Reach.{Ascends};
+    ghost use Rattle.csp_placed.specs.Facts.{Ascends};
     ghost use Rattle.csp_valuation.specs.Valuations.{Assignment};
 
     ghost Value = { Assignment };
@@ -59,9 +71,10 @@ impl<'a> Model for Valuation<'a> {
     } };
 
     ghost invariant = { λ v.
-        (v.marks.items ≡ map (mark 0 (literals_of (settled_part v.waits v.path.items))) v.atoms.items)
+        (v.marks.items ≡ map (mark 1 (literals_of (settled_part v.waits v.path.items))) v.atoms.items)
         × (length v.path.items ≤ v.room) × (v.room ≤ vec_capacity v.path)
-        × (v.ascending ≡ true → Ascends v.atoms.items) };
+        × (v.ascending ≡ true → Ascends v.atoms.items) × Nests v.atoms.items v.below.items
+        × IsFirstHost v.path.items v.host };
 }
 
 impl<'a> Valuation<'a> {
@@ -70,16 +83,19 @@ impl<'a> Valuation<'a> {
         ensures { IfOk result (λ made. made ≡ record { atoms = atoms; literals = []; room = room }) }
     {
         let atoms = atoms.into_vec();
-        let marks = vec![in alloc; None; atoms.len()]?;
+        let marks = vec![in alloc; Mark::none(); atoms.len()]?;
         let path = Vec::with_capacity(alloc, room)?;
         let ascending = ascends(&atoms);
+        let below = nesting_of(alloc, &atoms, ascending)?;
         Ok(Valuation {
             atoms,
             marks,
             path,
             room,
             ascending,
+            below,
             waits: false,
+            host: None,
         })
     }
 
@@ -95,7 +111,9 @@ impl<'a> Valuation<'a> {
             &mut self.marks,
             &self.atoms,
             self.ascending,
+            &self.below,
         );
+        self.host = host_with(self.host, &self.path, literal);
         self.path.push(literal).unwrap();
         self.waits = true;
     }
@@ -109,12 +127,17 @@ impl<'a> Valuation<'a> {
             × (length self.new.literals < self.new.room)) }
     {
         let last = self.path.pop()?;
+        self.host = host_without(self.host, &self.path);
         if self.waits {
             self.waits = false;
             return Some(last);
         }
+        if let Some(listed) = listed_under(last, &self.below, &self.atoms, self.ascending) {
+            clear_listed(listed, &mut self.marks, self.path.len() + 1);
+            return Some(last);
+        }
         let reach = reach_of(last, &self.atoms, self.ascending);
-        clear_within(reach, &mut self.marks, self.path.len());
+        clear_within(reach, &mut self.marks, self.path.len() + 1);
         Some(last)
     }
 
@@ -125,6 +148,7 @@ impl<'a> Valuation<'a> {
         forget_all(&mut self.marks);
         self.path.clear();
         self.waits = false;
+        self.host = None;
     }
 
     /// The atoms, each at its place.
@@ -145,10 +169,12 @@ impl<'a> Valuation<'a> {
     pub fn value(&self, place: usize) -> Option<bool>
         ensures { result ≡ value_at self.now place }
     {
-        match self.marks.get(place) {
-            Some(Some(decision)) => Some(decision.value),
-            Some(None) => said_by_last(self.waits, &self.path, &self.atoms[place]),
-            None => Some(false),
+        let Some(mark) = self.marks.get(place) else {
+            return Some(false);
+        };
+        match mark.value() {
+            None => said_by_last(self.waits, &self.path, &self.atoms[place]),
+            known => known,
         }
     }
 
@@ -180,6 +206,45 @@ impl<'a> Valuation<'a> {
         ensures open { IsOpenAt self.now result }
     {
         standing_under(self, formula)
+    }
+
+    /// Whether the path surely makes the formula false, as far as its index tells soon: where the path says
+    /// which host it is, the parts that begin with another one aren't looked at. Where this is false, the
+    /// formula may be false all the same.
+    pub fn denies(&self, formula: &IndexedFormula) -> bool
+        ensures { result ≡ true
+            → surely self.now.literals (sentence_at self.now.atoms formula.now) ≡ Some false }
+    {
+        let Some(parts) = formula.parts() else {
+            return false;
+        };
+        let Some(denied) = self.denied() else {
+            return false;
+        };
+        denies_indexed(self, parts, denied)
+            && denies_each(self, parts.before)
+            && denies_each(self, parts.after)
+    }
+
+    // The places of the hosts that the path denies, where it says which host it is: all but the near ones.
+    fn denied(&self) -> Option<Denied>
+        ensures { IfSome result (AreDenied self.now) }
+    {
+        let literal = self.path[self.host?];
+        let Atom::HostIs(_) = literal.atom else {
+            return None;
+        };
+        let reach = reach_of(literal, &self.atoms, self.ascending);
+        let end = kind_end_of(literal, reach, &self.atoms, self.ascending);
+        if end <= reach.start {
+            return None;
+        }
+        let near = near_of(literal, reach, &self.atoms, self.ascending);
+        Some(Denied {
+            start: reach.start,
+            end,
+            near,
+        })
     }
 
     /// The place of a fact of the formula that the path doesn't decide, nor any part of the formula that the
@@ -217,22 +282,28 @@ impl<'a> Valuation<'a> {
 fn settle(
     waits: bool,
     path: &[Taken],
-    marks: &mut [Option<Decision>],
+    marks: &mut [Mark],
     atoms: &[Atom],
     ascending: bool,
+    below: &[Vec<usize>],
 )
-    requires marked { marks.old ≡ map (mark 0 (literals_of (settled_part waits path.now))) atoms.now }
+    requires marked { marks.old ≡ map (mark 1 (literals_of (settled_part waits path.now))) atoms.now }
     requires ascends { ascending ≡ true → Ascends atoms.now }
-    ensures { marks.new ≡ map (mark 0 (literals_of path.now)) atoms.now }
+    requires nests { Nests atoms.now below.now }
+    ensures { marks.new ≡ map (mark 1 (literals_of path.now)) atoms.now }
 {
     if !waits {
         return;
     }
     if let Some((last, before)) = path.split_last() {
+        if let Some(listed) = listed_under(*last, below, atoms, ascending) {
+            mark_listed(listed, marks, atoms, *last, before.len() + 1);
+            return;
+        }
         let reach = reach_of(*last, atoms, ascending);
         let near = near_of(*last, reach, atoms, ascending);
         let kind_end = kind_end_of(*last, reach, atoms, ascending);
-        mark_within(reach, near, kind_end, marks, atoms, *last, before.len());
+        mark_within(reach, near, kind_end, marks, atoms, *last, before.len() + 1);
     }
 }
 

@@ -1,4 +1,4 @@
-use Rattle.std.proofs.Common.{arith, ◌≡◌, ap, sym, subst, ℕ, ◌≤◌, List, length}
+use Rattle.std.proofs.Common.{arith, ◌≡◌, ap, subst, ℕ, ◌≤◌, List, length}
 use Rattle.std.proofs.lemmas.List.{length-map}
 use Rattle.csp_model.specs.Policies.{policy_limit}
 use Rattle.csp_compare.specs.Drafts.{Shows, at_shape}

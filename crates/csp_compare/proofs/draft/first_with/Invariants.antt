@@ -1,4 +1,4 @@
-use Rattle.std.proofs.Common.{◌≡◌, ◌≢◌, take}
+use Rattle.std.proofs.Common.{◌≢◌}
 use Rattle.std.specs.Prelude.{Some}
 use Rattle.std.specs.List.{AllWithin}
 use Rattle.csp_proof.specs.WellFormed.{body_at}

@@ -4,7 +4,7 @@ use Rattle.std.specs.Option.{option_and_then}
 use Rattle.std.proofs.lemmas.Option.{MatchOption-at_some}
 use Rattle.csp_table.specs.Tables.{AreAt}
 use Rattle.csp_compare.specs.Drafts.{at_shape}
-use Rattle.csp_compare.specs.Tasks.{lists_of, AreShown, IsOutcome}
+use Rattle.csp_compare.specs.Tasks.{AreShown, IsOutcome}
 use Rattle.csp_compare.proofs.Known.{known_longer, known_insert}
 use Rattle.csp_compare.proofs.kinds.show_shape.Goals as goal
 

@@ -1,7 +1,7 @@
 use Rattle.std.proofs.Common.{◌∙◌, ◌+◌, ap, sym, subst, Bool, List, map, drop}
 use Rattle.std.specs.Prelude.{IfOk}
 use Rattle.std.proofs.lemmas.Result.{IfOk-weaker}
-use Rattle.csp_formula.specs.Sentences.{Sentence, Not, sentence_of}
+use Rattle.csp_formula.specs.Sentences.{Sentence, sentence_of}
 use Rattle.csp_formula.specs.declared.formula.Formula.{Formula}
 use Rattle.csp_formula.specs.declared.formula.Formula.TheVariants as formula
 use Rattle.std.specs.Global.{Vec}

@@ -4,7 +4,7 @@ use Rattle.csp_model.specs.Policies.{policy_limit}
 use Rattle.csp_compare.specs.Tasks.{lists_of}
 use Rattle.csp_compare.proofs.Adding.{share_more, share_all}
 use Rattle.csp_compare.proofs.EnforcedPolicies.{enforced_in}
-use Rattle.std.proofs.Common.{get_or, length, ◌≡◌}
+use Rattle.std.proofs.Common.{get_or, length}
 use Rattle.csp_compare.proofs.trees.share_shape.Goals as goal
 
 pub loop-place-preserved : goal.loop-place-preserved

@@ -1,7 +1,7 @@
 use Rattle.std.proofs.Common.{◌∙◌, ap, subst, true, Option, slice_get}
 use Rattle.csp_proof.specs.Accepts.{hashes_in}
 use Rattle.csp_valuation.specs.Standings.{value_in}
-use Rattle.csp_valuation.specs.declared.placed.PlacedFormula.{PlacedFormula}
+use Rattle.csp_placed.specs.declared.placed.PlacedFormula.{PlacedFormula}
 use Rattle.csp_search.specs.Leaves.{IsDecided, IsDecidedAt, is_surely_at}
 use Rattle.csp_search.specs.Questions.{lists_of}
 use Rattle.csp_search.proofs.Saying.{decided_said, second_says, match_weaker, value_said}
@@ -11,7 +11,7 @@ pub returns-clause-meets : goal.returns-clause-meets
 returns-clause-meets c =
     let q = c.args.question in
     let v = c.args.valuation.now in
-    c.standing_of.ensures.value ∙ ap (λ (f : Option PlacedFormula). is_surely_at v.literals v.atoms true f) c.second_formula.ensures
+    c.standing_of_second.ensures.value ∙ ap (λ (f : Option PlacedFormula). is_surely_at v.literals v.atoms true f) c.second_formula.ensures
     ∙ value_said (hashes_in (lists_of q)) q.shape v.literals v.atoms true q.second.now.policies q.formulas.now.second q.policy (second_says q v.atoms c.requires.posed c.requires.atoms)
 
 pub returns-clause-waits : goal.returns-clause-waits
@@ -20,6 +20,6 @@ returns-clause-waits c =
     let v = c.args.valuation.now in
     let hashes = hashes_in (lists_of q) in
     let policies = q.second.now.policies in
-    match_weaker _ (IsDecided hashes q.shape v.literals (slice_get policies q.policy)) (value_in c.standing_of.result)
+    match_weaker _ (IsDecided hashes q.shape v.literals (slice_get policies q.policy)) (value_in c.standing_of_second.result)
     (λ known. decided_said hashes q.shape v.literals v.atoms policies q.formulas.now.second q.policy (second_says q v.atoms c.requires.posed c.requires.atoms)
-    (subst (λ (f : Option PlacedFormula). IsDecidedAt v.literals v.atoms f) c.second_formula.ensures known)) c.standing_of.ensures.waits
+    (subst (λ (f : Option PlacedFormula). IsDecidedAt v.literals v.atoms f) c.second_formula.ensures known)) c.standing_of_second.ensures.waits

@@ -1,8 +1,8 @@
 use Rattle.std.proofs.Common.{◌≡◌, ◌∙◌, ap, sym, map, slice_get, ℕ, List, arith}
 use Rattle.std.proofs.lemmas.List.{take_all}
 use Rattle.csp_formula.specs.Sentences.{Sentence, Not, Both, all_of, any_of}
-use Rattle.csp_valuation.specs.Placed.{fact, sentence_at}
-use Rattle.csp_valuation.proofs.Layers.{placed_FactAnd, placed_Every, placed_OneOf}
+use Rattle.csp_placed.specs.Placed.{fact, sentence_at}
+use Rattle.csp_placed.proofs.Layers.{placed_FactAnd, placed_Every, placed_OneOf}
 use Rattle.csp_table.proofs.Alike.{placed_Not, alike_more}
 use Rattle.csp_table.proofs.same.+same.Goals as goal
 

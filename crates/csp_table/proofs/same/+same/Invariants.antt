@@ -1,6 +1,6 @@
 use Rattle.std.proofs.Common.{◌≡◌, List, map, take}
 use Rattle.csp_atom.specs.declared.atom.Atom.{Atom}
-use Rattle.csp_valuation.specs.Placed.{sentence_at}
+use Rattle.csp_placed.specs.Placed.{sentence_at}
 use Rattle.csp_table.proofs.same.+same.Given as goal
 
 abbrev pub invariant-same_formulas-loop-place : goal.invariant-same_formulas-loop-place

@@ -1,8 +1,8 @@
 use Rattle.std.proofs.Common.{arith, map, slice_get, take}
 use Rattle.std.proofs.lemmas.List.{take_all}
 use Rattle.csp_formula.specs.Sentences.{all_of}
-use Rattle.csp_valuation.specs.Placed.{fact, sentence_at}
-use Rattle.csp_valuation.proofs.Layers.{placed_FactAnd}
+use Rattle.csp_placed.specs.Placed.{fact, sentence_at}
+use Rattle.csp_placed.proofs.Layers.{placed_FactAnd}
 use Rattle.csp_valuation.proofs.Looking.{told_of_one, told_of_more}
 use Rattle.csp_valuation.proofs.glance.+look.Goals as goal
 

@@ -1,7 +1,7 @@
 use Rattle.std.proofs.Common.{map, take}
 use Rattle.csp_formula.specs.Sentences.{all_of}
 use Rattle.csp_valuation.specs.Glimpses.{Tells}
-use Rattle.csp_valuation.specs.Placed.{sentence_at}
+use Rattle.csp_placed.specs.Placed.{sentence_at}
 use Rattle.csp_valuation.proofs.glance.+look.Given as goal
 
 abbrev pub invariant-look_at_all-every : goal.invariant-look_at_all-every

@@ -1,7 +1,7 @@
 use Rattle.std.proofs.Common.{◌≡◌, drop, map}
 use Rattle.csp_formula.specs.Sentences.{all_of, any_of}
 use Rattle.csp_formula.specs.Surely.{surely, maybe_and, maybe_or}
-use Rattle.csp_valuation.specs.Placed.{sentence_at}
+use Rattle.csp_placed.specs.Placed.{sentence_at}
 use Rattle.csp_valuation.specs.Standings.{IsOpenAt, value_in}
 use Rattle.csp_valuation.proofs.standing.+standing_under.Given as goal
 

@@ -1,5 +1,6 @@
-use Rattle.std.proofs.Common.{arith, ◌≡◌, ◌∙◌, length, drop}
-use Rattle.csp_valuation.proofs.Marking.{written, all_forgotten}
+use Rattle.std.proofs.Common.{arith, refl, ◌≡◌, ◌∙◌, length, drop}
+use Rattle.csp_valuation.proofs.Marking.{all_forgotten}
+use Rattle.csp_placed.proofs.Written.{written}
 use Rattle.csp_valuation.specs.Paths.{literals_of, settled_part}
 use Rattle.csp_valuation.proofs.valuation.Valuation.clear.Goals as goal
 
@@ -13,4 +14,6 @@ invariant_of-self c =
       rw c.clear.ensures.items (omega arith),
       omega (arith, c.clear.ensures.capacity),
       c.self.invariant.3,
+      c.self.invariant.4,
+      rw c.clear.ensures.items refl,
     )

@@ -1,4 +1,4 @@
-use Rattle.std.proofs.Common.{arith, rules, ◌∙◌}
+use Rattle.std.proofs.Common.{arith, rules, refl, ◌∙◌}
 use Rattle.csp_valuation.proofs.Marking.{none_marked}
 use Rattle.csp_valuation.proofs.valuation.Valuation.new.Goals as goal
 
@@ -7,8 +7,10 @@ invariant_of-result c =
     let atoms = c.into_vec-atoms.result in
     let equal = c.in_ok-marks.ensures.items_if_clones_equal in
     let none = none_marked c.len.result atoms.items (omega (arith, atoms.ok.0)) in (
-      rw c.in_ok-path.ensures.items (equal (λ y r. search rules) ∙ none),
+      rw c.in_ok-path.ensures.items (equal (λ y r. search rules) ∙ rw c.none.ensures none),
       rw c.in_ok-path.ensures.items (omega arith),
       omega (arith, c.in_ok-path.ensures.exact),
       rw c.deref.ensures.value at c.ascends-ascending.ensures,
+      rw c.deref-2.ensures.value at c.in_ok-below.ensures,
+      rw c.in_ok-path.ensures.items refl,
     )

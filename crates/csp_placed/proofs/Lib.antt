@@ -1,0 +1,9 @@
+pub mod Finding
+pub mod Gaining
+pub mod Layers
+pub mod Leads
+pub mod Listed
+pub mod Measuring
+pub mod Noting
+pub mod Ors
+pub mod Written

@@ -1,0 +1,10 @@
+use Rattle.std.proofs.Common.{◌∙◌}
+use Rattle.std.proofs.lemmas.List.{drop_all}
+use Rattle.csp_valuation.specs.Paths.{literal_of}
+use Rattle.csp_valuation.proofs.Changing.{marked_listed}
+use Rattle.csp_valuation.proofs.marks.mark_listed.Goals as goal
+
+pub returns : goal.returns
+returns c =
+    let end = drop_all c.loop-place.place-index c.args.listed.now c.loop-place-test.false in
+    (rw end at c.loop-place.invariant.same) ∙ marked_listed (literal_of c.args.literal) c.args.by c.args.listed.now c.args.marks.now c.args.atoms.now c.requires.long c.requires.lists

@@ -1,0 +1,34 @@
+-- What changes at places of a list of marks.
+use Rattle.std.specs.Prelude.{◌≡◌, ◌⊎◌, ℕ, zero, suc, ◌<◌, List, [], ◌∷◌, length, Option}
+use Rattle.std.specs.List.{Contains, slice_index_or}
+use Rattle.csp_atom.specs.declared.atom.Atom.{Atom}
+use Rattle.csp_atom.specs.declared.atom.Literal.{Literal}
+use Rattle.csp_valuation.specs.Marks.{marked, cleared}
+use Rattle.csp_valuation.specs.Marks.{Decision}
+
+-- the mark at this place is that of its atom, once this literal is taken
+abbrev pub marked_at : Literal → ℕ → ℕ → List (Option Decision) → List Atom → List (Option Decision)
+marked_at literal by place [] atoms = []
+marked_at literal by place (mark ∷ marks) [] = mark ∷ marks
+marked_at literal by zero (mark ∷ marks) (atom ∷ atoms) = marked literal by mark atom ∷ marks
+marked_at literal by (suc place) (mark ∷ marks) (atom ∷ atoms) = mark ∷ marked_at literal by place marks atoms
+
+abbrev pub marked_at_all : Literal → ℕ → List ℕ → List (Option Decision) → List Atom → List (Option Decision)
+marked_at_all literal by [] marks atoms = marks
+marked_at_all literal by (place ∷ places) marks atoms =
+    marked_at_all literal by places (marked_at literal by place marks atoms) atoms
+
+-- the same once the literal of this number is taken back
+abbrev pub cleared_at : ℕ → ℕ → List (Option Decision) → List (Option Decision)
+cleared_at by place [] = []
+cleared_at by zero (mark ∷ marks) = cleared by mark ∷ marks
+cleared_at by (suc place) (mark ∷ marks) = mark ∷ cleared_at by place marks
+
+abbrev pub cleared_at_all : ℕ → List ℕ → List (Option Decision) → List (Option Decision)
+cleared_at_all by [] marks = marks
+cleared_at_all by (place ∷ places) marks = cleared_at_all by places (cleared_at by place marks)
+
+-- the literal of this number gave no marks but at these places
+abbrev pub GaveOnly : ℕ → List (Option Decision) → List ℕ → Type 0
+GaveOnly by marks places = (place : ℕ) (d : Option Decision) → place < length marks
+    → (cleared by (slice_index_or marks place d) ≡ slice_index_or marks place d) ⊎ Contains places place
