@@ -1,6 +1,7 @@
 pub mod Alone
 pub mod Covering
 pub mod Inserting
+pub mod Lengths
 pub mod LookupIs
 pub mod LookupLaws
 pub mod LookupPaths

@@ -21,7 +21,33 @@ pub(crate) fn keep_needed(literals: &mut Vec<Literal>, literal: &Literal)
     ensures { literals.new.items ≡ spec.needed_beside literal.now literals.old.items }
 {
     if !decides_alone(literal) {
-        literals.retain(|other| !implies(literal, other));
+        literals.retain(|other| !makes_needless(literal, other));
+    }
+}
+
+// Whether the literal makes the other true, which leaves it open. No text is compared where the lengths tell.
+fn makes_needless(literal: &Literal, other: &Literal) -> bool
+    ensures { result ≡ spec.makes_needless literal.now other.now }
+{
+    !is_too_short(literal, other) && implies(literal, other)
+}
+
+// Whether both are denials, of suffixes or of fronts, and the other's is too short to lie below the literal's.
+fn is_too_short(literal: &Literal, other: &Literal) -> bool
+    ensures { result ≡ spec.is_too_short literal.now other.now }
+{
+    !literal.positive && !other.positive && is_no_longer(&other.atom, &literal.atom)
+}
+
+fn is_no_longer(inner: &Atom, outer: &Atom) -> bool
+    ensures { result ≡ spec.is_no_longer inner.now outer.now }
+{
+    match (inner, outer) {
+        (Atom::HostUnder(inner), Atom::HostUnder(outer)) => {
+            inner.as_str().len() <= outer.as_str().len()
+        }
+        (Atom::PathUnder(inner), Atom::PathUnder(outer)) => inner.len() <= outer.len(),
+        _ => false,
     }
 }
 

@@ -1,9 +1,12 @@
 pub mod Finding
+pub mod FrontReach
+pub mod Fronts
 pub mod Gaining
 pub mod Layers
 pub mod Leads
 pub mod Listed
 pub mod Measuring
+pub mod Meeting
 pub mod Noting
 pub mod Ors
-pub mod Written
+pub mod Rising

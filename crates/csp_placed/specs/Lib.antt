@@ -1,7 +1,8 @@
 pub mod Facts
+pub mod Fronts
 pub mod Indexed
 pub mod Indexing
 pub mod Keys
 pub mod Lengths
-pub mod Nesting
+pub mod Overlaps
 pub mod Placed

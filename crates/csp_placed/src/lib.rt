@@ -5,11 +5,13 @@ mod collecting;
 mod indexed;
 mod key;
 mod lengths;
-mod nesting;
+mod overlaps;
 mod placed;
 mod placing;
+mod reach;
 
 pub use indexed::{IndexedFormula, Parts};
-pub use nesting::{listed_at, nesting_of};
+pub use overlaps::{is_name, overlapping, overlaps_of};
 pub use placed::PlacedFormula;
 pub use placing::{PlacedFormulas, place_formulas};
+pub use reach::{Reach, reach_below};

@@ -86,7 +86,7 @@ impl<'f> Hints<'f> {
         match self.last {
             Last::Nothing => true,
             Last::OwnParts { place } => {
-                !self.uses.holds_with_wide(place, valuation)
+                !self.uses.may_hold_with_wide(place, valuation)
                     && !self.uses.may_have_true_part(place, valuation)
             }
             Last::Anything => false,

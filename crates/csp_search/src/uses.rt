@@ -1,12 +1,9 @@
 //! How atoms stand in a formula.
 use csp_atom::Atom;
-use csp_model::{Host, Memory};
+use csp_model::Memory;
 use csp_placed::PlacedFormula;
 use csp_valuation::Valuation;
 use std::alloc::Global;
-
-// Of how many dots of a host it is asked whether a suffix stands behind them.
-const MOST_DOTS: usize = 16;
 
 // In how many parts an atom may stand of which each is looked at.
 const MOST_PARTS: usize = 16;
@@ -20,10 +17,9 @@ pub(crate) struct Uses<'f> {
     negated: Vec<bool>,
     // The parts of the formula, those of an or in it among them, by the places of the facts that stand in them.
     parts: Vec<(usize, &'f PlacedFormula)>,
-    // The places of the suffixes and of the fronts, which hold where other atoms do.
-    suffixes: Vec<usize>,
+    // The places of the fronts, and of the atom that the host is a domain, which hold where other atoms do.
     fronts: Vec<usize>,
-    has_domain: bool,
+    domain: Option<usize>,
 }
 
 impl<'f> Uses<'f> {
@@ -37,9 +33,8 @@ impl<'f> Uses<'f> {
             weights: vec![in alloc; 0; atoms.len()]?,
             negated: vec![in alloc; false; atoms.len()]?,
             parts: Vec::new(alloc),
-            suffixes: Vec::new(alloc),
             fronts: Vec::new(alloc),
-            has_domain: false,
+            domain: None,
         };
         if let Some(formula) = formula {
             note(formula, false, &mut uses);
@@ -64,65 +59,61 @@ impl<'f> Uses<'f> {
     }
 
     // Whether the path may make a part true in which the atom at a place stands. The part of an atom that
-    // stands in one alone is what a short look sees, and of one that stands in many each isn't asked.
+    // stands in one alone is what a short look sees.
     pub(crate) fn may_have_true_part(&self, place: usize, valuation: &Valuation) -> bool {
-        let start = self.parts.partition_point(|(other, _)| *other < place);
-        let rest = &self.parts[start..];
-        let count = rest.partition_point(|(other, _)| *other <= place);
-        count > MOST_PARTS
-            || count > 1
-                && rest[..count]
-                    .iter()
-                    .any(|(_, part)| valuation.value_of(part) == Some(true))
+        let parts = self.parts_at(place);
+        parts.len() > 1 && may_have_true(parts, valuation)
     }
 
-    // Whether a suffix or a front holds where the atom at this place does, apart from that atom.
-    pub(crate) fn holds_with_wide(&self, place: usize, valuation: &Valuation) -> bool {
+    // Whether the path may make a part true in which a suffix or a front stands that holds where the atom at
+    // this place does, or that the host is a domain, apart from that atom.
+    pub(crate) fn may_hold_with_wide(&self, place: usize, valuation: &Valuation) -> bool {
         match valuation.atoms().get(place) {
-            Some(Atom::HostIs(Host::Domain(text)) | Atom::HostUnder(text)) => {
-                self.has_domain || self.has_suffix_of(text.as_str().as_bytes(), valuation.atoms())
+            Some(Atom::HostIs(_) | Atom::HostUnder(_)) => {
+                self.may_hold_with_domain(valuation) || self.may_hold_with_name(place, valuation)
             }
-            Some(Atom::PathIs(_) | Atom::PathUnder(_)) => self.fronts.iter().any(|front| *front
-                != place
-                && valuation.value(*front) == Some(true)),
+            Some(Atom::PathIs(_) | Atom::PathUnder(_)) => self
+                .fronts
+                .iter()
+                .any(|front| *front != place && self.is_true_in_part(*front, valuation)),
             _ => false,
         }
     }
 
-    // Whether there is a suffix behind one of the text's dots. Of a text with many dots it isn't asked.
-    fn has_suffix_of(&self, text: &[u8], atoms: &[Atom]) -> bool {
-        if self.suffixes.is_empty() {
-            return false;
-        }
-        let mut dots = 0;
-        for place in 0..text.len() {
-            if text[place] != b'.' {
-                continue;
-            }
-            dots += 1;
-            if dots > MOST_DOTS || self.has_suffix(&text[place + 1..], atoms) {
-                return true;
-            }
-        }
-        false
+    // The parts in which the atom at a place stands.
+    fn parts_at(&self, place: usize) -> &[(usize, &'f PlacedFormula)] {
+        let start = self.parts.partition_point(|(other, _)| *other < place);
+        let rest = &self.parts[start..];
+        &rest[..rest.partition_point(|(other, _)| *other <= place)]
     }
 
-    fn has_suffix(&self, wanted: &[u8], atoms: &[Atom]) -> bool {
-        let found = self
-            .suffixes
-            .partition_point(|place| suffix_at(*place, atoms) < wanted);
-        match self.suffixes.get(found) {
-            Some(place) => suffix_at(*place, atoms) == wanted,
+    fn is_true_in_part(&self, place: usize, valuation: &Valuation) -> bool {
+        valuation.value(place) == Some(true) && may_have_true(self.parts_at(place), valuation)
+    }
+
+    fn may_hold_with_domain(&self, valuation: &Valuation) -> bool {
+        match self.domain {
+            Some(place) => may_have_true(self.parts_at(place), valuation),
             None => false,
+        }
+    }
+
+    // The same of the names of hosts that hold with the one at this place. Where they aren't listed it isn't
+    // known.
+    fn may_hold_with_name(&self, place: usize, valuation: &Valuation) -> bool {
+        match valuation.overlapping(place) {
+            Some(names) => names
+                .iter()
+                .any(|name| *name != place && self.is_true_in_part(*name, valuation)),
+            None => true,
         }
     }
 
     fn find_wide(&mut self, atoms: &[Atom]) -> Result<(), Memory> {
         for (place, atom) in atoms.iter().enumerate() {
             match atom {
-                Atom::HostUnder(_) => self.suffixes.push(place)?,
                 Atom::PathUnder(_) => self.fronts.push(place)?,
-                Atom::HostDomain => self.has_domain = true,
+                Atom::HostDomain => self.domain = Some(place),
                 _ => {}
             }
         }
@@ -147,12 +138,12 @@ impl<'f> Uses<'f> {
     }
 }
 
-// The text of the suffix at a place, or none.
-fn suffix_at(place: usize, atoms: &[Atom]) -> &[u8] {
-    match atoms.get(place) {
-        Some(Atom::HostUnder(suffix)) => suffix.as_str().as_bytes(),
-        _ => &[],
-    }
+// Whether the path may make one of the parts true. Of many parts each isn't asked.
+fn may_have_true(parts: &[(usize, &PlacedFormula)], valuation: &Valuation) -> bool {
+    parts.len() > MOST_PARTS
+        || parts
+            .iter()
+            .any(|(_, part)| valuation.value_of(part) == Some(true))
 }
 
 #[cycle(note)]

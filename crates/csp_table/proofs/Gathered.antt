@@ -1,6 +1,6 @@
 -- Formulas that were compiled and placed are what the policies say of the shape.
-use Rattle.std.proofs.Common.{◌≡◌, ◌≢◌, ◌∙◌, refl, ap, ap₂, subst, List, [], ◌∷◌, ◌++◌, map, Result, Ok, Err}
-use Rattle.std.specs.Prelude.{◌↔◌, IfOk, AllPairs, Contains}
+use Rattle.std.proofs.Common.{◌≡◌, ◌≢◌, ◌∙◌, refl, ap, ap₂, subst, List, [], ◌∷◌, ◌++◌, map}
+use Rattle.std.specs.Prelude.{◌↔◌, AllPairs, Contains}
 use Rattle.std.specs.List.{flat_map}
 use Rattle.csp_model.specs.declared.policy.PolicyList.{PolicyList}
 use Rattle.csp_model.specs.declared.source.Hash.{Hash}
@@ -24,16 +24,12 @@ module _ (hashes : List Hash) (first second : PolicyList) (kind : Shape) (ours t
   all_atoms =
       ap₂ (λ (xs ys : List Atom). xs ++ ys) (facts_are ours ∙ ap (flat_map atoms_in) one) (facts_are theirs ∙ ap (flat_map atoms_in) other)
 
-  pub gathered : {E : Type 0} (r : Result PlacedFormulas E)
-      → IfOk r (λ made. map (sentence_at made.atoms) made.first ≡ map sentence_of ours)
-      → IfOk r (λ made. map (sentence_at made.atoms) made.second ≡ map sentence_of theirs)
-      → IfOk r (λ made. AllPairs (λ (a b : Atom). a ≢ b) made.atoms)
-      → IfOk r (λ made. (atom : Atom) → Contains made.atoms atom ↔ Contains (facts_of ours ++ facts_of theirs) atom)
-      → IfOk r (AreAt hashes first second kind)
-  gathered (Ok made) says_first says_second once atoms = record {
+  pub gathered : (made : PlacedFormulas) → map (sentence_at made.atoms) made.first ≡ map sentence_of ours
+      → map (sentence_at made.atoms) made.second ≡ map sentence_of theirs → AllPairs (λ (a b : Atom). a ≢ b) made.atoms
+      → ((atom : Atom) → Contains made.atoms atom ↔ Contains (facts_of ours ++ facts_of theirs) atom) → AreAt hashes first second kind made
+  gathered made says_first says_second once atoms = record {
     first = says_first ∙ one;
     second = says_second ∙ other;
     once = once;
     atoms = λ atom. subst (λ (all : List Atom). Contains made.atoms atom ↔ Contains all atom) all_atoms (atoms atom);
   }
-  gathered (Err e) says_first says_second once atoms = tt

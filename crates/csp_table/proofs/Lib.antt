@@ -1,5 +1,4 @@
-pub mod Alike
-pub mod SameAtoms
+pub mod Saying
 pub mod Gathered
 pub mod SoFar
 pub mod Ports

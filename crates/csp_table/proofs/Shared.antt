@@ -1,39 +1,28 @@
--- Shapes that ask the same of each policy have the same formulas, and those that were compiled stay where they are.
-use Rattle.std.proofs.Common.{◌≡◌, ◌≢◌, ◌∙◌, refl, sym, ap, ap₂, subst, ℕ, List, [], ◌∷◌, ◌++◌, map, Option, Some, None, All}
-use Rattle.std.specs.Prelude.{◌↔◌, MatchOption, slice_get, AllPairs, Contains}
+-- Shapes that ask or say the same of each policy have the same formulas, and those that were compiled stay where they are.
+use Rattle.std.proofs.Common.{◌≡◌, ◌∙◌, refl, sym, ap, ap₂, subst, ℕ, List, [], ◌∷◌, ◌++◌, map, length, Option, Some, None, All}
+use Rattle.std.specs.Prelude.{◌↔◌, MatchOption, slice_get, Contains}
 use Rattle.std.specs.List.{flat_map}
 use Rattle.std.proofs.lemmas.List.Elements.{All-contains, All-push}
+use Rattle.std.proofs.lemmas.Option.{slice_get_within, get_or_from_slice_get}
 use Rattle.csp_model.specs.declared.policy.Policy.{Policy}
 use Rattle.csp_model.specs.declared.policy.PolicyList.{PolicyList}
 use Rattle.csp_model.specs.declared.source.Hash.{Hash}
 use Rattle.csp_atom.specs.declared.atom.Atom.{Atom}
 use Rattle.csp_shape.specs.declared.shape.Shape.{Shape}
 use Rattle.csp_formula.specs.Compiled.{policy_sentence}
-use Rattle.csp_formula.specs.Sentences.{Sentence}
+use Rattle.csp_formula.specs.Sentences.{Sentence, sentence_of}
 use Rattle.csp_formula.specs.Values.{atoms_in}
+use Rattle.csp_formula.specs.declared.formula.Formula.{Formula}
 use Rattle.csp_placed.specs.declared.placing.PlacedFormulas.{PlacedFormulas}
 use Rattle.csp_table.specs.declared.question.Question.{Question}
 use Rattle.csp_table.specs.declared.sharing.Earlier.{Earlier}
 use Rattle.csp_table.specs.declared.sharing.Sharing.{Sharing}
-use Rattle.csp_table.specs.Kinds.{SaysSame, Extends}
+use Rattle.csp_table.specs.Kinds.{SaysSame, IsSaidAt, Extends}
 use Rattle.csp_table.specs.Questions.{question_at}
-use Rattle.csp_table.specs.Sharing.{AreAskedAt, AskTheSame, HasFormulas, IsOfShape, AllStand, IsPlaceOf}
-use Rattle.csp_table.specs.Tables.{AreAt, said_of, atoms_of}
+use Rattle.csp_table.specs.Sharing.{AreAskedAt, AskTheSame, HasFormulas, IsOfShape, IsOfSomeShape, AllStand, IsPlaceOf}
+use Rattle.csp_table.specs.Tables.{AreAt, said_of}
 use Rattle.csp_table.proofs.Answered.{one_answer}
-use Rattle.csp_table.proofs.SoFar.{kept_kind}
-
--- Formulas that say the same are of the same shape
-
-pub are_at : (hashes : List Hash) (first second : PolicyList) (kind : Shape) (kept formulas : PlacedFormulas)
-    → SaysSame kept formulas → AreAt hashes first second kind formulas → AreAt hashes first second kind kept
-are_at hashes first second kind kept formulas same at = record {
-  first = same.first ∙ at.first;
-  second = same.second ∙ at.second;
-  once = subst (λ (atoms : List Atom). AllPairs (λ (one other : Atom). one ≢ other) atoms) (sym same.atoms) at.once;
-  atoms = λ atom. subst
-      (λ (atoms : List Atom). Contains atoms atom ↔ Contains (atoms_of hashes kind first ++ atoms_of hashes kind second) atom)
-      (sym same.atoms) (at.atoms atom);
-}
+use Rattle.csp_table.proofs.SoFar.{get_last, kept_kind}
 
 -- Where the same is asked, the same is said
 
@@ -73,15 +62,28 @@ module _ (hashes : List Hash) (first second : PolicyList) where
       → IsPlaceOf sharing.earlier ours theirs place → AreAskedAt first.policies shape ours → AreAskedAt second.policies shape theirs
       → HasFormulas hashes first second shape sharing.kinds place
   found sharing shape ours theirs place all is e f =
-      let of_shape = All-contains (IsOfShape hashes first second sharing.kinds) sharing.earlier is.one all is.listed in
+      let of_shape = All-contains (IsOfShape hashes first second sharing.kinds) sharing.earlier is.one all.earlier is.listed in
       let here = subst (λ (k : ℕ). HasFormulas hashes first second of_shape.kind sharing.kinds k) is.there of_shape.stands in
       moved_at of_shape.kind shape (said hashes of_shape.kind shape first.policies is.one.first ours is.first of_shape.first e)
       (said hashes of_shape.kind shape second.policies is.one.second theirs is.second of_shape.second f) (slice_get sharing.kinds place) here
 
-  pub stands : (kind : Shape) (formulas : PlacedFormulas) → AreAt hashes first second kind formulas
-      → (o : Option PlacedFormulas) → MatchOption o ⊥ (λ kept. SaysSame kept formulas) → MatchOption o ⊥ (AreAt hashes first second kind)
-  stands kind formulas at None h = absurd h
-  stands kind formulas at (Some kept) same = are_at hashes first second kind kept formulas same at
+  -- a kind that says what the formulas of a shape do is that of the shape
+  pub same_kind : (shape : Shape) (ours theirs : List Formula) (kinds : List PlacedFormulas) (place : ℕ)
+      → map sentence_of ours ≡ said_of hashes shape first → map sentence_of theirs ≡ said_of hashes shape second
+      → All (IsOfSomeShape hashes first second) kinds → IsSaidAt kinds ours theirs place → HasFormulas hashes first second shape kinds place
+  same_kind shape ours theirs kinds place one other all said_at = by_kind (slice_get kinds place) refl said_at
+    where
+      by_kind : (o : Option PlacedFormulas) → slice_get kinds place ≡ o → MatchOption o ⊥ (λ kept. SaysSame kept ours theirs) → MatchOption o ⊥ (AreAt hashes first second shape)
+      by_kind None e same = absurd same
+      by_kind (Some kept) e same =
+          let is : IsOfSomeShape hashes first second kept =
+          subst (IsOfSomeShape hashes first second) (get_or_from_slice_get kinds place kept kept e) (all place kept (slice_get_within kinds place kept e)) in
+          moved hashes is.kind shape first second kept (sym is.at.first ∙ same.first ∙ one) (sym is.at.second ∙ same.second ∙ other) is.at
+
+  pub new_kind : (shape : Shape) (made : PlacedFormulas) (kinds : List PlacedFormulas) → AreAt hashes first second shape made
+      → HasFormulas hashes first second shape (kinds ++ made ∷ []) (length kinds)
+  new_kind shape made kinds at =
+      subst (λ (o : Option PlacedFormulas). MatchOption o ⊥ (AreAt hashes first second shape)) (sym (get_last kinds made)) at
 
   grown : (kinds longer : List PlacedFormulas) (e : Earlier) → Extends kinds longer → IsOfShape hashes first second kinds e → IsOfShape hashes first second longer e
   grown kinds longer e extends is = record {

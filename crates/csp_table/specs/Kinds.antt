@@ -1,26 +1,18 @@
--- Formulas of shapes, of which equal ones are kept once.
+-- Kinds of formulas: what both lists say of shapes, of which equal ones are kept once.
 use Rattle.std.specs.Prelude.{◌≡◌, ℕ, List, ◌++◌, map, MatchOption, slice_get}
-use Rattle.csp_atom.specs.declared.atom.Atom.{Atom}
+use Rattle.csp_formula.specs.Sentences.{sentence_of}
+use Rattle.csp_formula.specs.declared.formula.Formula.{Formula}
 use Rattle.csp_placed.specs.Placed.{sentence_at}
-use Rattle.csp_placed.specs.declared.placed.PlacedFormula.{PlacedFormula}
 use Rattle.csp_placed.specs.declared.placing.PlacedFormulas.{PlacedFormulas}
 
--- over each list of atoms the formulas say the same
-abbrev pub SayAlike : PlacedFormula → PlacedFormula → Type 0
-SayAlike one other = (atoms : List Atom) → sentence_at atoms one ≡ sentence_at atoms other
+-- the kind says over its atoms what the formulas of both lists do
+pub record SaysSame (kind : PlacedFormulas) (ours theirs : List Formula) : Type 0 where
+  pub first : map (sentence_at kind.atoms) kind.first ≡ map sentence_of ours
+  pub second : map (sentence_at kind.atoms) kind.second ≡ map sentence_of theirs
 
-abbrev pub AllSayAlike : List PlacedFormula → List PlacedFormula → Type 0
-AllSayAlike ones others = (atoms : List Atom) → map (sentence_at atoms) ones ≡ map (sentence_at atoms) others
-
--- over equal atoms the formulas of each list say the same
-pub record SaysSame (one other : PlacedFormulas) : Type 0 where
-  pub atoms : one.atoms ≡ other.atoms
-  pub first : map (sentence_at one.atoms) one.first ≡ map (sentence_at other.atoms) other.first
-  pub second : map (sentence_at one.atoms) one.second ≡ map (sentence_at other.atoms) other.second
-
--- at the place stand formulas that say the same as these
-abbrev pub StandsAt : List PlacedFormulas → ℕ → PlacedFormulas → Type 0
-StandsAt kinds place formulas = MatchOption (slice_get kinds place) ⊥ (λ kind. SaysSame kind formulas)
+-- at the place stands a kind that says what the formulas of both lists do
+abbrev pub IsSaidAt : List PlacedFormulas → List Formula → List Formula → ℕ → Type 0
+IsSaidAt kinds ours theirs place = MatchOption (slice_get kinds place) ⊥ (λ kind. SaysSame kind ours theirs)
 
 -- the new list begins with the old one
 abbrev pub Extends : List PlacedFormulas → List PlacedFormulas → Type 0

@@ -34,8 +34,16 @@ pub record IsOfShape (hashes : List Hash) (ours theirs : PolicyList) (kinds : Li
   pub second : AreAskedAt theirs.policies kind e.second
   pub stands : HasFormulas hashes ours theirs kind kinds e.place
 
-abbrev pub AllStand : List Hash → PolicyList → PolicyList → Sharing → Type 0
-AllStand hashes ours theirs sharing = All (IsOfShape hashes ours theirs sharing.kinds) sharing.earlier
+-- the kind has the formulas of some shape
+pub record IsOfSomeShape (hashes : List Hash) (ours theirs : PolicyList) (placed : PlacedFormulas)
+    : Type 0 where
+  pub kind : Shape
+  pub at : AreAt hashes ours theirs kind placed
+
+-- each kind has the formulas of some shape, and each earlier shape has its own
+pub record AllStand (hashes : List Hash) (ours theirs : PolicyList) (sharing : Sharing) : Type 0 where
+  pub kinds : All (IsOfSomeShape hashes ours theirs) sharing.kinds
+  pub earlier : All (IsOfShape hashes ours theirs sharing.kinds) sharing.earlier
 
 -- one of them asked this of both lists, and has the place
 pub record IsPlaceOf (earlier : List Earlier) (ours theirs : Option (List Question)) (place : ℕ)

@@ -1,46 +1,32 @@
-//! Formulas of shapes, of which equal ones are kept once.
-ghost use Rattle.std.specs.Prelude.{IfOk, IfSome, IsTrue, OnOk};
+//! Kinds of formulas: what both lists say of shapes, of which equal ones are kept once.
+ghost use Rattle.std.specs.Prelude.{IfSome, IsTrue};
 ghost use Rattle.csp_table.specs.Kinds as spec;
 
-use crate::same::{same_atoms, same_formulas, same_indexed};
-use csp_model::{List, Memory};
+use crate::same::{all_indexed_say, all_say};
+use csp_formula::Formula;
 use csp_placed::PlacedFormulas;
 
-// The place of formulas among the kinds. They are added where no kind equals them.
-pub(crate) fn keep(
-    kinds: &mut List<PlacedFormulas>,
-    formulas: PlacedFormulas,
-) -> Result<usize, Memory>
-    ensures extends { OnOk result (spec.Extends kinds.old kinds.new) }
-    ensures stands { IfOk result (λ place. spec.StandsAt kinds.new place formulas) }
-{
-    match place_of(kinds.as_slice(), &formulas) {
-        Some(place) => Ok(place),
-        None => {
-            let place = kinds.len();
-            kinds.push(formulas)?;
-            Ok(place)
-        }
-    }
-}
-
-// The place of the first kind that equals the formulas.
-fn place_of(kinds: &[PlacedFormulas], formulas: &PlacedFormulas) -> Option<usize>
-    ensures { IfSome result (λ place. spec.StandsAt kinds.now place formulas.now) }
+// The place of the first kind that says what the formulas of both lists do.
+pub(crate) fn place_of(
+    kinds: &[PlacedFormulas],
+    ours: &[Formula],
+    theirs: &[Formula],
+) -> Option<usize>
+    ensures { IfSome result (λ place. spec.IsSaidAt kinds.now ours.now theirs.now place) }
 {
     for (place, kind) in kinds.iter().enumerate() {
-        if is_same(kind, formulas) {
+        if is_same(kind, ours, theirs) {
             return Some(place);
         }
     }
     None
 }
 
-// Whether the formulas are equal. Their places are compared first, since the atoms are long texts.
-fn is_same(one: &PlacedFormulas, other: &PlacedFormulas) -> bool
-    ensures { IsTrue result → spec.SaysSame one.now other.now }
+// Whether the kind says over its atoms what the formulas of both lists do.
+fn is_same(kind: &PlacedFormulas, ours: &[Formula], theirs: &[Formula]) -> bool
+    ensures { IsTrue result → spec.SaysSame kind.now ours.now theirs.now }
 {
-    same_indexed(one.first.as_slice(), other.first.as_slice())
-        && same_formulas(one.second.as_slice(), other.second.as_slice())
-        && same_atoms(one.atoms.as_slice(), other.atoms.as_slice())
+    let atoms = kind.atoms.as_slice();
+    all_indexed_say(kind.first.as_slice(), ours, atoms)
+        && all_say(kind.second.as_slice(), theirs, atoms)
 }

@@ -1,53 +1,57 @@
-//! Whether formulas over places are equal, and whether atoms are.
-ghost use Rattle.std.specs.Prelude.{◌≡◌, ◌↔◌, IsTrue};
-ghost use Rattle.csp_table.specs.Kinds as spec;
+//! Whether formulas over places say what formulas over atoms do.
+ghost use Rattle.std.specs.Prelude.{◌≡◌, IsTrue, Some, map, slice_get};
+ghost use Rattle.csp_formula.specs.Sentences.{Both, all_of, sentence_of};
+ghost use Rattle.csp_placed.specs.Placed.{fact, sentence_at};
 
 use csp_atom::Atom;
+use csp_atom::order::compare;
+use csp_formula::Formula;
 use csp_placed::{IndexedFormula, PlacedFormula};
 
-// Whether the atoms are equal, and in the same order.
-pub(crate) fn same_atoms(one: &[Atom], other: &[Atom]) -> bool
-    ensures { IsTrue result ↔ (one.now ≡ other.now) }
-{
-    one == other
-}
-
-// Whether the formulas have equal parts at equal places. Then they say the same, which the contract of `==`
-// doesn't tell.
+// Whether the placed formula says over the atoms what the formula does, part by part. Of an and that begins
+// with a fact, the fact's place stands beside the other parts.
 #[cycle(same)]
-fn same_formula(one: &PlacedFormula, other: &PlacedFormula) -> bool
-    ensures { IsTrue result → spec.SayAlike one.now other.now }
+fn says(placed: &PlacedFormula, formula: &Formula, atoms: &[Atom]) -> bool
+    ensures { IsTrue result → sentence_at atoms.now placed.now ≡ sentence_of formula.now }
 {
-    match (one, other) {
-        (PlacedFormula::Constant(one), PlacedFormula::Constant(other)) => one == other,
-        (PlacedFormula::Fact(one), PlacedFormula::Fact(other)) => one == other,
-        (PlacedFormula::Not(one), PlacedFormula::Not(other)) => same_formula(one, other),
-        (PlacedFormula::Every(one), PlacedFormula::Every(other)) => same_formulas(one, other),
-        (PlacedFormula::OneOf(one), PlacedFormula::OneOf(other)) => same_formulas(one, other),
-        (
-            PlacedFormula::FactAnd {
-                place: one,
-                parts: ones,
-            },
-            PlacedFormula::FactAnd {
-                place: other,
-                parts: others,
-            },
-        ) => one == other && same_formulas(ones, others),
+    match (placed, formula) {
+        (PlacedFormula::Constant(one), Formula::Constant(other)) => one == other,
+        (PlacedFormula::Fact(place), Formula::Fact(atom)) => stands_at(atom, *place, atoms),
+        (PlacedFormula::Not(one), Formula::Not(other)) => says(one, other, atoms),
+        (PlacedFormula::FactAnd { place, parts }, Formula::Every(formulas)) => {
+            and_says(*place, parts, formulas, atoms)
+        }
+        (PlacedFormula::Every(parts), Formula::Every(formulas)) => all_say(parts, formulas, atoms),
+        (PlacedFormula::OneOf(parts), Formula::OneOf(formulas)) => all_say(parts, formulas, atoms),
         _ => false,
     }
 }
 
-// The same of each of them.
+// Whether the and of the atom at the place and of the parts says what that of the formulas does.
 #[cycle(same)]
-pub(crate) fn same_formulas(one: &[PlacedFormula], other: &[PlacedFormula]) -> bool
-    ensures { IsTrue result → spec.AllSayAlike one.now other.now }
+fn and_says(place: usize, parts: &[PlacedFormula], formulas: &[Formula], atoms: &[Atom]) -> bool
+    ensures { IsTrue result
+        → Both (fact (slice_get atoms.now place)) (all_of (map (sentence_at atoms.now) parts.now))
+        ≡ all_of (map sentence_of formulas.now) }
 {
-    if one.len() != other.len() {
+    match formulas.split_first() {
+        Some((Formula::Fact(atom), others)) => {
+            stands_at(atom, place, atoms) && all_say(parts, others, atoms)
+        }
+        _ => false,
+    }
+}
+
+// Whether each placed formula says what the formula of its number does.
+#[cycle(same)]
+pub(crate) fn all_say(placed: &[PlacedFormula], formulas: &[Formula], atoms: &[Atom]) -> bool
+    ensures { IsTrue result → map (sentence_at atoms.now) placed.now ≡ map sentence_of formulas.now }
+{
+    if placed.len() != formulas.len() {
         return false;
     }
-    for (place, formula) in one.iter().enumerate() {
-        if !same_formula(formula, &other[place]) {
+    for (number, formula) in formulas.iter().enumerate() {
+        if !says(&placed[number], formula, atoms) {
             return false;
         }
     }
@@ -55,16 +59,30 @@ pub(crate) fn same_formulas(one: &[PlacedFormula], other: &[PlacedFormula]) -> b
 }
 
 // The same of formulas that have an index.
-pub(crate) fn same_indexed(ones: &[IndexedFormula], others: &[IndexedFormula]) -> bool
-    ensures { IsTrue result → spec.AllSayAlike ones.now others.now }
+pub(crate) fn all_indexed_say(
+    indexed: &[IndexedFormula],
+    formulas: &[Formula],
+    atoms: &[Atom],
+) -> bool
+    ensures { IsTrue result → map (sentence_at atoms.now) indexed.now ≡ map sentence_of formulas.now }
 {
-    if ones.len() != others.len() {
+    if indexed.len() != formulas.len() {
         return false;
     }
-    for (place, one) in ones.iter().enumerate() {
-        if !same_formula(one.formula(), others[place].formula()) {
+    for (number, formula) in formulas.iter().enumerate() {
+        if !says(indexed[number].formula(), formula, atoms) {
             return false;
         }
     }
     true
+}
+
+// Whether the atom stands at the place.
+fn stands_at(atom: &Atom, place: usize, atoms: &[Atom]) -> bool
+    ensures { IsTrue result → slice_get atoms.now place ≡ Some atom.now }
+{
+    match atoms.get(place) {
+        Some(found) => compare(found, atom).is_eq(),
+        None => false,
+    }
 }

@@ -3,8 +3,7 @@ ghost use Rattle.std.specs.Prelude.{IfOk, IfSome, IsTrue, OnOk};
 ghost use Rattle.csp_table.specs.Kinds.{Extends};
 ghost use Rattle.csp_table.specs.Sharing as spec;
 
-use crate::formulas::formulas_of;
-use crate::kinds::keep;
+use crate::formulas::keep_formulas;
 use crate::question::{Question, question_at, same_questions};
 use csp_atom::Vocabulary;
 use csp_model::{List, Memory, Policy, PolicyList};
@@ -48,8 +47,8 @@ pub(crate) fn place_at(
     match earlier_place(sharing.earlier.as_slice(), &ours, &theirs) {
         Some(place) => Ok(place),
         None => {
-            let formulas = formulas_of(alloc, first, second, shape, vocabulary)?;
-            let place = keep(&mut sharing.kinds, formulas)?;
+            let kinds = &mut sharing.kinds;
+            let place = keep_formulas(alloc, first, second, shape, vocabulary, kinds)?;
             sharing.earlier.push(Earlier {
                 first: ours,
                 second: theirs,

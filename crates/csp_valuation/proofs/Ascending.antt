@@ -12,7 +12,9 @@ use Rattle.csp_atom.specs.declared.atom.Atom.{Atom}
 use Rattle.csp_atom.specs.declared.atom.Atom.TheVariants.{HostIs, HostUnder, HostDomain, PortIs, PathIs, PathUnder, SchemeIs, NonceIs, IntegrityHas, IntegrityOutside, DigestIs}
 use Rattle.csp_atom.specs.declared.atom.Literal.{Literal}
 use Rattle.csp_atom.specs.Order.{rank, atom_cmp}
-use Rattle.csp_valuation.specs.Reach.{Covers, decides_itself_alone, first_rank, last_rank, is_before, is_after}
+use Rattle.csp_valuation.specs.Reach.{decides_itself_alone, first_rank, last_rank, is_before, is_after}
+use Rattle.csp_placed.specs.Fronts.{Covers}
+use Rattle.csp_placed.proofs.Fronts.{rank_up}
 use Rattle.csp_placed.specs.Facts.{Ascends}
 use Rattle.csp_atom.proofs.OrderLaws.{atom_total}
 use Rattle.csp_atom.proofs.SameAtom.{less_down}
@@ -56,9 +58,6 @@ next_at atoms n x y h p q low d =
     rw (first, second) low
 
 -- What goes down with the order
-
-pub rank_up : (m n : ℕ) (r : Ordering) → is_gt (ordering_then (ordering_then (nat_cmp m n) Equal) r) ≡ false → m ≤ n
-rank_up m n r e = grind (arith, nat_tests)
 
 pub before_down : (l : Literal) (a b : Atom) → is_gt (atom_cmp a b) ≡ false → is_before l b ≡ true → is_before l a ≡ true
 before_down l a b low e = by_test (decides_itself_alone l.atom l.positive) refl

@@ -8,44 +8,33 @@ use Rattle.csp_atom.specs.declared.atom.Atom.TheVariants.{HostDomain}
 use Rattle.csp_atom.specs.declared.atom.Literal.{Literal}
 use Rattle.csp_valuation.specs.Changes.{marked_at, marked_at_all, cleared_at, cleared_at_all, GaveOnly}
 use Rattle.csp_valuation.specs.Marks.{Decision, answered, marked, all_marked, cleared}
-use Rattle.csp_placed.specs.Nesting.{Lists}
+use Rattle.csp_valuation.specs.Names.{Lists}
+use Rattle.csp_valuation.proofs.Marking.{marked_already}
+use Rattle.csp_valuation.proofs.Places.{all_changed, past_at, kept_at, set_at, changed_listed}
 use Rattle.csp_valuation.proofs.Within.{marked_none}
 
 -- One mark
 
 module _ (l : Literal) (n : ℕ) where
   pub mark_past : (k : ℕ) (marks : List (Option Decision)) (atoms : List Atom) → length marks ≤ k → marks ≡ marked_at l n k marks atoms
-  mark_past k [] atoms h = refl
-  mark_past k (m ∷ marks) [] h = refl
-  mark_past zero (m ∷ marks) (a ∷ atoms) h = absurd (omega arith)
-  mark_past (suc k) (m ∷ marks) (a ∷ atoms) h = ap (λ (ms : List (Option Decision)). m ∷ ms) (mark_past k marks atoms (omega arith))
+  mark_past k marks atoms h = sym (past_at (marked l n) k marks atoms h)
 
-  pub mark_kept : (k : ℕ) (marks : List (Option Decision)) (atoms : List Atom) (m : Option Decision) → k < length marks → m ≡ get_or marks k m → is_some m ≡ true
+  pub mark_kept : (k : ℕ) (marks : List (Option Decision)) (atoms : List Atom) (m : Option Decision) → m ≡ get_or marks k m → is_some m ≡ true
       → marks ≡ marked_at l n k marks atoms
-  mark_kept k [] atoms m h at known = refl
-  mark_kept k (x ∷ marks) [] m h at known = refl
-  mark_kept zero (x ∷ marks) (a ∷ atoms) (Some d) h at known = rw (sym at) refl
-  mark_kept zero (x ∷ marks) (a ∷ atoms) None h at known = cc
-  mark_kept (suc k) (x ∷ marks) (a ∷ atoms) m h at known = ap (λ (ms : List (Option Decision)). x ∷ ms) (mark_kept k marks atoms m (omega arith) at known)
+  mark_kept k marks atoms m at known =
+      sym (kept_at (marked l n) k marks atoms m HostDomain (rw (← at) (marked_already l n m (slice_index_or atoms k HostDomain) known)))
 
   pub mark_silent : (k : ℕ) (marks : List (Option Decision)) (atoms : List Atom) (d : Atom) → follows l (slice_index_or atoms k d) ≡ None → marks ≡ marked_at l n k marks atoms
-  mark_silent k [] atoms d none = refl
-  mark_silent k (m ∷ marks) [] d none = refl
-  mark_silent zero (m ∷ marks) (a ∷ atoms) d none = ap (λ (x : Option Decision). x ∷ marks) (sym (marked_none l n m a none))
-  mark_silent (suc k) (m ∷ marks) (a ∷ atoms) d none = ap (λ (ms : List (Option Decision)). m ∷ ms) (mark_silent k marks atoms d none)
+  mark_silent k marks atoms d none =
+      sym (kept_at (marked l n) k marks atoms None d (marked_none l n (slice_index_or marks k None) (slice_index_or atoms k d) none))
 
-  pub unmarked : (k : ℕ) (marks : List (Option Decision)) (m : Option Decision) → k < length marks → m ≡ get_or marks k m → is_some m ≡ false → get_or marks k None ≡ None
-  unmarked k [] m h at unsaid = absurd (omega arith)
-  unmarked zero (x ∷ marks) None h at unsaid = sym at
-  unmarked zero (x ∷ marks) (Some d) h at unsaid = cc
-  unmarked (suc k) (x ∷ marks) m h at unsaid = unmarked k marks m (omega arith) at unsaid
-
-  pub mark_set : (k : ℕ) (marks : List (Option Decision)) (atoms : List Atom) (d : Atom) (b : Bool) → length marks ≡ length atoms → get_or marks k None ≡ None
-      → follows l (slice_index_or atoms k d) ≡ Some b → set marks k (Some (record { value = b; by = n })) ≡ marked_at l n k marks atoms
-  mark_set k [] atoms d b e is says = refl
-  mark_set k (m ∷ marks) [] d b e is says = absurd (omega arith)
-  mark_set zero (m ∷ marks) (a ∷ atoms) d b e is says = rw (is, says) refl
-  mark_set (suc k) (m ∷ marks) (a ∷ atoms) d b e is says = ap (λ (ms : List (Option Decision)). m ∷ ms) (mark_set k marks atoms d b (omega arith) is says)
+  pub mark_set : (k : ℕ) (marks : List (Option Decision)) (atoms : List Atom) (m : Option Decision) (d : Atom) (b : Bool) → length marks ≡ length atoms
+      → m ≡ get_or marks k m → is_some m ≡ false → follows l (slice_index_or atoms k d) ≡ Some b
+      → set marks k (Some (record { value = b; by = n })) ≡ marked_at l n k marks atoms
+  mark_set k marks atoms (Some x) d b e at unsaid says = cc
+  mark_set k marks atoms None d b e at unsaid says =
+      let new : marked l n (get_or marks k None) (slice_index_or atoms k d) ≡ Some (record { value = b; by = n }) = rw (← at, says) refl in
+      ap (set marks k) (sym new) ∙ set_at (marked l n) k marks atoms None d e
 
   -- Marks at places
 
@@ -57,75 +46,19 @@ module _ (l : Literal) (n : ℕ) where
       by_answer (Some b) is = refl
       by_answer None is = rw is refl
 
-  length_at : (k : ℕ) (marks : List (Option Decision)) (atoms : List Atom) → length (marked_at l n k marks atoms) ≡ length marks
-  length_at k [] atoms = refl
-  length_at k (m ∷ marks) [] = refl
-  length_at zero (m ∷ marks) (a ∷ atoms) = refl
-  length_at (suc k) (m ∷ marks) (a ∷ atoms) = ap suc (length_at k marks atoms)
-
-  length_at_all : (ks : List ℕ) (marks : List (Option Decision)) (atoms : List Atom) → length (marked_at_all l n ks marks atoms) ≡ length marks
-  length_at_all [] marks atoms = refl
-  length_at_all (k ∷ ks) marks atoms = length_at_all ks (marked_at l n k marks atoms) atoms ∙ length_at k marks atoms
-
-  all_at : (k : ℕ) (marks : List (Option Decision)) (atoms : List Atom) → all_marked l n (marked_at l n k marks atoms) atoms ≡ all_marked l n marks atoms
-  all_at k [] atoms = refl
-  all_at k (m ∷ marks) [] = refl
-  all_at zero (m ∷ marks) (a ∷ atoms) = ap (λ (x : Option Decision). x ∷ all_marked l n marks atoms) (marked_twice m a)
-  all_at (suc k) (m ∷ marks) (a ∷ atoms) = ap (λ (ms : List (Option Decision)). marked l n m a ∷ ms) (all_at k marks atoms)
-
-  all_at_all : (ks : List ℕ) (marks : List (Option Decision)) (atoms : List Atom) → all_marked l n (marked_at_all l n ks marks atoms) atoms ≡ all_marked l n marks atoms
-  all_at_all [] marks atoms = refl
-  all_at_all (k ∷ ks) marks atoms = all_at_all ks (marked_at l n k marks atoms) atoms ∙ all_at k marks atoms
-
-  at_twice : (k : ℕ) (marks : List (Option Decision)) (atoms : List Atom) → marked_at l n k (marked_at l n k marks atoms) atoms ≡ marked_at l n k marks atoms
-  at_twice k [] atoms = refl
-  at_twice k (m ∷ marks) [] = refl
-  at_twice zero (m ∷ marks) (a ∷ atoms) = ap (λ (x : Option Decision). x ∷ marks) (marked_twice m a)
-  at_twice (suc k) (m ∷ marks) (a ∷ atoms) = ap (λ (ms : List (Option Decision)). m ∷ ms) (at_twice k marks atoms)
-
-  at_swap : (j k : ℕ) (marks : List (Option Decision)) (atoms : List Atom) → marked_at l n j (marked_at l n k marks atoms) atoms ≡ marked_at l n k (marked_at l n j marks atoms) atoms
-  at_swap j k [] atoms = refl
-  at_swap j k (m ∷ marks) [] = refl
-  at_swap zero zero (m ∷ marks) (a ∷ atoms) = refl
-  at_swap zero (suc k) (m ∷ marks) (a ∷ atoms) = refl
-  at_swap (suc j) zero (m ∷ marks) (a ∷ atoms) = refl
-  at_swap (suc j) (suc k) (m ∷ marks) (a ∷ atoms) = ap (λ (ms : List (Option Decision)). m ∷ ms) (at_swap j k marks atoms)
-
-  -- a mark that is final
-  abbrev IsFinal : ℕ → List (Option Decision) → List Atom → Type 0
-  IsFinal j marks atoms = marked_at l n j marks atoms ≡ marks
-
-  final_stays : (j : ℕ) (ks : List ℕ) (marks : List (Option Decision)) (atoms : List Atom) → IsFinal j marks atoms → IsFinal j (marked_at_all l n ks marks atoms) atoms
-  final_stays j [] marks atoms e = e
-  final_stays j (k ∷ ks) marks atoms e =
-      final_stays j ks (marked_at l n k marks atoms) atoms (at_swap j k marks atoms ∙ ap (λ (ms : List (Option Decision)). marked_at l n k ms atoms) e)
-
-  final_listed : (j : ℕ) (ks : List ℕ) (marks : List (Option Decision)) (atoms : List Atom) → Contains ks j → IsFinal j (marked_at_all l n ks marks atoms) atoms
-  final_listed j [] marks atoms (i, h, at) = absurd (omega arith)
-  final_listed j (k ∷ ks) marks atoms (zero, h, at) =
-      subst (λ (p : ℕ). IsFinal p (marked_at_all l n (k ∷ ks) marks atoms) atoms) at (final_stays k ks (marked_at l n k marks atoms) atoms (at_twice k marks atoms))
-  final_listed j (k ∷ ks) marks atoms (suc i, h, at) = final_listed j ks (marked_at l n k marks atoms) atoms (i, omega arith, at)
-
-  all_final : (marks : List (Option Decision)) (atoms : List Atom) → length marks ≡ length atoms → ((j : ℕ) → j < length atoms → IsFinal j marks atoms) → all_marked l n marks atoms ≡ marks
-  all_final [] atoms e final = refl
-  all_final (m ∷ marks) [] e final = absurd (omega arith)
-  all_final (m ∷ marks) (a ∷ atoms) e final =
-      let first : marked l n m a ∷ marks ≡ m ∷ marks = final 0 (omega arith) in
-      let head : marked l n m a ≡ m = cc first in
-      rw (head, all_final marks atoms (omega arith) (λ j h. tail_of (marked_at l n j marks atoms) (final (suc j) (omega arith)))) refl
-    where
-      tail_of : (ms : List (Option Decision)) → m ∷ ms ≡ m ∷ marks → ms ≡ marks
-      tail_of ms is = cc is
+  all_is : (marks : List (Option Decision)) (atoms : List Atom) → all_changed (marked l n) marks atoms ≡ all_marked l n marks atoms
+  all_is [] atoms = refl
+  all_is (m ∷ marks) [] = refl
+  all_is (m ∷ marks) (a ∷ atoms) = ap (λ (ms : List (Option Decision)). marked l n m a ∷ ms) (all_is marks atoms)
 
   pub marked_listed : (ks : List ℕ) (marks : List (Option Decision)) (atoms : List Atom) → length marks ≡ length atoms → Lists l atoms ks
       → marked_at_all l n ks marks atoms ≡ all_marked l n marks atoms
   marked_listed ks marks atoms e lists =
-      sym (all_final (marked_at_all l n ks marks atoms) atoms (length_at_all ks marks atoms ∙ e)
-      (λ j h. elim (lists j HostDomain h) [
-        | inl none ↦ sym (mark_silent j (marked_at_all l n ks marks atoms) atoms HostDomain none)
-        | inr has ↦ final_listed j ks marks atoms has
-      ]))
-      ∙ all_at_all ks marks atoms
+      changed_listed (marked l n) marked_twice ks marks atoms e (λ j h. elim (lists j HostDomain h) [
+        | inl none ↦ inl (sym (mark_silent j marks atoms HostDomain none))
+        | inr has ↦ inr has
+      ])
+      ∙ all_is marks atoms
 
 -- The same of what is cleared
 

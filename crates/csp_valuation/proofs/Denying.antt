@@ -13,7 +13,7 @@ use Rattle.csp_valuation.specs.Paths.{literal_of, denial_of}
 use Rattle.csp_valuation.specs.Reach.{Excludes, is_sole, excludes_its_kind}
 use Rattle.csp_placed.specs.Facts.{Ascends}
 use Rattle.csp_valuation.specs.declared.taken.Taken.{Taken}
-use Rattle.csp_valuation.proofs.Ascending.{rank_up}
+use Rattle.csp_placed.proofs.Fronts.{rank_up}
 
 -- Atoms of its kind
 

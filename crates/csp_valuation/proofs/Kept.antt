@@ -9,9 +9,10 @@ use Rattle.csp_atom.specs.declared.atom.Atom.TheVariants.{HostDomain}
 use Rattle.csp_atom.specs.declared.atom.Literal.{Literal}
 use Rattle.csp_valuation.specs.Changes.{GaveOnly}
 use Rattle.csp_valuation.specs.Marks.{Decision, answered, mark, cleared}
-use Rattle.csp_placed.specs.Nesting.{Lists}
+use Rattle.csp_valuation.specs.Names.{IsNew, Lists}
 use Rattle.csp_valuation.specs.Paths.{literal_of, literals_of}
-use Rattle.csp_valuation.specs.Reach.{Covers, KeepsOutside}
+use Rattle.csp_valuation.specs.Reach.{KeepsOutside}
+use Rattle.csp_placed.specs.Fronts.{Covers}
 use Rattle.csp_valuation.specs.declared.taken.Taken.{Taken}
 use Rattle.csp_valuation.proofs.Marking.{mark_taken, literals_push, length_literals}
 use Rattle.csp_valuation.proofs.Within.{marked_none}
@@ -24,6 +25,14 @@ kept_answer None n m rest h e = e
 kept_before : (n m : ℕ) (ls : List Literal) (a : Atom) → n + length ls ≤ m → cleared m (mark n ls a) ≡ mark n ls a
 kept_before n m [] a h = refl
 kept_before n m (l ∷ ls) a h = kept_answer (follows l a) n m (mark (n + 1) ls a) (omega arith) (kept_before (n + 1) m ls a (omega arith))
+
+all_kept : (n : ℕ) (ls : List Literal) (atoms : List Atom) → n ≡ length ls + 1 → IsNew n (map (mark 1 ls) atoms)
+all_kept n ls [] e = refl
+all_kept n ls (a ∷ atoms) e = rw (kept_before 1 n ls a (omega arith), all_kept n ls atoms e) refl
+
+pub before_new : (path : List Taken) (n : ℕ) (atoms : List Atom) (marks : List (Option Decision))
+    → marks ≡ map (mark 1 (literals_of path)) atoms → n ≡ length path + 1 → IsNew n marks
+before_new path n atoms marks b e = rw b (all_kept n (literals_of path) atoms (e ∙ ap (λ k. k + 1) (sym (length_literals path))))
 
 kept_where : (n : ℕ) (ls : List Literal) (l : Literal) (a : Atom) → n ≡ length ls + 1 → follows l a ≡ None → cleared n (mark 1 (ls ++ l ∷ []) a) ≡ mark 1 (ls ++ l ∷ []) a
 kept_where n ls l a e none =

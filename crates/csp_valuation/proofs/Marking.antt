@@ -1,5 +1,5 @@
 -- What is marked is what the first literal that decides an atom says, and by which.
-use Rattle.std.proofs.Common.{◌≡◌, ◌∙◌, ℕ, zero, suc, ◌+◌, ◌<◌, ◌≤◌, Bool, true, refl, sym, ap, List, [], ◌∷◌, ◌++◌, length, map, Option, Some, None, arith, get_or, slice_get, take, drop, drop-cons, add-one, append_assoc, length-append, replicate, add-zero}
+use Rattle.std.proofs.Common.{◌≡◌, ◌∙◌, ℕ, zero, suc, ◌+◌, ◌<◌, Bool, true, refl, sym, ap, List, [], ◌∷◌, ◌++◌, length, map, Option, Some, None, arith, get_or, slice_get, take, drop, drop-cons, add-one, append_assoc, replicate, add-zero}
 use Rattle.std.specs.Option.{is_some}
 use Rattle.std.proofs.lemmas.Bool.{false≢true}
 use Rattle.std.proofs.lemmas.Bool.Decides.{nat_tests}
@@ -89,14 +89,11 @@ pub marks_taken_back : (path later : List Taken) (s : Taken) (n : ℕ) (atoms : 
 marks_taken_back path later s n atoms before after b e a p =
     a ∙ rw (b, p, literals_push later s) (all_taken_back (literals_of later) (literal_of s) n atoms (e ∙ ap (λ k. k + 1) (sym (length_literals later))))
 
-pub room_left : (path later : List Taken) (s : Taken) (room : ℕ) → later ≡ path ++ s ∷ [] → length (literals_of path) < room → length later ≤ room
-room_left path later s room p h = rw p (omega (arith, length_literals path, length-append path (s ∷ [])))
-
 pub forget_one : (ms : List (Option Decision)) (i : ℕ) → i < length ms → take (i + 1) (set ms i None) ++ map forgotten (drop (i + 1) (set ms i None)) ≡ take i ms ++ map forgotten (drop i ms)
 forget_one ms i h = rw (take_more_set ms i None, drop-set-lt (i + 1) ms i None (omega arith), append_assoc, drop-cons ms i None, add-one) refl
 
 -- what is decided stays
-marked_already : (l : Literal) (n : ℕ) (m : Option Decision) (a : Atom) → is_some m ≡ true → marked l n m a ≡ m
+pub marked_already : (l : Literal) (n : ℕ) (m : Option Decision) (a : Atom) → is_some m ≡ true → marked l n m a ≡ m
 marked_already l n (Some d) a h = refl
 marked_already l n None a h = absurd (false≢true h)
 

@@ -17,16 +17,13 @@ use Rattle.csp_atom.specs.declared.atom.Literal.{Literal}
 use Rattle.csp_atom.specs.Order.{rank, atom_cmp}
 use Rattle.csp_valuation.specs.Reach.{decides_itself_alone, first_rank, last_rank, is_before, is_after}
 use Rattle.csp_atom.proofs.OrderLaws.{atom_total}
+use Rattle.csp_placed.proofs.FrontReach.{unless_false}
 
 -- A literal that decides its own atom alone
 
 unless_true : {P : Type 0} (test : Bool) → Decides test P → ¬ P → true_where test ≡ None
 unless_true true d n = absurd (n (d.0 refl))
 unless_true false d n = refl
-
-pub unless_false : {P : Type 0} (test : Bool) → Decides test P → ¬ P → false_where test ≡ None
-unless_false true d n = absurd (n (d.0 refl))
-unless_false false d n = refl
 
 alone_true : (x a : Atom) → decides_itself_alone x true ≡ true → a ≢ x → follows_true x a ≡ None
 alone_true (IntegrityHas h) (IntegrityHas g) e n = unless_true _ (same_hash_decides h g) (λ q. n (ap IntegrityHas (sym q)))

@@ -11,7 +11,7 @@ use Rattle.csp_valuation.specs.Paths.{literal_of, literals_of, settled_part, wai
 use Rattle.csp_valuation.specs.Valuations.{value_of_atom}
 use Rattle.csp_valuation.specs.declared.taken.Taken.{Taken}
 use Rattle.csp_valuation.proofs.Marking.{value_mark}
-use Rattle.csp_placed.proofs.Written.{written}
+use Rattle.csp_valuation.proofs.Written.{written}
 
 -- the parts
 

@@ -5,7 +5,8 @@ use Rattle.csp_atom.specs.Follows.{follows}
 use Rattle.csp_atom.specs.declared.atom.Atom.{Atom}
 use Rattle.csp_atom.specs.declared.atom.Literal.{Literal}
 use Rattle.csp_valuation.specs.Marks.{Decision, marked, all_marked, cleared}
-use Rattle.csp_valuation.specs.Reach.{Covers, KeepsOutside}
+use Rattle.csp_valuation.specs.Reach.{KeepsOutside}
+use Rattle.csp_placed.specs.Fronts.{Covers}
 
 -- Marks
 
@@ -14,7 +15,7 @@ marked_none l n (Some d) a e = refl
 marked_none l n None a e = rw e refl
 
 -- the literal decides no atom from this place on
-abbrev SilentFrom : Literal → List Atom → ℕ → Type 0
+abbrev pub SilentFrom : Literal → List Atom → ℕ → Type 0
 SilentFrom l atoms k = (j : ℕ) (d : Atom) → k ≤ j → j < length atoms → follows l (slice_index_or atoms j d) ≡ None
 
 untouched : (l : Literal) (n : ℕ) (marks : List (Option Decision)) (atoms : List Atom) → length marks ≡ length atoms → SilentFrom l atoms 0 → all_marked l n marks atoms ≡ marks
@@ -24,7 +25,7 @@ untouched l n (m ∷ marks) (a ∷ atoms) e silent =
     let rest = untouched l n marks atoms (omega arith) (λ j d low high. silent (suc j) d (omega arith) (omega arith)) in
     rw (marked_none l n m a (silent 0 a (omega arith) (omega arith)), rest) refl
 
-upto : (l : Literal) (n : ℕ) (marks : List (Option Decision)) (atoms : List Atom) (k : ℕ) → length marks ≡ length atoms → SilentFrom l atoms k
+pub upto : (l : Literal) (n : ℕ) (marks : List (Option Decision)) (atoms : List Atom) (k : ℕ) → length marks ≡ length atoms → SilentFrom l atoms k
     → all_marked l n (take k marks) (take k atoms) ++ drop k marks ≡ all_marked l n marks atoms
 upto l n marks atoms zero e silent = sym (untouched l n marks atoms e silent)
 upto l n [] [] (suc k) e silent = refl

@@ -6,17 +6,23 @@ use Rattle.csp_atom.specs.declared.atom.Literal.{Literal}
 use Rattle.csp_valuation.specs.Marks.{marked, cleared}
 use Rattle.csp_valuation.specs.Marks.{Decision}
 
--- the mark at this place is that of its atom, once this literal is taken
+-- the mark at this place is changed, as its atom asks
+abbrev pub changed_at : (Option Decision → Atom → Option Decision) → ℕ → List (Option Decision) → List Atom → List (Option Decision)
+changed_at f place [] atoms = []
+changed_at f place (mark ∷ marks) [] = mark ∷ marks
+changed_at f zero (mark ∷ marks) (atom ∷ atoms) = f mark atom ∷ marks
+changed_at f (suc place) (mark ∷ marks) (atom ∷ atoms) = mark ∷ changed_at f place marks atoms
+
+abbrev pub changed_at_all : (Option Decision → Atom → Option Decision) → List ℕ → List (Option Decision) → List Atom → List (Option Decision)
+changed_at_all f [] marks atoms = marks
+changed_at_all f (place ∷ places) marks atoms = changed_at_all f places (changed_at f place marks atoms) atoms
+
+-- it is that of its atom, once this literal is taken
 abbrev pub marked_at : Literal → ℕ → ℕ → List (Option Decision) → List Atom → List (Option Decision)
-marked_at literal by place [] atoms = []
-marked_at literal by place (mark ∷ marks) [] = mark ∷ marks
-marked_at literal by zero (mark ∷ marks) (atom ∷ atoms) = marked literal by mark atom ∷ marks
-marked_at literal by (suc place) (mark ∷ marks) (atom ∷ atoms) = mark ∷ marked_at literal by place marks atoms
+marked_at literal by place marks atoms = changed_at (marked literal by) place marks atoms
 
 abbrev pub marked_at_all : Literal → ℕ → List ℕ → List (Option Decision) → List Atom → List (Option Decision)
-marked_at_all literal by [] marks atoms = marks
-marked_at_all literal by (place ∷ places) marks atoms =
-    marked_at_all literal by places (marked_at literal by place marks atoms) atoms
+marked_at_all literal by places marks atoms = changed_at_all (marked literal by) places marks atoms
 
 -- the same once the literal of this number is taken back
 abbrev pub cleared_at : ℕ → ℕ → List (Option Decision) → List (Option Decision)

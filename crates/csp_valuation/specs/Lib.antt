@@ -1,8 +1,8 @@
 pub mod Changes
 pub mod Denials
 pub mod Glimpses
-pub mod Hosts
 pub mod Marks
+pub mod Names
 pub mod Paths
 pub mod Reach
 pub mod Standings

@@ -7,6 +7,7 @@
 mod denial;
 mod glance;
 mod marks;
+mod names;
 mod reach;
 mod standing;
 mod taken;

@@ -3,15 +3,16 @@ ghost use Rattle.std.specs.Prelude.{◌≡◌, ◌<◌, ◌≤◌, None, Some, f
 ghost use Rattle.std.specs.List.{AllWithin};
 ghost use Rattle.std.specs.Option.{is_some};
 ghost use Rattle.csp_atom.specs.Follows.{follows};
-ghost use Rattle.csp_placed.specs.Nesting.{Lists};
 ghost use Rattle.csp_valuation.specs.Changes.{GaveOnly, cleared_at, marked_at};
 ghost use Rattle.csp_valuation.specs.Marks.{all_marked, cleared, denied, forgotten, value_of};
+ghost use Rattle.csp_valuation.specs.Names.{Lists, corrected};
 ghost use Rattle.csp_valuation.specs.Paths.{denial_of, literal_of};
-ghost use Rattle.csp_valuation.specs.Reach.{Covers, Excludes, IsNear, KeepsOutside};
+ghost use Rattle.csp_valuation.specs.Reach.{Excludes, IsNear, KeepsOutside};
+ghost use Rattle.csp_placed.specs.Fronts.{Covers};
 
-use crate::reach::Reach;
 use crate::taken::Taken;
 use csp_atom::{Atom, follows_as};
+use csp_placed::Reach;
 use std::marker::Model;
 
 // What is decided of an atom: a truth value, and the number of the literal that gave it, where that of the
@@ -76,6 +77,20 @@ impl Mark {
         if self.by == 0 {
             self.by = by;
         }
+    }
+
+    // What the literal of this number says, where it denied the atom unseen.
+    pub(crate) fn correct(&mut self, by: usize, says: Option<bool>)
+        requires { 0 < by }
+        ensures { self.new ≡ corrected by says self.old }
+    {
+        if self.by != by {
+            return;
+        }
+        *self = match says {
+            Some(value) => Mark::given(value, by),
+            None => Mark::none(),
+        };
     }
 
     // Takes back what the literal of this number gave.
@@ -162,7 +177,7 @@ fn mark_kind(near: Reach, marks: &mut [Mark], atoms: &[Atom], literal: Taken, by
 }
 
 // Marks as false what isn't marked.
-fn deny_all(marks: &mut [Mark], by: usize)
+pub(crate) fn deny_all(marks: &mut [Mark], by: usize)
     requires { 0 < by }
     ensures { marks.new ≡ map (denied by) marks.old }
 {
@@ -171,7 +186,7 @@ fn deny_all(marks: &mut [Mark], by: usize)
     }
 }
 
-fn mark_all(near: Reach, marks: &mut [Mark], atoms: &[Atom], literal: Taken, by: usize)
+pub(crate) fn mark_all(near: Reach, marks: &mut [Mark], atoms: &[Atom], literal: Taken, by: usize)
     requires numbered { 0 < by }
     requires long { length marks.old ≡ length atoms.now }
     requires near { IsNear (denial_of literal) atoms.now near.start near.end }

@@ -1,43 +1,15 @@
 //! The places of the atoms that a literal can decide, where the atoms of a list ascend.
-ghost use Rattle.std.specs.Prelude.{◌≡◌, ◌≤◌, ◌<◌, ◌↔◌, ◌-◌, IsTrue, MatchOption, true};
+ghost use Rattle.std.specs.Prelude.{◌≡◌, ◌≤◌, true};
 ghost use Rattle.std.specs.List.{AllWithin};
 ghost use Rattle.csp_placed.specs.Facts.{Ascends};
-ghost use Rattle.csp_placed.specs.Nesting.{Lists, Nests};
+ghost use Rattle.csp_placed.specs.Fronts.{Covers};
 ghost use Rattle.csp_valuation.specs.Paths.{denial_of, literal_of};
 ghost use Rattle.csp_valuation.specs.Reach as spec;
 
 use crate::taken::Taken;
 use csp_atom::Atom;
-use csp_atom::order::{compare, compare_paths, rank};
-use csp_model::Bytes;
-use csp_placed::listed_at;
-use std::cmp::Ordering;
-
-// The places from `start` on, up to `end` and without it.
-#[derive(Clone, Copy, Debug)]
-pub(crate) struct Reach {
-    pub(crate) start: usize,
-    pub(crate) end: usize,
-}
-
-impl Reach {
-    pub(crate) fn has(self, place: usize) -> bool
-        ensures { IsTrue result ↔ ((self.start ≤ place) × (place < self.end)) }
-    {
-        self.start <= place && place < self.end
-    }
-
-    // The same places in the list that begins at this one.
-    pub(crate) fn seen_from(self, first: usize) -> Reach
-        ensures start { result.start ≡ self.start - first }
-        ensures end { result.end ≡ self.end - first }
-    {
-        Reach {
-            start: self.start.saturating_sub(first),
-            end: self.end.saturating_sub(first),
-        }
-    }
-}
+use csp_atom::order::{compare, rank};
+use csp_placed::{Reach, reach_below};
 
 // Whether no atom is above a later one.
 pub(crate) fn ascends(atoms: &[Atom]) -> bool
@@ -54,7 +26,7 @@ pub(crate) fn ascends(atoms: &[Atom]) -> bool
 // Places outside of which the literal decides no atom: all, where it isn't known that the atoms ascend.
 pub(crate) fn reach_of(literal: Taken, atoms: &[Atom], ascending: bool) -> Reach
     requires { ascending ≡ true → Ascends atoms.now }
-    ensures { spec.Covers (literal_of literal.entry) atoms.now result.start result.end }
+    ensures { Covers (literal_of literal.entry) atoms.now result.start result.end }
 {
     if ascending {
         reach_by_order(literal, atoms)
@@ -66,33 +38,12 @@ pub(crate) fn reach_of(literal: Taken, atoms: &[Atom], ascending: bool) -> Reach
     }
 }
 
-// The places of the atoms that the literal decides, where they are listed: where it denies a suffix that
-// stands in the list.
-pub(crate) fn listed_under<'b>(
-    literal: Taken,
-    below: &'b [Vec<usize>],
-    atoms: &[Atom],
-    ascending: bool,
-) -> Option<&'b [usize]>
-    requires ascends { ascending ≡ true → Ascends atoms.now }
-    requires nests { Nests atoms.now below.now }
-    ensures { MatchOption result (Unit {0})
-        (λ listed. Lists (literal_of literal.entry) atoms.now listed.now) }
-{
-    match literal.atom {
-        Atom::HostUnder(suffix) if ascending && !literal.positive => {
-            listed_at(suffix.as_str().as_bytes(), below, atoms)
-        }
-        _ => None,
-    }
-}
-
 // Places outside of which the denial of the literal's atom decides no atom, where this is the literal's
 // reach.
 pub(crate) fn near_of(literal: Taken, reach: Reach, atoms: &[Atom], ascending: bool) -> Reach
     requires ascends { ascending ≡ true → Ascends atoms.now }
-    requires covers { spec.Covers (literal_of literal) atoms.now reach.start reach.end }
-    ensures { spec.Covers (denial_of literal.entry) atoms.now result.start result.end }
+    requires covers { Covers (literal_of literal) atoms.now reach.start reach.end }
+    ensures { Covers (denial_of literal.entry) atoms.now result.start result.end }
 {
     if !literal.positive {
         return reach;
@@ -108,7 +59,7 @@ pub(crate) fn near_of(literal: Taken, reach: Reach, atoms: &[Atom], ascending: b
 // with it. Else, or where it isn't known that the atoms ascend, the start of the reach.
 pub(crate) fn kind_end_of(literal: Taken, reach: Reach, atoms: &[Atom], ascending: bool) -> usize
     requires ascends { ascending ≡ true → Ascends atoms.now }
-    requires covers { spec.Covers (literal_of literal) atoms.now reach.start reach.end }
+    requires covers { Covers (literal_of literal) atoms.now reach.start reach.end }
     ensures start { reach.start ≤ result }
     ensures end { result ≤ reach.end }
     ensures kind { AllWithin (spec.Excludes literal.entry) atoms.now reach.start result }
@@ -143,7 +94,7 @@ fn excludes_its_kind(literal: Taken) -> bool
 
 fn reach_by_order(literal: Taken, atoms: &[Atom]) -> Reach
     requires { Ascends atoms.now }
-    ensures { spec.Covers (literal_of literal.entry) atoms.now result.start result.end }
+    ensures { Covers (literal_of literal.entry) atoms.now result.start result.end }
 {
     match literal.atom {
         Atom::PathUnder(front) if !literal.positive => reach_below(front.as_slice(), atoms),
@@ -155,7 +106,7 @@ fn reach_by_order(literal: Taken, atoms: &[Atom]) -> Reach
 // part of a check.
 fn reach_by_kind(literal: Taken, atoms: &[Atom]) -> Reach
     requires { Ascends atoms.now }
-    ensures { spec.Covers (literal_of literal.entry) atoms.now result.start result.end }
+    ensures { Covers (literal_of literal.entry) atoms.now result.start result.end }
 {
     let start = atoms.partition_point(|atom| is_before(literal, atom));
     let end = atoms.partition_point(|atom| !is_after(literal, atom));
@@ -217,62 +168,5 @@ fn last_rank(atom: &Atom) -> u8
         Atom::HostIs(_) | Atom::HostUnder(_) => 2,
         Atom::PathIs(_) => 5,
         _ => rank(atom),
-    }
-}
-
-// The reach of the denial that the path lies under this front: from the first file below the front, or else
-// the first front, to the last front.
-fn reach_below(front: &[Bytes], atoms: &[Atom]) -> Reach
-    requires { Ascends atoms.now }
-    ensures { spec.Covers (spec.denied_front front.now) atoms.now result.start result.end }
-{
-    let files = places_below(front, 4, atoms);
-    let fronts = places_below(front, 5, atoms);
-    let start = if files.start < files.end {
-        files.start
-    } else {
-        fronts.start
-    };
-    Reach {
-        start,
-        end: fronts.end,
-    }
-}
-
-// The places of the atoms of a kind, given by its rank, whose paths begin with the front.
-fn places_below(front: &[Bytes], kind: u8, atoms: &[Atom]) -> Reach
-    requires { Ascends atoms.now }
-    ensures { spec.ArePlacesBelow front.now kind atoms.now result.start result.end }
-{
-    let start = atoms.partition_point(|atom| compare_to_front(atom, kind, front).is_lt());
-    let end = atoms.partition_point(|atom| compare_to_front(atom, kind, front).is_le());
-    Reach { start, end }
-}
-
-// Where the atom stands to those of the kind whose paths begin with the front: `Equal` if it is one of them.
-fn compare_to_front(atom: &Atom, kind: u8, front: &[Bytes]) -> Ordering
-    ensures { result ≡ spec.front_cmp front.now kind atom.now }
-{
-    match rank(atom).cmp(&kind) {
-        Ordering::Equal => compare_start(path_of(atom), front),
-        apart => apart,
-    }
-}
-
-// The order of a path, cut to the length of the front, and the front.
-fn compare_start(path: &[Bytes], front: &[Bytes]) -> Ordering
-    ensures { result ≡ spec.start_cmp path.now front.now }
-{
-    let end = path.len().min(front.len());
-    compare_paths(&path[..end], front)
-}
-
-// The path that the atom speaks of, with no pieces where it speaks of none.
-fn path_of(atom: &Atom) -> &[Bytes]
-    ensures { result.now ≡ spec.path_of atom.now }
-{
-    match atom {
-        Atom::PathIs(path) | Atom::PathUnder(path) => path.as_slice(),
-        _ => &[],
     }
 }

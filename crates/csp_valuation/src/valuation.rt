@@ -2,26 +2,28 @@
 ghost use Rattle.std.specs.Prelude.{◌≡◌, ◌<◌, ◌++◌, [], ◌∷◌, ℕ, length, map, true};
 ghost use Rattle.std.specs.Prelude.{IfOk, IfSome, MatchOption, IsSome, None, Some, false};
 ghost use Rattle.csp_atom.specs.Follows.{decided};
+ghost use Rattle.csp_atom.specs.declared.atom.Atom.{Atom as AtomValue};
 ghost use Rattle.csp_formula.specs.Surely.{surely};
 ghost use Rattle.csp_valuation.specs.Denials.{AreDenied};
 ghost use Rattle.csp_valuation.specs.Glimpses.{Tells};
 ghost use Rattle.csp_valuation.specs.Marks.{mark};
-ghost use Rattle.csp_placed.specs.Nesting.{Nests};
+ghost use Rattle.csp_placed.specs.Overlaps.{AreOverlaps, ListsOverlaps, StandsAt, is_name};
 ghost use Rattle.csp_valuation.specs.Paths.{literal_of, literals_of, settled_part, waiting_part};
 ghost use Rattle.csp_placed.specs.Placed.{sentence_at};
 ghost use Rattle.csp_placed.specs.Facts.{Ascends};
 ghost use Rattle.csp_valuation.specs.Standings.{IsOpenAt, value_in};
 ghost use Rattle.csp_valuation.specs.Valuations.{value_at};
 
-use crate::denial::{Denied, denies_each, denies_indexed, host_with, host_without};
+use crate::denial::{denies_each, denies_indexed};
 use crate::glance::{Glance, Glimpse, look};
-use crate::marks::{Mark, clear_listed, clear_within, forget_all, mark_listed, mark_within};
-use crate::reach::{ascends, kind_end_of, listed_under, near_of, reach_of};
+use crate::marks::{Mark, clear_listed, clear_within, forget_all, mark_within};
+use crate::names::{Names, denied_names, mark_names, names_beside, narrowest_name};
+use crate::reach::{ascends, kind_end_of, near_of, reach_of};
 use crate::standing::{Standing, standing_under};
 use crate::taken::Taken;
 use csp_atom::{Atom, follows_as};
 use csp_model::{List, Memory};
-use csp_placed::{IndexedFormula, PlacedFormula, nesting_of};
+use csp_placed::{IndexedFormula, PlacedFormula, overlaps_of};
 use std::alloc::Global;
 use std::marker::Model;
 
@@ -43,21 +45,17 @@ pub struct Valuation<'a> {
     path: Vec<Taken<'a>>,
     room: usize,
     ascending: bool,
-    // For each place where a suffix stands, the places of the atoms that its denial decides, where the list
-    // ascends.
-    below: Vec<Vec<usize>>,
+    // For each place of a name of a host the places of the names that can hold with it.
+    overlaps: Vec<Vec<usize>>,
     // Whether the last literal of the path waits: what it decides isn't marked before another literal comes
     // after it.
     waits: bool,
-    // The number of the first literal of the path that says of hosts what holds.
-    host: Option<usize>,
 }
 
 impl<'a> Model for Valuation<'a> {
     ghost use Rattle.std.specs.Prelude.{◌≡◌, ◌≤◌, length, map, true, vec_capacity};
-    ghost use Rattle.csp_valuation.specs.Hosts.{IsFirstHost};
     ghost use Rattle.csp_valuation.specs.Marks.{mark};
-    ghost use Rattle.csp_placed.specs.Nesting.{Nests};
+    ghost use Rattle.csp_placed.specs.Overlaps.{AreOverlaps};
     ghost use Rattle.csp_valuation.specs.Paths.{literals_of, settled_part};
     ghost use Rattle.csp_placed.specs.Facts.{Ascends};
     ghost use Rattle.csp_valuation.specs.Valuations.{Assignment};
@@ -73,8 +71,7 @@ impl<'a> Model for Valuation<'a> {
     ghost invariant = { λ v.
         (v.marks.items ≡ map (mark 1 (literals_of (settled_part v.waits v.path.items))) v.atoms.items)
         × (length v.path.items ≤ v.room) × (v.room ≤ vec_capacity v.path)
-        × (v.ascending ≡ true → Ascends v.atoms.items) × Nests v.atoms.items v.below.items
-        × IsFirstHost v.path.items v.host };
+        × (v.ascending ≡ true → Ascends v.atoms.items) × AreOverlaps v.atoms.items v.overlaps.items };
 }
 
 impl<'a> Valuation<'a> {
@@ -86,16 +83,15 @@ impl<'a> Valuation<'a> {
         let marks = vec![in alloc; Mark::none(); atoms.len()]?;
         let path = Vec::with_capacity(alloc, room)?;
         let ascending = ascends(&atoms);
-        let below = nesting_of(alloc, &atoms, ascending)?;
+        let overlaps = overlaps_of(alloc, &atoms)?;
         Ok(Valuation {
             atoms,
             marks,
             path,
             room,
             ascending,
-            below,
+            overlaps,
             waits: false,
-            host: None,
         })
     }
 
@@ -111,9 +107,8 @@ impl<'a> Valuation<'a> {
             &mut self.marks,
             &self.atoms,
             self.ascending,
-            &self.below,
+            &self.overlaps,
         );
-        self.host = host_with(self.host, &self.path, literal);
         self.path.push(literal).unwrap();
         self.waits = true;
     }
@@ -127,17 +122,18 @@ impl<'a> Valuation<'a> {
             × (length self.new.literals < self.new.room)) }
     {
         let last = self.path.pop()?;
-        self.host = host_without(self.host, &self.path);
         if self.waits {
             self.waits = false;
             return Some(last);
         }
-        if let Some(listed) = listed_under(last, &self.below, &self.atoms, self.ascending) {
-            clear_listed(listed, &mut self.marks, self.path.len() + 1);
-            return Some(last);
+        let by = self.path.len() + 1;
+        match denied_names(last, &self.overlaps, &self.atoms, self.ascending) {
+            Some(listed) => clear_listed(listed, &mut self.marks, by),
+            None => {
+                let reach = reach_of(last, &self.atoms, self.ascending);
+                clear_within(reach, &mut self.marks, by);
+            }
         }
-        let reach = reach_of(last, &self.atoms, self.ascending);
-        clear_within(reach, &mut self.marks, self.path.len() + 1);
         Some(last)
     }
 
@@ -148,7 +144,6 @@ impl<'a> Valuation<'a> {
         forget_all(&mut self.marks);
         self.path.clear();
         self.waits = false;
-        self.host = None;
     }
 
     /// The atoms, each at its place.
@@ -218,33 +213,33 @@ impl<'a> Valuation<'a> {
         let Some(parts) = formula.parts() else {
             return false;
         };
-        let Some(denied) = self.denied() else {
+        let Some(names) = self.denied() else {
             return false;
         };
-        denies_indexed(self, parts, denied)
+        denies_indexed(self, parts, names)
             && denies_each(self, parts.before)
             && denies_each(self, parts.after)
     }
 
-    // The places of the hosts that the path denies, where it says which host it is: all but the near ones.
-    fn denied(&self) -> Option<Denied>
+    // The names that the path denies, where it says of one that it holds: all but the listed ones.
+    fn denied(&self) -> Option<Names<'_>>
         ensures { IfSome result (AreDenied self.now) }
     {
-        let literal = self.path[self.host?];
-        let Atom::HostIs(_) = literal.atom else {
-            return None;
-        };
-        let reach = reach_of(literal, &self.atoms, self.ascending);
-        let end = kind_end_of(literal, reach, &self.atoms, self.ascending);
-        if end <= reach.start {
-            return None;
+        let literal = narrowest_name(&self.path)?;
+        names_beside(literal, &self.overlaps, &self.atoms, self.ascending)
+    }
+
+    /// The places of the names of hosts that can hold with the one at this place, its own among them, where
+    /// they are listed.
+    pub fn overlapping(&self, place: usize) -> Option<&[usize]>
+        ensures { MatchOption result (Unit {0}) (λ listed. (name : AtomValue)
+            → StandsAt self.now.atoms place name → is_name name ≡ true
+            → ListsOverlaps name self.now.atoms listed.now) }
+    {
+        match self.overlaps.get(place) {
+            Some(listed) => Some(listed.as_slice()),
+            None => None,
         }
-        let near = near_of(literal, reach, &self.atoms, self.ascending);
-        Some(Denied {
-            start: reach.start,
-            end,
-            near,
-        })
     }
 
     /// The place of a fact of the formula that the path doesn't decide, nor any part of the formula that the
@@ -285,25 +280,26 @@ fn settle(
     marks: &mut [Mark],
     atoms: &[Atom],
     ascending: bool,
-    below: &[Vec<usize>],
+    overlaps: &[Vec<usize>],
 )
     requires marked { marks.old ≡ map (mark 1 (literals_of (settled_part waits path.now))) atoms.now }
     requires ascends { ascending ≡ true → Ascends atoms.now }
-    requires nests { Nests atoms.now below.now }
+    requires overlaps { AreOverlaps atoms.now overlaps.now }
     ensures { marks.new ≡ map (mark 1 (literals_of path.now)) atoms.now }
 {
     if !waits {
         return;
     }
     if let Some((last, before)) = path.split_last() {
-        if let Some(listed) = listed_under(*last, below, atoms, ascending) {
-            mark_listed(listed, marks, atoms, *last, before.len() + 1);
+        let by = before.len() + 1;
+        if let Some(names) = names_beside(*last, overlaps, atoms, ascending) {
+            mark_names(names, marks, atoms, *last, by);
             return;
         }
         let reach = reach_of(*last, atoms, ascending);
         let near = near_of(*last, reach, atoms, ascending);
         let kind_end = kind_end_of(*last, reach, atoms, ascending);
-        mark_within(reach, near, kind_end, marks, atoms, *last, before.len() + 1);
+        mark_within(reach, near, kind_end, marks, atoms, *last, by);
     }
 }
 

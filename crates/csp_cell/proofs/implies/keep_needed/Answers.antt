@@ -1,12 +1,14 @@
 use Rattle.std.proofs.Common.{rules, sym, not, ◌∙◌}
 use Rattle.std.proofs.lemmas.Fn.{filter_same}
 use Rattle.csp_cell.proofs.Alone.{all_needed}
+use Rattle.csp_cell.proofs.Lengths.{needed_by_length}
 use Rattle.csp_cell.specs.Cells as spec
 use Rattle.csp_cell.proofs.implies.keep_needed.Goals as goal
 
 pub returns-then-not-decides_alone : goal.returns-then-not-decides_alone
 returns-then-not-decides_alone c =
-    filter_same _ (λ other. not (spec.implies c.args.literal.now other)) _ (λ x b f' k. search rules) _ _ c.retain.ensures.filtered
+    filter_same _ (λ other. not (spec.makes_needless c.args.literal.now other)) _ (λ x b f' k. search rules) _ _ c.retain.ensures.filtered
+    ∙ needed_by_length c.args.literal.now c.args.literals.now.items c.requires
 
 pub returns-else-not-decides_alone : goal.returns-else-not-decides_alone
 returns-else-not-decides_alone c =

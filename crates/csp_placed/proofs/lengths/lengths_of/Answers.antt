@@ -1,8 +1,7 @@
 use Rattle.std.proofs.Common.{arith}
-use Rattle.csp_placed.proofs.Measuring.{lengths_more}
+use Rattle.csp_placed.proofs.Measuring.{lists_all}
 use Rattle.csp_placed.proofs.lengths.lengths_of.Goals as goal
 
-pub loop-place-preserved : goal.loop-place-preserved
-loop-place-preserved c =
-    lengths_more c.args.atoms.now c.loop-place.lengths.items c.add_atom.new.lengths.items c.loop-place.place c.index-atoms-place.result (omega arith) c.index-atoms-place.is
-    c.in_ok-add_atom.ensures.kept c.loop-place.invariant c.in_ok-add_atom.ensures.has
+pub returns : goal.returns
+returns c =
+    lists_all c.args.atoms.now c.in_ok-table.table.items c.loop-len.lengths.items c.loop-len.len (omega arith) c.in_ok-table.ensures c.loop-len.invariant

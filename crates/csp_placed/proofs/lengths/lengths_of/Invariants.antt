@@ -1,5 +1,5 @@
-use Rattle.csp_placed.proofs.Measuring.{HasLengthsBelow}
+use Rattle.csp_placed.proofs.Measuring.{ListsBelow}
 use Rattle.csp_placed.proofs.lengths.lengths_of.Given as goal
 
-abbrev pub invariant-loop-place : goal.invariant-loop-place
-invariant-loop-place l = HasLengthsBelow l.atoms l.lengths.items l.place
+abbrev pub invariant-loop-len : goal.invariant-loop-len
+invariant-loop-len l = ListsBelow l.table.items l.lengths.items l.len

@@ -1,8 +1,8 @@
-use Rattle.std.proofs.Common.{◌≡◌, List, map, take}
-use Rattle.csp_atom.specs.declared.atom.Atom.{Atom}
+use Rattle.std.proofs.Common.{◌≡◌, map, take}
+use Rattle.csp_formula.specs.Sentences.{sentence_of}
 use Rattle.csp_placed.specs.Placed.{sentence_at}
 use Rattle.csp_table.proofs.same.+same.Given as goal
 
-abbrev pub invariant-same_formulas-loop-place : goal.invariant-same_formulas-loop-place
-invariant-same_formulas-loop-place l =
-    (atoms : List Atom) → map (sentence_at atoms) (take l.place l.one) ≡ map (sentence_at atoms) (take l.place l.other)
+abbrev pub invariant-all_say-loop-number : goal.invariant-all_say-loop-number
+invariant-all_say-loop-number l =
+    map (sentence_at l.atoms) (take l.number l.placed) ≡ map sentence_of (take l.number l.formulas)

@@ -1,6 +1,6 @@
-use Rattle.std.proofs.Common.{arith, refl, ◌≡◌, ◌∙◌, length, drop}
+use Rattle.std.proofs.Common.{arith, ◌≡◌, ◌∙◌, length, drop}
 use Rattle.csp_valuation.proofs.Marking.{all_forgotten}
-use Rattle.csp_placed.proofs.Written.{written}
+use Rattle.csp_valuation.proofs.Written.{written}
 use Rattle.csp_valuation.specs.Paths.{literals_of, settled_part}
 use Rattle.csp_valuation.proofs.valuation.Valuation.clear.Goals as goal
 
@@ -15,5 +15,4 @@ invariant_of-self c =
       omega (arith, c.clear.ensures.capacity),
       c.self.invariant.3,
       c.self.invariant.4,
-      rw c.clear.ensures.items refl,
     )

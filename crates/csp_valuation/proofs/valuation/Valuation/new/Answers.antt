@@ -1,4 +1,4 @@
-use Rattle.std.proofs.Common.{arith, rules, refl, ◌∙◌}
+use Rattle.std.proofs.Common.{arith, rules, ◌∙◌}
 use Rattle.csp_valuation.proofs.Marking.{none_marked}
 use Rattle.csp_valuation.proofs.valuation.Valuation.new.Goals as goal
 
@@ -11,6 +11,5 @@ invariant_of-result c =
       rw c.in_ok-path.ensures.items (omega arith),
       omega (arith, c.in_ok-path.ensures.exact),
       rw c.deref.ensures.value at c.ascends-ascending.ensures,
-      rw c.deref-2.ensures.value at c.in_ok-below.ensures,
-      rw c.in_ok-path.ensures.items refl,
+      rw c.deref-2.ensures.value at c.in_ok-overlaps.ensures,
     )

@@ -1,0 +1,120 @@
+-- In a list that ascends, the atoms of one kind whose paths begin with a front stand together.
+use Rattle.std.proofs.Common.{◌≡◌, refl, sym, ℕ, zero, suc, ◌≤◌, ◌<◌, Bool, true, false, nat_lt, List, [], ◌∷◌, take, length, arith}
+use Rattle.std.proofs.lemmas.Bool.Decides.{nat_tests}
+use Rattle.std.specs.Cmp.{IsTotalOrder, alike_right}
+use Rattle.std.specs.Cmp.Lexicographic.{slice_cmp, lists_total, nat_list_cmp_total}
+use Rattle.std.specs.List.{slice_index_or}
+use Rattle.std.specs.List.Sorted.{IsPartitionedBy, IsPartitionPoint}
+use Rattle.std.specs.Ordering.{nat_cmp, ordering_index, ordering_then, is_lt, is_le, is_gt}
+use Rattle.std.specs.declared.cmp.Ordering.{Ordering}
+use Rattle.std.specs.declared.cmp.Ordering.TheVariants.{Less, Equal, Greater}
+use Rattle.csp_atom.specs.declared.atom.Atom.{Atom}
+use Rattle.csp_atom.specs.declared.atom.Atom.TheVariants.{HostDomain, PathIs, PathUnder}
+use Rattle.csp_atom.specs.Order.{rank, atom_cmp}
+use Rattle.csp_placed.specs.Fronts.{ArePlacesBelow, path_of, start_cmp, front_cmp}
+use Rattle.csp_placed.specs.Facts.{Ascends}
+
+-- What goes up with the order
+
+pub rank_up : (m n : ℕ) (r : Ordering) → is_gt (ordering_then (ordering_then (nat_cmp m n) Equal) r) ≡ false → m ≤ n
+rank_up m n r e = grind (arith, nat_tests)
+
+then_up : (r s t : Ordering) → (is_gt s ≡ false → is_gt t ≡ false) → is_gt (ordering_then r s) ≡ false → is_gt (ordering_then r t) ≡ false
+then_up Less s t up low = refl
+then_up Equal s t up low = up low
+then_up Greater s t up low = cc
+
+take_up : (n : ℕ) (p q : List (List ℕ)) → is_gt (slice_cmp (slice_cmp nat_cmp) p q) ≡ false
+    → is_gt (slice_cmp (slice_cmp nat_cmp) (take n p) (take n q)) ≡ false
+take_up zero p q low = refl
+take_up (suc n) [] [] low = refl
+take_up (suc n) [] (y ∷ q) low = refl
+take_up (suc n) (x ∷ p) [] low = cc
+take_up (suc n) (x ∷ p) (y ∷ q) low = then_up (slice_cmp nat_cmp x y) _ _ (take_up n p q) low
+
+pub paths_total : IsTotalOrder (slice_cmp (slice_cmp nat_cmp))
+paths_total = lists_total nat_list_cmp_total
+
+at_most : (r : Ordering) → ordering_index r ≤ 2
+at_most Less = omega arith
+at_most Equal = omega arith
+at_most Greater = omega arith
+
+paths_up : (p q front : List (List ℕ)) (r s : Ordering) → slice_cmp (slice_cmp nat_cmp) p q ≡ r → slice_cmp (slice_cmp nat_cmp) q front ≡ s → is_gt r ≡ false
+    → ordering_index (slice_cmp (slice_cmp nat_cmp) p front) ≤ ordering_index s
+paths_up p q front Less Less e f low = rw (paths_total.trans p q front e f) (omega arith)
+paths_up p q front Less Equal e f low = rw (sym (alike_right paths_total q front p f), e) (omega arith)
+paths_up p q front Less Greater e f low = at_most _
+paths_up p q front Equal s e f low = rw (paths_total.congr p q front e, f) (omega arith)
+paths_up p q front Greater s e f low = cc
+
+start_up : (p q front : List (List ℕ)) → is_gt (slice_cmp (slice_cmp nat_cmp) p q) ≡ false
+    → ordering_index (start_cmp p front) ≤ ordering_index (start_cmp q front)
+start_up p q front low = paths_up (take (length front) p) (take (length front) q) front _ _ refl refl (take_up (length front) p q low)
+
+path_up : (a b : Atom) (front : List (List ℕ)) → is_gt (atom_cmp a b) ≡ false → rank a ≡ rank b
+    → ordering_index (start_cmp (path_of a) front) ≤ ordering_index (start_cmp (path_of b) front)
+path_up (PathIs p) (PathIs q) front low same = start_up p q front low
+path_up (PathUnder p) (PathUnder q) front low same = start_up p q front low
+path_up a (PathIs q) front low same = absurd (omega arith)
+path_up a b front low same = omega arith
+
+ranks_up : (m n kind : ℕ) (s t : Ordering) → m ≤ n → (m ≡ n → ordering_index s ≤ ordering_index t)
+    → ordering_index (ordering_then (nat_cmp m kind) s) ≤ ordering_index (ordering_then (nat_cmp n kind) t)
+ranks_up m n kind s t low up = grind (arith, nat_tests)
+
+front_up : (front : List (List ℕ)) (kind : ℕ) (a b : Atom) → is_gt (atom_cmp a b) ≡ false
+    → ordering_index (front_cmp front kind a) ≤ ordering_index (front_cmp front kind b)
+front_up front kind a b low = ranks_up (rank a) (rank b) kind _ _ (rank_up (rank a) (rank b) _ low) (path_up a b front low)
+
+-- The places
+
+less_down : (r s : Ordering) → ordering_index r ≤ ordering_index s → is_lt s ≡ true → is_lt r ≡ true
+less_down Less s up less = refl
+less_down r Less up less = absurd (omega arith)
+less_down r s up less = cc
+
+most_down : (r s : Ordering) → ordering_index r ≤ ordering_index s → is_le s ≡ true → is_le r ≡ true
+most_down Greater Less up most = absurd (omega arith)
+most_down Greater Equal up most = absurd (omega arith)
+most_down r s up most = cc
+
+pub parted_less : (front : List (List ℕ)) (kind : ℕ) (atoms : List Atom) → Ascends atoms → IsPartitionedBy (λ a. is_lt (front_cmp front kind a)) atoms
+parted_less front kind atoms up i j d p h =
+    less_down _ _ (front_up front kind (slice_index_or atoms i d) (slice_index_or atoms j d) (up i j d p h))
+
+pub parted_most : (front : List (List ℕ)) (kind : ℕ) (atoms : List Atom) → Ascends atoms → IsPartitionedBy (λ a. is_le (front_cmp front kind a)) atoms
+parted_most front kind atoms up i j d p h =
+    most_down _ _ (front_up front kind (slice_index_or atoms i d) (slice_index_or atoms j d) (up i j d p h))
+
+is_less : (r : Ordering) → is_lt r ≡ true → r ≡ Less
+is_less Less e = refl
+is_less r e = cc
+
+is_level : (r : Ordering) → is_lt r ≡ false → is_le r ≡ true → r ≡ Equal
+is_level Equal e f = refl
+is_level r e f = cc
+
+is_more : (r : Ordering) → is_le r ≡ false → r ≡ Greater
+is_more Greater e = refl
+is_more r e = cc
+
+pub places : (front : List (List ℕ)) (kind : ℕ) (atoms : List Atom) (start end : ℕ) → start ≤ length atoms → end ≤ length atoms
+    → IsPartitionPoint (λ a. is_lt (front_cmp front kind a) ≡ true) (λ a. is_lt (front_cmp front kind a) ≡ false) atoms start
+    → IsPartitionPoint (λ a. is_le (front_cmp front kind a) ≡ true) (λ a. is_le (front_cmp front kind a) ≡ false) atoms end
+    → ArePlacesBelow front kind atoms start end
+places front kind atoms start end s e first last = record {
+  ordered = by_test (nat_lt end start) refl;
+  inside = e;
+  before = λ k d low high. is_less _ (first.0 k d low high);
+  within = λ k d low high. is_level _ (first.1 k d low (omega arith)) (last.0 k d (omega arith) high);
+  after = λ k d low high. is_more _ (last.1 k d low high);
+}
+  where
+    by_test : (t : Bool) → nat_lt end start ≡ t → start ≤ end
+    by_test true is =
+        let h : end < start = grind (arith, nat_tests) in
+        let less = is_less _ (first.0 end HostDomain (omega arith) h) in
+        let more = is_more _ (last.1 end HostDomain (omega arith) (omega arith)) in
+        cc (less, more)
+    by_test false is = grind (arith, nat_tests)

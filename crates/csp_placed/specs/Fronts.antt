@@ -1,0 +1,46 @@
+-- Which atoms of a list that ascends the denial of a front can decide.
+use Rattle.std.specs.Prelude.{◌≡◌, ℕ, ◌≤◌, false, List, [], length, take, None}
+use Rattle.std.specs.Cmp.Lexicographic.{slice_cmp}
+use Rattle.std.specs.List.{AllWithin}
+use Rattle.std.specs.Ordering.{nat_cmp, ordering_then}
+use Rattle.std.specs.declared.cmp.Ordering.{Ordering}
+use Rattle.std.specs.declared.cmp.Ordering.TheVariants.{Less, Equal, Greater}
+use Rattle.csp_atom.specs.Follows.{follows}
+use Rattle.csp_atom.specs.Order.{rank}
+use Rattle.csp_atom.specs.declared.atom.Atom.{Atom}
+use Rattle.csp_atom.specs.declared.atom.Atom.TheVariants.{PathIs, PathUnder}
+use Rattle.csp_atom.specs.declared.atom.Literal.{Literal}
+
+-- the path that the atom speaks of, with no pieces where it speaks of none
+abbrev pub path_of : Atom → List (List ℕ)
+path_of (PathIs path) = path
+path_of (PathUnder path) = path
+path_of atom = []
+
+-- the order of a path, cut to the length of the front, and the front
+abbrev pub start_cmp : List (List ℕ) → List (List ℕ) → Ordering
+start_cmp path front = slice_cmp (slice_cmp nat_cmp) (take (length front) path) front
+
+-- where the atom stands to those of this rank whose paths begin with the front: level with them if it is one
+abbrev pub front_cmp : List (List ℕ) → ℕ → Atom → Ordering
+front_cmp front kind atom = ordering_then (nat_cmp (rank atom) kind) (start_cmp (path_of atom) front)
+
+-- the atoms of this rank whose paths begin with the front are those at these places
+pub record ArePlacesBelow (front : List (List ℕ)) (kind : ℕ) (atoms : List Atom) (start end : ℕ)
+    : Type 0 where
+  pub ordered : start ≤ end
+  pub inside : end ≤ length atoms
+  pub before : AllWithin (λ atom. front_cmp front kind atom ≡ Less) atoms 0 start
+  pub within : AllWithin (λ atom. front_cmp front kind atom ≡ Equal) atoms start end
+  pub after : AllWithin (λ atom. front_cmp front kind atom ≡ Greater) atoms end (length atoms)
+
+-- the denial that the path lies under the front
+abbrev pub denied_front : List (List ℕ) → Literal
+denied_front front = record { atom = PathUnder front; positive = false }
+
+-- the literal decides none of the atoms outside of these places
+pub record Covers (literal : Literal) (atoms : List Atom) (start end : ℕ) : Type 0 where
+  pub ordered : start ≤ end
+  pub inside : end ≤ length atoms
+  pub before : AllWithin (λ atom. follows literal atom ≡ None) atoms 0 start
+  pub after : AllWithin (λ atom. follows literal atom ≡ None) atoms end (length atoms)

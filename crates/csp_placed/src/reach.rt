@@ -1,0 +1,94 @@
+//! Which atoms of a list that ascends the denial of a front can decide, by their places.
+ghost use Rattle.std.specs.Prelude.{◌≡◌, ◌≤◌, ◌<◌, ◌↔◌, ◌-◌, IsTrue};
+ghost use Rattle.csp_placed.specs.Facts.{Ascends};
+ghost use Rattle.csp_placed.specs.Fronts as spec;
+
+use csp_atom::Atom;
+use csp_atom::order::{compare_paths, rank};
+use csp_model::Bytes;
+use std::cmp::Ordering;
+
+/// Places of a list: those from `start` on, up to `end` and without it.
+#[derive(Clone, Copy, Debug)]
+pub struct Reach {
+    pub start: usize,
+    pub end: usize,
+}
+
+impl Reach {
+    /// Whether the place is one of them.
+    pub fn has(self, place: usize) -> bool
+        ensures { IsTrue result ↔ ((self.start ≤ place) × (place < self.end)) }
+    {
+        self.start <= place && place < self.end
+    }
+
+    /// The same places in the list that begins at this one.
+    pub fn seen_from(self, first: usize) -> Reach
+        ensures start { result.start ≡ self.start - first }
+        ensures end { result.end ≡ self.end - first }
+    {
+        Reach {
+            start: self.start.saturating_sub(first),
+            end: self.end.saturating_sub(first),
+        }
+    }
+}
+
+/// Places of a list that ascends outside of which the denial that the path lies under this front decides no
+/// atom: from the first file below the front, or else the first front below it, to the last front below it.
+/// Takes binary searches.
+pub fn reach_below(front: &[Bytes], atoms: &[Atom]) -> Reach
+    requires { Ascends atoms.now }
+    ensures { spec.Covers (spec.denied_front front.now) atoms.now result.start result.end }
+{
+    let files = places_below(front, 4, atoms);
+    let fronts = places_below(front, 5, atoms);
+    let start = if files.start < files.end {
+        files.start
+    } else {
+        fronts.start
+    };
+    Reach {
+        start,
+        end: fronts.end,
+    }
+}
+
+// The places of the atoms of a kind, given by its rank, whose paths begin with the front.
+fn places_below(front: &[Bytes], kind: u8, atoms: &[Atom]) -> Reach
+    requires { Ascends atoms.now }
+    ensures { spec.ArePlacesBelow front.now kind atoms.now result.start result.end }
+{
+    let start = atoms.partition_point(|atom| compare_to_front(atom, kind, front).is_lt());
+    let end = atoms.partition_point(|atom| compare_to_front(atom, kind, front).is_le());
+    Reach { start, end }
+}
+
+// Where the atom stands to those of the kind whose paths begin with the front: `Equal` if it is one of them.
+fn compare_to_front(atom: &Atom, kind: u8, front: &[Bytes]) -> Ordering
+    ensures { result ≡ spec.front_cmp front.now kind atom.now }
+{
+    match rank(atom).cmp(&kind) {
+        Ordering::Equal => compare_start(path_of(atom), front),
+        apart => apart,
+    }
+}
+
+// The order of a path, cut to the length of the front, and the front.
+fn compare_start(path: &[Bytes], front: &[Bytes]) -> Ordering
+    ensures { result ≡ spec.start_cmp path.now front.now }
+{
+    let end = path.len().min(front.len());
+    compare_paths(&path[..end], front)
+}
+
+// The path that the atom speaks of, with no pieces where it speaks of none.
+fn path_of(atom: &Atom) -> &[Bytes]
+    ensures { result.now ≡ spec.path_of atom.now }
+{
+    match atom {
+        Atom::PathIs(path) | Atom::PathUnder(path) => path.as_slice(),
+        _ => &[],
+    }
+}
