@@ -47,7 +47,7 @@ module _ (best : Taken) (a : Atom) (name : is_name a ≡ true) (excluded : follo
       by_name true is same =
           let holds : is_true_name s ≡ true = rw (same, is) refl in
           let says : follows_true s.atom.now a ≡ Some true = rw same at e in
-          let both : follows_true best.atom.now a ≡ Some true = through_name best.atom.now s.atom.now a true (within holds) says in
+          let both : follows_true best.atom.now a ≡ Some true = through_name best.atom.now s.atom.now a is name (within holds) says in
           cc
       by_name false is same = let says : follows_true s.atom.now a ≡ Some true = rw same at e in never_by_others s.atom.now a is name says
 
