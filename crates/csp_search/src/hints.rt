@@ -67,6 +67,15 @@ impl<'f> Hints<'f> {
         valuation.glance(formula, self.uses.weights(), &mut self.second)
     }
 
+    // Looks on at that formula, which is open, until a look sees it.
+    pub(crate) fn look_on(&mut self, valuation: &Valuation, formula: &PlacedFormula) {
+        for _ in 0..self.uses.count() {
+            if !matches!(self.look(valuation, formula), Glimpse::Nothing) {
+                return;
+            }
+        }
+    }
+
     // Whether a short look at the formula of this policy of the first list tells that it may hold.
     pub(crate) fn may_hold(
         &mut self,

@@ -185,8 +185,18 @@ fn step_of_whole(
         Standing::Decided(true) => Step::Close { leaf: Node::Met },
         Standing::Decided(false) => step_of_first(question, valuation),
         Standing::Open { place } => {
+            if seen.is_none() {
+                look_on(question, valuation, hints);
+            }
             step_of_open(question, valuation, seen.unwrap_or(place), hints)
         }
+    }
+}
+
+// Has the next short looks begin where the policy of the second list is open.
+fn look_on(question: Question, valuation: &Valuation, hints: &mut Hints) {
+    if let Some(formula) = second_formula(question) {
+        hints.look_on(valuation, formula);
     }
 }
 

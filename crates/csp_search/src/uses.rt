@@ -50,6 +50,11 @@ impl<'f> Uses<'f> {
         &self.weights
     }
 
+    // How often facts stand in the formula, which is at least the number of its open parts.
+    pub(crate) fn count(&self) -> usize {
+        self.parts.len()
+    }
+
     // Whether the denial of the atom at a place can make a part of the formula true.
     pub(crate) fn is_negated(&self, place: usize) -> bool {
         match self.negated.get(place) {
