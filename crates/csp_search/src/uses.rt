@@ -77,10 +77,9 @@ impl<'f> Uses<'f> {
             Some(Atom::HostIs(_) | Atom::HostUnder(_)) => {
                 self.may_hold_with_domain(valuation) || self.may_hold_with_name(place, valuation)
             }
-            Some(Atom::PathIs(_) | Atom::PathUnder(_)) => self
-                .fronts
-                .iter()
-                .any(|front| *front != place && self.is_true_in_part(*front, valuation)),
+            Some(Atom::PathIs(_) | Atom::PathUnder(_)) => self.fronts.iter().any(|front| *front
+                != place
+                && self.is_true_in_part(*front, valuation)),
             _ => false,
         }
     }
@@ -107,9 +106,8 @@ impl<'f> Uses<'f> {
     // known.
     fn may_hold_with_name(&self, place: usize, valuation: &Valuation) -> bool {
         match valuation.overlapping(place) {
-            Some(names) => names
-                .iter()
-                .any(|name| *name != place && self.is_true_in_part(*name, valuation)),
+            Some(names) => names.iter().any(|name| *name != place
+                && self.is_true_in_part(*name, valuation)),
             None => true,
         }
     }
