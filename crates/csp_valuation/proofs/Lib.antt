@@ -3,6 +3,7 @@ pub mod Changing
 pub mod Correcting
 pub mod Denying
 pub mod Excluded
+pub mod Held
 pub mod Kept
 pub mod Leads
 pub mod Looking

@@ -1,10 +1,12 @@
 //! Literals on the names of hosts. Where one holds, all names are false but for those that can hold with it.
-ghost use Rattle.std.specs.Prelude.{◌≡◌, ◌<◌, IfSome, IsTrue, MatchOption, length, true};
+ghost use Rattle.std.specs.Prelude.{◌≡◌, ◌≤◌, ◌<◌, ◌++◌, ◌∷◌, [], IfSome, IsTrue, List, MatchOption, filter, length};
+ghost use Rattle.std.specs.Prelude.{true, vec_capacity};
 ghost use Rattle.csp_placed.specs.Facts.{Ascends};
 ghost use Rattle.csp_placed.specs.Overlaps.{AreOverlaps};
 ghost use Rattle.csp_valuation.specs.Marks.{all_marked};
 ghost use Rattle.csp_valuation.specs.Names as spec;
 ghost use Rattle.csp_valuation.specs.Paths.{literal_of};
+ghost use Rattle.csp_valuation.specs.declared.taken.Taken.{Taken as TakenValue};
 
 use crate::marks::{Mark, deny_all, mark_all, mark_listed};
 use crate::reach::reach_of;
@@ -133,7 +135,29 @@ fn correct_at(place: usize, marks: &mut [Mark], atoms: &[Atom], literal: Taken, 
     marks[place].correct(by, says);
 }
 
-// Of the names that hold on a path the last, where it lies within each other.
+// Adds the literal to those of a path that say of a name that it holds, if it does.
+pub(crate) fn push_name<'a>(names: &mut Vec<Taken<'a>>, literal: Taken<'a>)
+    requires { length names.old.items < vec_capacity names.old }
+    ensures items { names.new.items ≡ names.old.items ++ filter spec.is_true_name (literal.entry ∷ []) }
+    ensures capacity { vec_capacity names.old ≤ vec_capacity names.new }
+{
+    if is_true_name(literal) {
+        names.push(literal).unwrap();
+    }
+}
+
+// Takes back the path's last literal, if it is one of these.
+pub(crate) fn pop_name<'a>(names: &mut Vec<Taken<'a>>, last: Taken<'a>)
+    ensures items { (front : List TakenValue) → names.old.items ≡ front ++ filter spec.is_true_name (last.entry ∷ [])
+        → names.new.items ≡ front }
+    ensures capacity { vec_capacity names.new ≡ vec_capacity names.old }
+{
+    if is_true_name(last) {
+        names.pop();
+    }
+}
+
+// Of literals the last one that says of a name that it holds, where it lies within each other such name.
 pub(crate) fn narrowest_name<'a>(path: &[Taken<'a>]) -> Option<Taken<'a>>
     ensures { IfSome result (spec.IsNarrowest path.now) }
 {

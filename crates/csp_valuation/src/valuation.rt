@@ -17,7 +17,9 @@ ghost use Rattle.csp_valuation.specs.Valuations.{value_at};
 use crate::denial::{denies_each, denies_indexed};
 use crate::glance::{Glance, Glimpse, look};
 use crate::marks::{Mark, clear_listed, clear_within, forget_all, mark_within};
-use crate::names::{Names, denied_names, mark_names, names_beside, narrowest_name};
+use crate::names::{
+    Names, denied_names, mark_names, names_beside, narrowest_name, pop_name, push_name,
+};
 use crate::reach::{ascends, kind_end_of, near_of, reach_of};
 use crate::standing::{Standing, standing_under};
 use crate::taken::Taken;
@@ -43,6 +45,8 @@ pub struct Valuation<'a> {
     atoms: Vec<Atom>,
     marks: Vec<Mark>,
     path: Vec<Taken<'a>>,
+    // Those literals of the path that say of a name of a host that it holds.
+    names: Vec<Taken<'a>>,
     room: usize,
     ascending: bool,
     // For each place of a name of a host the places of the names that can hold with it.
@@ -53,8 +57,9 @@ pub struct Valuation<'a> {
 }
 
 impl<'a> Model for Valuation<'a> {
-    ghost use Rattle.std.specs.Prelude.{◌≡◌, ◌≤◌, length, map, true, vec_capacity};
+    ghost use Rattle.std.specs.Prelude.{◌≡◌, ◌≤◌, filter, length, map, true, vec_capacity};
     ghost use Rattle.csp_valuation.specs.Marks.{mark};
+    ghost use Rattle.csp_valuation.specs.Names.{is_true_name};
     ghost use Rattle.csp_placed.specs.Overlaps.{AreOverlaps};
     ghost use Rattle.csp_valuation.specs.Paths.{literals_of, settled_part};
     ghost use Rattle.csp_placed.specs.Facts.{Ascends};
@@ -71,7 +76,8 @@ impl<'a> Model for Valuation<'a> {
     ghost invariant = { λ v.
         (v.marks.items ≡ map (mark 1 (literals_of (settled_part v.waits v.path.items))) v.atoms.items)
         × (length v.path.items ≤ v.room) × (v.room ≤ vec_capacity v.path)
-        × (v.ascending ≡ true → Ascends v.atoms.items) × AreOverlaps v.atoms.items v.overlaps.items };
+        × (v.ascending ≡ true → Ascends v.atoms.items) × AreOverlaps v.atoms.items v.overlaps.items
+        × (v.names.items ≡ filter is_true_name v.path.items) × (v.room ≤ vec_capacity v.names) };
 }
 
 impl<'a> Valuation<'a> {
@@ -82,12 +88,14 @@ impl<'a> Valuation<'a> {
         let atoms = atoms.into_vec();
         let marks = vec![in alloc; Mark::none(); atoms.len()]?;
         let path = Vec::with_capacity(alloc, room)?;
+        let names = Vec::with_capacity(alloc, room)?;
         let ascending = ascends(&atoms);
         let overlaps = overlaps_of(alloc, &atoms)?;
         Ok(Valuation {
             atoms,
             marks,
             path,
+            names,
             room,
             ascending,
             overlaps,
@@ -109,6 +117,7 @@ impl<'a> Valuation<'a> {
             self.ascending,
             &self.overlaps,
         );
+        push_name(&mut self.names, literal);
         self.path.push(literal).unwrap();
         self.waits = true;
     }
@@ -122,6 +131,7 @@ impl<'a> Valuation<'a> {
             × (length self.new.literals < self.new.room)) }
     {
         let last = self.path.pop()?;
+        pop_name(&mut self.names, last);
         if self.waits {
             self.waits = false;
             return Some(last);
@@ -143,6 +153,7 @@ impl<'a> Valuation<'a> {
     {
         forget_all(&mut self.marks);
         self.path.clear();
+        self.names.clear();
         self.waits = false;
     }
 
@@ -225,7 +236,7 @@ impl<'a> Valuation<'a> {
     fn denied(&self) -> Option<Names<'_>>
         ensures { IfSome result (AreDenied self.now) }
     {
-        let literal = narrowest_name(&self.path)?;
+        let literal = narrowest_name(&self.names)?;
         names_beside(literal, &self.overlaps, &self.atoms, self.ascending)
     }
 

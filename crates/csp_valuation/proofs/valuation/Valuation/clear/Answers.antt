@@ -1,4 +1,4 @@
-use Rattle.std.proofs.Common.{arith, ◌≡◌, ◌∙◌, length, drop}
+use Rattle.std.proofs.Common.{arith, refl, ◌≡◌, ◌∙◌, length, drop}
 use Rattle.csp_valuation.proofs.Marking.{all_forgotten}
 use Rattle.csp_valuation.proofs.Written.{written}
 use Rattle.csp_valuation.specs.Paths.{literals_of, settled_part}
@@ -15,4 +15,6 @@ invariant_of-self c =
       omega (arith, c.clear.ensures.capacity),
       c.self.invariant.3,
       c.self.invariant.4,
+      rw (c.clear.ensures.items, c.clear-2.ensures.items) refl,
+      omega (arith, c.clear-2.ensures.capacity, c.self.invariant.6),
     )

@@ -1,4 +1,4 @@
-use Rattle.std.proofs.Common.{arith, rules, ◌∙◌}
+use Rattle.std.proofs.Common.{arith, refl, rules, ◌∙◌}
 use Rattle.csp_valuation.proofs.Marking.{none_marked}
 use Rattle.csp_valuation.proofs.valuation.Valuation.new.Goals as goal
 
@@ -12,4 +12,6 @@ invariant_of-result c =
       omega (arith, c.in_ok-path.ensures.exact),
       rw c.deref.ensures.value at c.ascends-ascending.ensures,
       rw c.deref-2.ensures.value at c.in_ok-overlaps.ensures,
+      rw (c.in_ok-path.ensures.items, c.in_ok-names.ensures.items) refl,
+      omega (arith, c.in_ok-names.ensures.exact),
     )

@@ -1,6 +1,7 @@
 use Rattle.std.proofs.Common.{arith, ◌≡◌, ◌+◌, ◌∙◌, length, drop, map}
 use Rattle.csp_valuation.specs.Marks.{mark}
 use Rattle.csp_valuation.specs.Paths.{literals_of}
+use Rattle.csp_valuation.proofs.Held.{names_with}
 use Rattle.csp_valuation.proofs.Marking.{marks_taken_back}
 use Rattle.csp_valuation.proofs.Written.{written}
 use Rattle.csp_valuation.proofs.Waiting.{settled_before}
@@ -28,6 +29,8 @@ invariant_of-self-in-Some c =
       omega (arith, c.pop.ensures.capacity),
       c.self.invariant.3,
       c.self.invariant.4,
+      c.pop_name.ensures.items _ (c.self.invariant.5 ∙ names_with c.pop.new.self.items inside.path.items c.in_ok-last.last c.in_ok-last.ensures.items),
+      omega (arith, c.pop_name.ensures.capacity, c.self.invariant.6),
     )
 
 pub clear_within-requires : goal.clear_within-requires
@@ -51,6 +54,8 @@ invariant_of-self-in-None c =
       omega (arith, c.pop.ensures.capacity),
       c.self.invariant.3,
       c.self.invariant.4,
+      c.pop_name.ensures.items _ (c.self.invariant.5 ∙ names_with c.pop.new.self.items inside.path.items c.in_ok-last.last c.in_ok-last.ensures.items),
+      omega (arith, c.pop_name.ensures.capacity, c.self.invariant.6),
     )
 
 pub invariant_of-self-then-self : goal.invariant_of-self-then-self
@@ -61,4 +66,6 @@ invariant_of-self-then-self c =
       omega (arith, c.pop.ensures.capacity),
       c.self.invariant.3,
       c.self.invariant.4,
+      c.pop_name.ensures.items _ (c.self.invariant.5 ∙ names_with c.pop.new.self.items inside.path.items c.in_ok-last.last c.in_ok-last.ensures.items),
+      omega (arith, c.pop_name.ensures.capacity, c.self.invariant.6),
     )
