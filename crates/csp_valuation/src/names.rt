@@ -14,6 +14,9 @@ use crate::taken::Taken;
 use csp_atom::{Atom, follows_as};
 use csp_placed::{Reach, is_name, overlapping};
 
+// Of how many names the narrowest is looked for.
+const MOST: usize = 16;
+
 // The places of the names among atoms, which are those before `end`. Listed are those that can hold with one
 // of the names.
 #[derive(Clone, Copy)]
@@ -157,10 +160,13 @@ pub(crate) fn pop_name<'a>(names: &mut Vec<Taken<'a>>, last: Taken<'a>)
     }
 }
 
-// Of literals the last one that says of a name that it holds, where it lies within each other such name.
+// Of a few literals the last one that says of a name that it holds, where it lies within each other such name.
 pub(crate) fn narrowest_name<'a>(path: &[Taken<'a>]) -> Option<Taken<'a>>
     ensures { IfSome result (spec.IsNarrowest path.now) }
 {
+    if path.len() > MOST {
+        return None;
+    }
     let mut narrowest: Option<Taken<'a>> = None;
     for literal in path {
         if !is_true_name(*literal) {
