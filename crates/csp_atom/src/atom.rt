@@ -1,5 +1,5 @@
 //! Atoms and literals.
-use csp_model::{Bytes, Digest, Hash, Host, List, Text};
+use csp_model::{Digest, Hash, Host, List, Path, Text};
 
 /// A fact about one part of a check. A check without the part doesn't have the fact.
 #[derive(Debug, PartialEq, Eq, Drop)]
@@ -13,9 +13,9 @@ pub enum Atom {
     /// The URL has a host and this port, where no port stands for its scheme's default.
     PortIs(u16),
     /// The URL has a host and a path of these pieces.
-    PathIs(List<Bytes>),
+    PathIs(Path),
     /// The URL has a host and a path that begins with these pieces and has more.
-    PathUnder(List<Bytes>),
+    PathUnder(Path),
     /// The URL has no host, and this scheme.
     SchemeIs(Text),
     /// The nonce is this text.

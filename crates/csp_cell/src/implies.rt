@@ -32,7 +32,8 @@ fn makes_needless(literal: &Literal, other: &Literal) -> bool
     !is_too_short(literal, other) && implies(literal, other)
 }
 
-// Whether both are denials, of suffixes or of fronts, and the other's is too short to lie below the literal's.
+// Whether both are denials, of suffixes or of fronts, and the other's is too short to lie below the
+// literal's.
 fn is_too_short(literal: &Literal, other: &Literal) -> bool
     ensures { result ≡ spec.is_too_short literal.now other.now }
 {
@@ -46,7 +47,8 @@ fn is_no_longer(inner: &Atom, outer: &Atom) -> bool
         (Atom::HostUnder(inner), Atom::HostUnder(outer)) => {
             inner.as_str().len() <= outer.as_str().len()
         }
-        (Atom::PathUnder(inner), Atom::PathUnder(outer)) => inner.len() <= outer.len(),
+        (Atom::PathUnder(inner), Atom::PathUnder(outer)) => inner.as_slice().len()
+            <= outer.as_slice().len(),
         _ => false,
     }
 }

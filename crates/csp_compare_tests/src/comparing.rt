@@ -1,4 +1,5 @@
-//! Tests of csp_compare. Each proof that comes out is given to the checker, and each check is judged by both lists.
+//! Tests of csp_compare. Each proof that comes out is given to the checker, and each check is judged by both
+//! lists.
 ghost use Rattle.csp_model.specs.Policies.{IsReadable};
 
 use crate::values::{FIRST, SECOND, in_the_second_format, policies, proof};

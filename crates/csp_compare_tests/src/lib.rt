@@ -1,5 +1,5 @@
-//! Tests of the crates that compare two lists of policies: formulas, proofs, their checker, cells and the search, and
-//! of the commands of `run` that stand on them.
+//! Tests of the crates that compare two lists of policies: formulas, proofs, their checker, cells and the
+//! search, and of the commands of `run` that stand on them.
 //!
 //! Nothing stands on this crate. What a proved clause says of every input is not tested again.
 #![tactic(auto)]

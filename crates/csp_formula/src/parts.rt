@@ -7,7 +7,7 @@ use crate::formula::Formula;
 use crate::shapes::{after_redirect, is_ancestor};
 use csp_atom::Atom;
 use csp_grammar::{is_domain, is_four_numbers};
-use csp_model::{Bytes, Duplicate, Host, HostPart, List, Memory, PathPart, PortPart, Scheme, Text};
+use csp_model::{Duplicate, Host, HostPart, Memory, Path, PathPart, PortPart, Scheme, Text};
 use csp_shape::Shape;
 use std::alloc::Global;
 
@@ -83,7 +83,7 @@ pub(crate) fn path_formula(alloc: Global, part: &PathPart, shape: Shape) -> Resu
             }
         }
         PathPart::Prefix(pieces) => {
-            if after_redirect(shape) || pieces.is_empty() {
+            if after_redirect(shape) || pieces.as_slice().is_empty() {
                 Ok(Formula::Constant(true))
             } else if has_dots(pieces) || is_ancestor(shape) {
                 Ok(Formula::Constant(false))
@@ -95,7 +95,7 @@ pub(crate) fn path_formula(alloc: Global, part: &PathPart, shape: Shape) -> Resu
 }
 
 // Whether `.` or `..` is a piece, as in no URL.
-fn has_dots(pieces: &List<Bytes>) -> bool
+fn has_dots(pieces: &Path) -> bool
     ensures { result ≡ spec.has_dots pieces.now }
 {
     pieces

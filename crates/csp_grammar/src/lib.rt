@@ -1,5 +1,5 @@
-//! Small parts of the grammar of URLs and policies, as tests: domains, addresses, schemes, pieces of paths and
-//! base64-values (URL Standard; Content Security Policy Level 3, section 2.3.1).
+//! Small parts of the grammar of URLs and policies, as tests: domains, addresses, schemes, pieces of paths
+//! and base64-values (URL Standard; Content Security Policy Level 3, section 2.3.1).
 //!
 //! No call takes memory.
 #![tactic(auto)]

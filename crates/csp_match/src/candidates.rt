@@ -12,9 +12,9 @@ use csp_model::{Directive, Memory, Name, Policy};
 use std::alloc::{AllocError, Global};
 use std::marker::Model;
 
-/// The directives of a policy that can govern a check: those with one of the names of `Name`. It is seen as the
-/// policy. Whoever asks what governs for one name after the other, as `csp_verdict` does, goes through the other
-/// directives once.
+/// The directives of a policy that can govern a check: those with one of the names of `Name`. It is seen as
+/// the policy. Whoever asks what governs for one name after the other, as `csp_verdict` does, goes through
+/// the other directives once.
 #[derive(Drop)]
 pub struct Candidates<'a> {
     policy: &'a Policy,

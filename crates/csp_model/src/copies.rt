@@ -4,6 +4,7 @@ ghost use Rattle.std.specs.Prelude.{◌≡◌, IfOk};
 use crate::check::Check;
 use crate::list::List;
 use crate::memory::Memory;
+use crate::path::Path;
 use crate::policy::{Directive, Policy, PolicyList};
 use crate::source::{Hash, HostPart, PathPart, Source};
 use crate::text::{Bytes, Text};
@@ -27,6 +28,12 @@ impl Duplicate for Text {
 impl Duplicate for Bytes {
     fn copy(&self, alloc: Global) -> Result<Bytes, Memory> {
         Bytes::new(alloc, self.as_slice())
+    }
+}
+
+impl Duplicate for Path {
+    fn copy(&self, _alloc: Global) -> Result<Path, Memory> {
+        self.share()
     }
 }
 

@@ -23,7 +23,7 @@ pub use grammar::{are_digits, decimal_value, is_scheme, is_scheme_char};
 pub use list::List;
 pub use memory::Memory;
 pub use name::{Name, name_text};
-pub use path::{ESCAPED, pieces_of, push_path};
+pub use path::{ESCAPED, Path, pieces_of, push_path};
 pub use policy::{Directive, Disposition, Policy, PolicyList};
 pub use source::{Algorithm, Hash, HostPart, Keyword, PathPart, PortPart, Source};
 pub use text::{Bytes, Text, is_ascii_text};

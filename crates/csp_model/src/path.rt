@@ -2,6 +2,10 @@
 ghost use Rattle.std.specs.Prelude.{◌≡◌, ◌++◌, IfOk, OnErr, OnOk, string_bytes, take};
 ghost use Rattle.std.specs.String.{string_len};
 ghost use Rattle.std.specs.String.Boundary.{IsSplitPoint};
+ghost use Rattle.std.specs.Cmp.Lexicographic.{pointwise};
+ghost use Rattle.std.specs.Cmp.Rules.{comparing};
+ghost use Rattle.std.specs.Prelude.{◌==◌};
+ghost use Rattle.std.proofs.Common.{rules};
 ghost use Rattle.percent_encoding.specs.Percent.{percent_decode};
 ghost use Rattle.csp_model.specs.Grammar as spec;
 ghost use Rattle.csp_model.specs.Paths.{path_text};
@@ -11,6 +15,70 @@ use crate::memory::Memory;
 use crate::text::Bytes;
 use percent_encoding::{AsciiSet, NON_ALPHANUMERIC, ascii_set, percent_decode, percent_encode};
 use std::alloc::Global;
+use std::marker::Model;
+use std::rc::Rc;
+
+/// The pieces of a path. Its copies share them, so that they take next to no memory.
+#[derive(Debug, Drop)]
+pub struct Path {
+    pieces: Rc<List<Bytes>, Global>,
+}
+
+impl Model for Path {
+    ghost use Rattle.std.specs.Prelude as std_words;
+
+    ghost Value = { std_words.List (std_words.List std_words.ℕ) };
+
+    ghost view = { λ path. path.pieces.value };
+}
+
+impl Path {
+    /// The path of these pieces. None is copied.
+    pub fn new(alloc: Global, pieces: List<Bytes>) -> Result<Path, Memory>
+        ensures { IfOk result (λ made. made ≡ pieces) }
+    {
+        Ok(Path {
+            pieces: Rc::new(alloc, pieces)?,
+        })
+    }
+
+    // Another path of the same pieces.
+    pub(crate) fn share(&self) -> Result<Path, Memory>
+        ensures { IfOk result (λ made. made ≡ self.now) }
+    {
+        Ok(Path {
+            pieces: self.pieces.clone()?,
+        })
+    }
+
+    /// The pieces.
+    pub fn pieces(&self) -> &List<Bytes>
+        ensures { result.now ≡ self.now }
+    {
+        &self.pieces
+    }
+
+    /// The pieces as a slice.
+    pub fn as_slice(&self) -> &[Bytes]
+        ensures { result.now ≡ self.now }
+    {
+        self.pieces.as_slice()
+    }
+}
+
+impl PartialEq for Path {
+    ghost eq = { pointwise (pointwise ◌==◌) };
+
+    ghost laws = { Prim.search (comparing, rules) };
+
+    fn eq(&self, other: &Path) -> bool {
+        self.pieces() == other.pieces()
+    }
+}
+
+impl Eq for Path {
+    ghost laws = { Prim.search (comparing, rules) };
+}
 
 /// What a piece of a path is written with escapes for: every byte but letters, digits, `-`, `.`, `_` and `~`,
 /// the unreserved characters of RFC 3986, section 2.3.

@@ -2,8 +2,8 @@
 ghost use Rattle.std.specs.Prelude.{◌≡◌};
 ghost use Rattle.csp_model.specs.Grammar as spec;
 
-use crate::list::List;
-use crate::text::{Bytes, Text};
+use crate::path::Path;
+use crate::text::Text;
 
 /// A digest's algorithm.
 #[derive(Clone, Copy, Debug, PartialEq, Eq, PartialOrd, Ord)]
@@ -85,9 +85,9 @@ pub enum PortPart {
 pub enum PathPart {
     Absent,
     /// A path that doesn't end in `/`.
-    Exact(List<Bytes>),
+    Exact(Path),
     /// A path that ends in `/`, without its last, empty piece: `/` has none.
-    Prefix(List<Bytes>),
+    Prefix(Path),
 }
 
 /// What a token of a directive's value stands for.

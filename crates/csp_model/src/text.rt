@@ -8,7 +8,7 @@ ghost use Rattle.std.proofs.Common.{rules};
 ghost use Rattle.csp_model.specs.Ascii as spec;
 
 use crate::memory::Memory;
-use std::alloc::{AllocError, Global};
+use std::alloc::Global;
 use std::cmp::Ordering;
 use std::marker::Model;
 
@@ -48,14 +48,14 @@ impl Text {
     }
 
     /// The text of ASCII bytes, in lower case.
+    // The bytes are copied at once, and changed in place.
     pub fn from_ascii_lowercase(alloc: Global, ascii: &[u8]) -> Result<Text, Memory>
         requires { IsTrue (spec.is_ascii_text ascii.now) }
         ensures { IfOk result (λ made. made ≡ spec.lower ascii.now) }
     {
-        match String::from_utf8(lower_bytes(alloc, ascii)?) {
-            Ok(text) => Ok(Text { text }),
-            Err(_) => unreachable!(),
-        }
+        let mut text = Text::from_ascii(alloc, ascii)?.into_string();
+        text.make_ascii_lowercase();
+        Ok(Text { text })
     }
 
     /// The text of `text` itself. Nothing is copied.
@@ -87,12 +87,6 @@ pub fn is_ascii_text(text: &[u8]) -> bool
     ensures { result ≡ spec.is_ascii_text text.now }
 {
     text.iter().all(|b| *b < 128)
-}
-
-fn lower_bytes(alloc: Global, ascii: &[u8]) -> Result<Vec<u8>, AllocError>
-    ensures { IfOk result (λ made. made.items ≡ spec.lower ascii.now) }
-{
-    ascii.iter().map(|b| b.to_ascii_lowercase()).collect(alloc)
 }
 
 /// Bytes of any kind.

@@ -41,7 +41,7 @@ fn named_path(literal: &Literal) -> Option<&List<Bytes>>
     ensures { option_copied result ≡ path_of literal.now.atom }
 {
     match &literal.atom {
-        Atom::PathIs(pieces) => Some(pieces),
+        Atom::PathIs(path) => Some(path.pieces()),
         _ => None,
     }
 }
@@ -59,7 +59,7 @@ fn named_front(literal: &Literal) -> Option<&List<Bytes>>
     ensures { option_copied result ≡ front_of literal.now.atom }
 {
     match &literal.atom {
-        Atom::PathUnder(pieces) => Some(pieces),
+        Atom::PathUnder(path) => Some(path.pieces()),
         _ => None,
     }
 }

@@ -1,4 +1,5 @@
-//! The texts of the names of hosts, and the lengths of the suffixes among them, so that few texts are looked for.
+//! The texts of the names of hosts, and the lengths of the suffixes among them, so that few texts are looked
+//! for.
 ghost use Rattle.std.specs.Prelude.{◌≡◌, ◌≤◌, ◌++◌, ◌∷◌, false, length, IfOk, OnOk, Some, List, ℕ, option_map};
 ghost use Rattle.csp_model.specs.Ascii.{code};
 ghost use Rattle.csp_placed.specs.Lengths as spec;

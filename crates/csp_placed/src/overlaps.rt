@@ -12,10 +12,10 @@ use csp_model::Memory;
 use std::alloc::Global;
 use std::cmp::Ordering;
 
-/// For each place of a list of atoms where the name of a host stands, that is a host or a suffix, the places of
-/// the names that can hold with it: its own, those of the suffixes that it lies under, and of a suffix those of
-/// the names that lie under it. There are no lists where the atoms don't rise, nor where far more text would
-/// have to be looked for than the names have. Time and memory grow with the texts of the names.
+/// For each place of a list of atoms where the name of a host stands, that is a host or a suffix, the places
+/// of the names that can hold with it: its own, those of the suffixes that it lies under, and of a suffix
+/// those of the names that lie under it. There are no lists where the atoms don't rise, nor where far more
+/// text would have to be looked for than the names have. Time and memory grow with the texts of the names.
 pub fn overlaps_of(alloc: Global, atoms: &[Atom]) -> Result<Vec<Vec<usize>>, Memory>
     ensures { IfOk result (λ made. spec.AreOverlaps atoms.now made.items) }
 {

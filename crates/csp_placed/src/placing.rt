@@ -66,8 +66,8 @@ fn index_all(alloc: Global, formulas: Vec<PlacedFormula>) -> Result<List<Indexed
     Ok(indexed)
 }
 
-// The formula over the places of a list of its atoms. What the two calls need of the list is a premise of what
-// they ensure, so that the recursion asks nothing at its calls.
+// The formula over the places of a list of its atoms. What the two calls need of the list is a premise of
+// what they ensure, so that the recursion asks nothing at its calls.
 #[cycle(place)]
 fn place(alloc: Global, formula: &Formula, atoms: &[Atom]) -> Result<PlacedFormula, Memory>
     ensures { IsListOf atoms.now (atoms_in (sentence_of formula.now))
@@ -85,8 +85,8 @@ fn place(alloc: Global, formula: &Formula, atoms: &[Atom]) -> Result<PlacedFormu
     }
 }
 
-// The and of formulas. Where a fact comes first its place stands beside the others, since a look at it tells of
-// most ands what they come to.
+// The and of formulas. Where a fact comes first its place stands beside the others, since a look at it tells
+// of most ands what they come to.
 #[cycle(place)]
 fn place_every(alloc: Global, formulas: &[Formula], atoms: &[Atom]) -> Result<PlacedFormula, Memory>
     ensures { IsListOf atoms.now (facts_of formulas.now)

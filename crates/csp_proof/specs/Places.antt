@@ -1,5 +1,5 @@
--- Words of private contracts, which stand here since contracts cite only specs/: what the lines of a text say so
--- far, and which lines may come next.
+-- Words of private contracts, which stand here since contracts cite only specs/: what the lines of a text say
+-- so far, and which lines may come next.
 use Rattle.std.specs.Prelude.{◌≡◌, ℕ, ◌+◌, ◌<◌, ◌&&◌, Bool, true, false, zero, suc, if◌then◌else◌, List, [], ◌∷◌, ◌++◌, length, map, Option, Some, None, option_and_then, All, ⊤, Result, Ok, Err}
 use Rattle.std.specs.List.{flat_map}
 use Rattle.csp_model.specs.Policies.{policy_limit}

@@ -1,5 +1,5 @@
--- Words of private contracts, which stand here since contracts cite only specs/: what a line's text is read as.
--- That this is what the text spells is proved of them.
+-- Words of private contracts, which stand here since contracts cite only specs/: what a line's text is read
+-- as. That this is what the text spells is proved of them.
 use Rattle.std.specs.Prelude.{◌≡◌, ℕ, ◌<◌, ◌^◌, ◌==◌, ◌&&◌, nat_lt, if◌then◌else◌, List, [], ◌∷◌, Option, Some, None, option_map, option_and_then, codes, decimal, ⊤, Result, Ok}
 use Rattle.std.specs.Result.{result_ok}
 use Rattle.std.specs.Str.{bytes_eq}

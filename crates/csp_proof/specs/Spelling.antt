@@ -1,5 +1,5 @@
--- How a proof is written: a line for each thing that it says, ended by a line feed, with one space between each
--- two words of a line.
+-- How a proof is written: a line for each thing that it says, ended by a line feed, with one space between
+-- each two words of a line.
 use Rattle.std.specs.Prelude.{ℕ, List, [], ◌∷◌, ◌++◌, map, codes, decimal}
 use Rattle.std.specs.List.{flat_map, join_with_byte}
 use Rattle.csp_model.specs.Ascii.{code}

@@ -10,7 +10,7 @@ use crate::print::push_atom;
 use crate::words::{cut, number_below};
 use csp_atom::Atom;
 use csp_grammar::is_base64_value;
-use csp_model::{Algorithm, Bytes, Digest, Hash, Host, List, Memory, Text, Url};
+use csp_model::{Algorithm, Bytes, Digest, Hash, Host, List, Memory, Path, Text, Url};
 use csp_url::{PartsError, url_from_parts};
 use hex::FromHex;
 use std::alloc::Global;
@@ -53,11 +53,11 @@ fn without_spare(alloc: Global, pieces: List<Bytes>) -> Result<List<Bytes>, Memo
 }
 
 #[tactic(auto, using(crate::proofs::UrlParts::path_found))]
-fn path_of(alloc: Global, text: &str) -> Result<Option<List<Bytes>>, Memory>
+fn path_of(alloc: Global, text: &str) -> Result<Option<Path>, Memory>
     ensures { IfOk result (λ found. found ≡ url_spec.found_path text.now) }
 {
     match parts_of(alloc, "a", text)? {
-        Some((_, path)) => Ok(Some(without_spare(alloc, path)?)),
+        Some((_, pieces)) => Ok(Some(Path::new(alloc, without_spare(alloc, pieces)?)?)),
         None => Ok(None),
     }
 }
@@ -156,8 +156,8 @@ fn atom_about(alloc: Global, word: &str, value: &str) -> Result<Option<Atom>, Me
         "host-is" => Ok(host_of(alloc, value)?.map(|host| Atom::HostIs(host))),
         "host-under" => Ok(domain_of(alloc, value)?.map(|suffix| Atom::HostUnder(suffix))),
         "port-is" => Ok(port_of(value).map(|port| Atom::PortIs(port))),
-        "path-is" => Ok(path_of(alloc, value)?.map(|pieces| Atom::PathIs(pieces))),
-        "path-under" => Ok(path_of(alloc, value)?.map(|pieces| Atom::PathUnder(pieces))),
+        "path-is" => Ok(path_of(alloc, value)?.map(|path| Atom::PathIs(path))),
+        "path-under" => Ok(path_of(alloc, value)?.map(|path| Atom::PathUnder(path))),
         "scheme-is" => Ok(plain_scheme(alloc, value)?.map(|scheme| Atom::SchemeIs(scheme))),
         "nonce-is" => Ok(base64_text(alloc, value)?.map(|nonce| Atom::NonceIs(nonce))),
         "integrity-has" => Ok(hash_of(alloc, value)?.map(|hash| Atom::IntegrityHas(hash))),

@@ -1,4 +1,5 @@
-//! Proofs that one list of policies is at least as strict as another: their text, and the rules that they keep.
+//! Proofs that one list of policies is at least as strict as another: their text, and the rules that they
+//! keep.
 #![tactic(auto)]
 
 mod atom;

@@ -300,8 +300,8 @@ fn a_reporter_of_another_crate(rt: HostRuntime) -> Result<(), Fail> {
     Ok(())
 }
 
-// After a refusal the desk has the very reporters that were lent, which go on from where they stopped. In their
-// place a body could put reporters of its own around them, of the same kinds and with more faults.
+// After a refusal the desk has the very reporters that were lent, which go on from where they stopped. In
+// their place a body could put reporters of its own around them, of the same kinds and with more faults.
 #[test]
 fn the_reporters_stay_after_a_refusal(rt: HostRuntime) -> Result<(), Fail> {
     let alloc = rt.alloc();

@@ -1,5 +1,5 @@
-//! A program that uses the library as any other would: it runs commands on example files, keeps what is printed
-//! in memory, and prints it behind the example's name.
+//! A program that uses the library as any other would: it runs commands on example files, keeps what is
+//! printed in memory, and prints it behind the example's name.
 #![tactic(auto)]
 
 use csp_desk::{Lines, Reporter, Tally};

@@ -52,8 +52,8 @@ pub(crate) fn second_formula<'f>(question: Question<'f>) -> Option<&'f PlacedFor
     )
 }
 
-// Where a formula of the first list stands. Its index is asked first. Where there is none, as of a policy that
-// isn't enforced, it doesn't block a branch.
+// Where a formula of the first list stands. Its index is asked first. Where there is none, as of a policy
+// that isn't enforced, it doesn't block a branch.
 fn standing_of_first(formula: Option<&IndexedFormula>, valuation: &Valuation) -> Standing
     ensures value { is_surely false (value_in result) ≡ spec.is_surely_at
         valuation.now.literals valuation.now.atoms false (option_copied formula.entry) }

@@ -15,7 +15,8 @@ pub(crate) struct Uses<'f> {
     weights: Vec<u32>,
     // Whether below a not, so that its denial can make a part of the formula true.
     negated: Vec<bool>,
-    // The parts of the formula, those of an or in it among them, by the places of the facts that stand in them.
+    // The parts of the formula, those of an or in it among them, by the places of the facts that stand in
+    // them.
     parts: Vec<(usize, &'f PlacedFormula)>,
     // The places of the fronts, and of the atom that the host is a domain, which hold where other atoms do.
     fronts: Vec<usize>,

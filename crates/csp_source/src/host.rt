@@ -5,8 +5,8 @@ ghost use Rattle.csp_model.specs.Ascii.{code, is_ascii_text, split_at};
 ghost use Rattle.csp_model.specs.Grammar as spec;
 ghost use Rattle.csp_model.specs.Reading as reading;
 
-use crate::texts::{lower_text, without_final};
-use csp_model::{HostPart, Memory};
+use crate::texts::without_final;
+use csp_model::{HostPart, Memory, Text};
 use std::alloc::Global;
 
 #[tactic(auto, unfolding(csp_model::specs::Grammar::is_label_char))]
@@ -68,11 +68,11 @@ pub(crate) fn host_part_of(alloc: Global, text: &[u8]) -> Result<Option<HostPart
     if text.starts_with(b"*.") {
         let (_, suffix) = text.split_at(2);
         if is_name(suffix) {
-            return Ok(Some(HostPart::Under(lower_text(alloc, suffix)?)));
+            return Ok(Some(HostPart::Under(Text::from_ascii_lowercase(alloc, suffix)?)));
         }
     }
     if is_name(text) {
-        Ok(Some(HostPart::Exact(lower_text(alloc, text)?)))
+        Ok(Some(HostPart::Exact(Text::from_ascii_lowercase(alloc, text)?)))
     } else {
         Ok(None)
     }

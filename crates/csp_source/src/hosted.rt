@@ -8,7 +8,6 @@ use crate::host::{host_len, host_part_of};
 use crate::path::{is_path, path_part_of};
 use crate::port::port_part_of;
 use crate::scheme::split_scheme;
-use crate::texts::lower_text;
 use csp_model::{Memory, Source, Text};
 use std::alloc::Global;
 
@@ -35,7 +34,7 @@ fn lower_scheme(alloc: Global, letters: Option<&[u8]>) -> Result<Option<Text>, M
     match letters {
         None => Ok(None),
         Some(b"https") => Ok(Some(Text::new(alloc, "https")?)),
-        Some(letters) => Ok(Some(lower_text(alloc, letters)?)),
+        Some(letters) => Ok(Some(Text::from_ascii_lowercase(alloc, letters)?)),
     }
 }
 

@@ -5,8 +5,7 @@ ghost use Rattle.csp_model.specs.Grammar.{is_scheme_char};
 ghost use Rattle.csp_model.specs.Reading as spec;
 ghost use Rattle.csp_source.specs.Schemes.{has_scheme};
 
-use crate::texts::lower_text;
-use csp_model::{Memory, Source, is_scheme};
+use csp_model::{Memory, Source, Text, is_scheme};
 use memchr::memchr;
 use std::alloc::Global;
 
@@ -38,7 +37,7 @@ pub(crate) fn scheme_source(alloc: Global, token: &[u8]) -> Result<Option<Source
 {
     match token.strip_suffix(b":") {
         Some(letters) if is_scheme(letters) => Ok(Some(Source::SchemeOnly {
-            scheme: lower_text(alloc, letters)?,
+            scheme: Text::from_ascii_lowercase(alloc, letters)?,
         })),
         _ => Ok(None),
     }

@@ -140,8 +140,10 @@ fn has_every_part(source: &Source, wanted: &List<Bytes>) -> bool {
             scheme: Some(scheme),
             host: HostPart::Under(suffix),
             port: PortPart::Number(80),
-            path: PathPart::Prefix(pieces),
-        } => scheme.as_str() == "https" && suffix.as_str() == "a.example" && pieces == wanted,
+            path: PathPart::Prefix(path),
+        } => scheme.as_str() == "https"
+            && suffix.as_str() == "a.example"
+            && path.pieces() == wanted,
         _ => false,
     }
 }

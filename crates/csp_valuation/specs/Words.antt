@@ -1,4 +1,5 @@
--- A mark in two words: the number of the literal that decided it, or 0 where nothing is decided, and the value.
+-- A mark in two words: the number of the literal that decided it, or 0 where nothing is decided, and the
+-- value.
 use Rattle.std.specs.Prelude.{◌≡◌, refl, ℕ, zero, suc, Bool, false, Option, Some, None}
 use Rattle.std.proofs.Common.{sym, ap}
 use Rattle.csp_valuation.specs.Marks.{Decision}

@@ -160,7 +160,8 @@ pub(crate) fn pop_name<'a>(names: &mut Vec<Taken<'a>>, last: Taken<'a>)
     }
 }
 
-// Of a few literals the last one that says of a name that it holds, where it lies within each other such name.
+// Of a few literals the last one that says of a name that it holds, where it lies within each other such
+// name.
 pub(crate) fn narrowest_name<'a>(path: &[Taken<'a>]) -> Option<Taken<'a>>
     ensures { IfSome result (spec.IsNarrowest path.now) }
 {

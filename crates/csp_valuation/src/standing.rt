@@ -96,8 +96,8 @@ fn standing_at(valuation: &Valuation, place: usize) -> Standing
     }
 }
 
-// Whether a part that is a constant or a fact, or begins with a fact, tells by that alone that it changes no or
-// that stands so far as it does.
+// Whether a part that is a constant or a fact, or begins with a fact, tells by that alone that it changes no
+// or that stands so far as it does.
 #[tactic(auto, using(crate::proofs::Values::values))]
 fn adds_nothing(valuation: &Valuation, so_far: Standing, part: &PlacedFormula) -> bool
     ensures { result ≡ true → maybe_or (value_in so_far)

@@ -12,8 +12,8 @@ ghost use Rattle.csp_verdict.specs.Algorithms.{AgreeWhereNamed, algorithms_of, i
 ghost use Rattle.csp_verdict.specs.Reported.{AreOf, makes_report};
 
 /// The verdict on inline code or style and its violations rest on those digests alone whose algorithms a
-/// hash-source of the list's policies names. So they are the same by the digests of these algorithms as by all
-/// three.
+/// hash-source of the list's policies names. So they are the same by the digests of these algorithms as by
+/// all three.
 pub fn only_named_algorithms_count()
     ensures agreeing { (list : PolicyList) (kind : InlineKind) (nonce : Items ℕ) (first second : Digests)
         → AgreeWhereNamed list first second

@@ -83,8 +83,8 @@ pub fn push_report(alloc: Global, text: &mut Vec<u8>, violation: &Violation) -> 
     }
 }
 
-/// The report of a violation: one JSON object (RFC 8259) with no space, whose members are texts, in this order:
-/// `blocked-uri`, `disposition`, `effective-directive`, `original-policy`, `script-sample`,
+/// The report of a violation: one JSON object (RFC 8259) with no space, whose members are texts, in this
+/// order: `blocked-uri`, `disposition`, `effective-directive`, `original-policy`, `script-sample`,
 /// `violated-directive`. The first and the last directive are one.
 pub fn report_json(alloc: Global, violation: &Violation) -> Result<Bytes, Memory>
     ensures { IfOk result (λ report. report ≡ report_bytes violation.now) }
