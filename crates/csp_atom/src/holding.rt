@@ -40,7 +40,7 @@ fn holds_of_url(atom: &Atom, url: &Url) -> bool
         (Atom::PortIs(number), Url::Hosted { scheme, port, .. }) => {
             port.unwrap_or(scheme.default_port()) == *number
         }
-        (Atom::PathIs(known), Url::Hosted { path, .. }) => path == known.pieces(),
+        (Atom::PathIs(known), Url::Hosted { path, .. }) => known.pieces() == path,
         (Atom::PathUnder(pieces), Url::Hosted { path, .. }) => {
             goes_beyond(path.as_slice(), pieces.as_slice())
         }
