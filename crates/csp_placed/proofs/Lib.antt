@@ -1,12 +1,14 @@
+pub mod Ascending
 pub mod Finding
 pub mod FrontReach
 pub mod Fronts
-pub mod Gaining
+pub mod Gathering
 pub mod Layers
 pub mod Leads
-pub mod Listed
 pub mod Measuring
 pub mod Meeting
 pub mod Noting
+pub mod Numbering
 pub mod Ors
 pub mod Rising
+pub mod Wholes

@@ -6,3 +6,5 @@ pub mod Keys
 pub mod Lengths
 pub mod Overlaps
 pub mod Placed
+pub mod Placing
+pub mod Sorting

@@ -9,9 +9,10 @@ mod overlaps;
 mod placed;
 mod placing;
 mod reach;
+mod sorting;
 
 pub use indexed::{IndexedFormula, Parts};
 pub use overlaps::{is_name, overlapping, overlaps_of};
 pub use placed::PlacedFormula;
 pub use placing::{PlacedFormulas, place_formulas};
-pub use reach::{Reach, reach_below};
+pub use reach::{Reach, ascends, places_of, reach_below};

@@ -1,22 +1,20 @@
 //! Formulas over atoms, made into formulas over the places of one list of atoms.
-ghost use Rattle.std.specs.Prelude.{◌≡◌, ◌≢◌, ◌↔◌, ◌++◌, IfOk, Some, map, slice_get};
+ghost use Rattle.std.specs.Prelude.{◌≡◌, ◌≢◌, ◌↔◌, ◌∷◌, ◌++◌, ℕ, IfOk, List as Items, map};
 ghost use Rattle.std.specs.List.{AllPairs, Contains};
 ghost use Rattle.csp_atom.specs.declared.atom.Atom.{Atom as AtomValue};
 ghost use Rattle.csp_formula.specs.Sentences.{all_of, sentence_of};
-ghost use Rattle.csp_formula.specs.Values.{atoms_in};
-ghost use Rattle.csp_placed.specs.Facts.{IsListOf, facts_of};
+ghost use Rattle.csp_placed.specs.Facts.{facts_of};
 ghost use Rattle.csp_placed.specs.Placed.{sentence_at};
-ghost use Rattle.csp_placed.specs.Facts.{Ascends};
+ghost use Rattle.csp_placed.specs.Placing as spec;
 
-use crate::collecting::{atoms_of, collect_all};
+use crate::collecting::collect_all;
 use crate::indexed::IndexedFormula;
 use crate::placed::PlacedFormula;
+use crate::sorting::{SortedFacts, sort_facts};
 use csp_atom::Atom;
-use csp_atom::order::compare;
 use csp_formula::Formula;
 use csp_model::{List, Memory};
 use std::alloc::Global;
-use std::collections::BTreeSet;
 
 /// Formulas of two lists of policies over one list of atoms.
 #[derive(Debug, Drop)]
@@ -41,12 +39,15 @@ pub fn place_formulas(
     ensures atoms { IfOk result (λ made. (atom : AtomValue)
         → Contains made.atoms atom ↔ Contains (facts_of first.now ++ facts_of second.now) atom) }
 {
-    let mut seen = BTreeSet::new(alloc);
-    collect_all(first, &mut seen)?;
-    collect_all(second, &mut seen)?;
-    let atoms = atoms_of(alloc, &seen)?;
-    let placed_first = place_all(alloc, first, atoms.as_slice())?;
-    let placed_second = place_all(alloc, second, atoms.as_slice())?;
+    let mut facts = Vec::new(alloc);
+    collect_all(first, &mut facts)?;
+    collect_all(second, &mut facts)?;
+    let SortedFacts { atoms, places } = sort_facts(alloc, &facts)?;
+    let mut places = Places {
+        rest: places.as_slice(),
+    };
+    let placed_first = place_all(alloc, first, &mut places)?;
+    let placed_second = place_all(alloc, second, &mut places)?;
     let first = index_all(alloc, placed_first)?;
     Ok(PlacedFormulas {
         atoms,
@@ -66,61 +67,80 @@ fn index_all(alloc: Global, formulas: Vec<PlacedFormula>) -> Result<List<Indexed
     Ok(indexed)
 }
 
-// The formula over the places of a list of its atoms. What the two calls need of the list is a premise of
-// what they ensure, so that the recursion asks nothing at its calls.
+// The places of the facts that are still to be placed.
+#[derive(Drop)]
+struct Places<'p> {
+    rest: &'p [usize],
+}
+
+impl<'p> Places<'p> {
+    // Takes the first of them off.
+    fn next(&mut self) -> usize
+        ensures { (place : ℕ) (rest : Items ℕ) → self.old.rest.now ≡ place ∷ rest
+            → (result ≡ place) × (self.new.rest.now ≡ rest) }
+    {
+        match self.rest.split_first() {
+            Some((place, rest)) => {
+                self.rest = rest;
+                *place
+            }
+            None => 0,
+        }
+    }
+}
+
+// The formula over the places of its facts, which are the first of these.
 #[cycle(place)]
-fn place(alloc: Global, formula: &Formula, atoms: &[Atom]) -> Result<PlacedFormula, Memory>
-    ensures { IsListOf atoms.now (atoms_in (sentence_of formula.now))
-        → IfOk result (λ placed. sentence_at atoms.now placed ≡ sentence_of formula.now) }
+fn place(alloc: Global, formula: &Formula, places: &mut Places) -> Result<PlacedFormula, Memory>
+    ensures { IfOk result (λ placed.
+        spec.IsPlaced (sentence_of formula.now) placed places.old.rest.now places.new.rest.now) }
 {
     match formula {
         Formula::Constant(known) => Ok(PlacedFormula::Constant(*known)),
-        Formula::Fact(atom) => Ok(PlacedFormula::Fact(place_of(atom, atoms))),
+        Formula::Fact(_) => Ok(PlacedFormula::Fact(places.next())),
         Formula::Not(part) => {
-            let placed = place(alloc, part, atoms)?;
+            let placed = place(alloc, part, places)?;
             Ok(PlacedFormula::Not(Box::new(alloc, placed)?))
         }
-        Formula::Every(parts) => place_every(alloc, parts, atoms),
-        Formula::OneOf(parts) => Ok(PlacedFormula::OneOf(place_all(alloc, parts, atoms)?)),
+        Formula::Every(parts) => place_every(alloc, parts, places),
+        Formula::OneOf(parts) => Ok(PlacedFormula::OneOf(place_all(alloc, parts, places)?)),
     }
 }
 
 // The and of formulas. Where a fact comes first its place stands beside the others, since a look at it tells
 // of most ands what they come to.
 #[cycle(place)]
-fn place_every(alloc: Global, formulas: &[Formula], atoms: &[Atom]) -> Result<PlacedFormula, Memory>
-    ensures { IsListOf atoms.now (facts_of formulas.now)
-        → IfOk result (λ placed. sentence_at atoms.now placed ≡ all_of (map sentence_of formulas.now)) }
+fn place_every(
+    alloc: Global,
+    formulas: &[Formula],
+    places: &mut Places,
+) -> Result<PlacedFormula, Memory>
+    ensures { IfOk result (λ placed.
+        spec.IsPlaced (all_of (map sentence_of formulas.now)) placed
+        places.old.rest.now places.new.rest.now) }
 {
     match formulas.split_first() {
-        Some((Formula::Fact(atom), others)) => Ok(PlacedFormula::FactAnd {
-            place: place_of(atom, atoms),
-            parts: place_all(alloc, others, atoms)?,
+        Some((Formula::Fact(_), others)) => Ok(PlacedFormula::FactAnd {
+            place: places.next(),
+            parts: place_all(alloc, others, places)?,
         }),
-        _ => Ok(PlacedFormula::Every(place_all(alloc, formulas, atoms)?)),
+        _ => Ok(PlacedFormula::Every(place_all(alloc, formulas, places)?)),
     }
 }
 
+// Each formula over the places of its facts, one after another.
 #[cycle(place)]
 fn place_all(
     alloc: Global,
     formulas: &[Formula],
-    atoms: &[Atom],
+    places: &mut Places,
 ) -> Result<Vec<PlacedFormula>, Memory>
-    ensures { IsListOf atoms.now (facts_of formulas.now)
-        → IfOk result (λ placed.
-        map (sentence_at atoms.now) placed.items ≡ map sentence_of formulas.now) }
+    ensures { IfOk result (λ placed.
+        spec.ArePlaced formulas.now placed.items places.old.rest.now places.new.rest.now) }
 {
     let mut placed = Vec::with_capacity(alloc, formulas.len())?;
     for part in formulas {
-        placed.push(place(alloc, part, atoms)?)?;
+        placed.push(place(alloc, part, places)?)?;
     }
     Ok(placed)
-}
-
-// The place of an atom in a list that ascends and has it.
-fn place_of(wanted: &Atom, atoms: &[Atom]) -> usize
-    ensures { Ascends atoms.now → Contains atoms.now wanted.now → slice_get atoms.now result ≡ Some wanted.now }
-{
-    atoms.partition_point(|atom| compare(atom, wanted).is_lt())
 }

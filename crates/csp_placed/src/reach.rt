@@ -1,10 +1,10 @@
-//! Which atoms of a list that ascends the denial of a front can decide, by their places.
-ghost use Rattle.std.specs.Prelude.{◌≡◌, ◌≤◌, ◌<◌, ◌↔◌, ◌-◌, IsTrue};
-ghost use Rattle.csp_placed.specs.Facts.{Ascends};
+//! Lists of atoms that ascend: the places of an atom, and of those that the denial of a front can decide.
+ghost use Rattle.std.specs.Prelude.{◌≡◌, ◌≤◌, ◌<◌, ◌↔◌, ◌-◌, IsTrue, true};
+ghost use Rattle.csp_placed.specs.Facts.{Ascends, ArePlacesOf};
 ghost use Rattle.csp_placed.specs.Fronts as spec;
 
 use csp_atom::Atom;
-use csp_atom::order::{compare_paths, rank};
+use csp_atom::order::{compare, compare_paths, rank};
 use csp_model::Bytes;
 use std::cmp::Ordering;
 
@@ -32,6 +32,36 @@ impl Reach {
             start: self.start.saturating_sub(first),
             end: self.end.saturating_sub(first),
         }
+    }
+}
+
+/// Whether no atom is above a later one.
+pub fn ascends(atoms: &[Atom]) -> bool
+    ensures { result ≡ true → Ascends atoms.now }
+{
+    for place in 1..atoms.len() {
+        if compare(&atoms[place - 1], &atoms[place]).is_gt() {
+            return false;
+        }
+    }
+    true
+}
+
+/// The places of an atom in a list that ascends. Takes a binary search, and a look at each of them and the
+/// next.
+pub fn places_of(atom: &Atom, atoms: &[Atom]) -> Reach
+    requires { Ascends atoms.now }
+    ensures { ArePlacesOf atom.now atoms.now result.start result.end }
+{
+    let start = atoms.partition_point(|other| compare(other, atom).is_lt());
+    for place in start..atoms.len() {
+        if compare(&atoms[place], atom).is_gt() {
+            return Reach { start, end: place };
+        }
+    }
+    Reach {
+        start,
+        end: atoms.len(),
     }
 }
 

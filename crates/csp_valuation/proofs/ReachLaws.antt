@@ -1,4 +1,4 @@
--- Outside of its reach a literal decides nothing, and what stands before the reach or after it is told by the order.
+-- Outside of its reach a literal decides nothing.
 use Rattle.std.proofs.Common.{◌≡◌, ◌≢◌, refl, sym, ap, ◌||◌, Bool, true, false, nat_lt, None}
 use Rattle.std.proofs.lemmas.Bool.Decides.{Decides-eqb}
 use Rattle.std.proofs.lemmas.Slice.Eq.{bytes_eq-Decides}
@@ -15,7 +15,7 @@ use Rattle.csp_atom.specs.declared.atom.Atom.{Atom}
 use Rattle.csp_atom.specs.declared.atom.Atom.TheVariants.{HostIs, HostUnder, HostDomain, PortIs, PathIs, PathUnder, SchemeIs, NonceIs, IntegrityHas, IntegrityOutside, DigestIs}
 use Rattle.csp_atom.specs.declared.atom.Literal.{Literal}
 use Rattle.csp_atom.specs.Order.{rank, atom_cmp}
-use Rattle.csp_valuation.specs.Reach.{decides_itself_alone, first_rank, last_rank, is_before, is_after}
+use Rattle.csp_valuation.specs.Reach.{decides_itself_alone, first_rank, last_rank}
 use Rattle.csp_atom.proofs.OrderLaws.{atom_total}
 use Rattle.csp_placed.proofs.FrontReach.{unless_false}
 
@@ -84,18 +84,10 @@ apart : (x a : Atom) (sign : Bool) → is_apart x a ≡ true → follows (record
 apart x a true e = apart_true x a e
 apart x a false e = apart_false x a e
 
--- Before the reach and after it
+-- Outside of the reach
 
 not_itself : (x a : Atom) (r : Ordering) → is_eq r ≡ false → atom_cmp a x ≡ r → a ≢ x
 not_itself x a r e is same = let level = tied_itself atom_total x in cc (level, ap (λ (b : Atom). atom_cmp b x) same)
-
-or_left : (a b : Bool) → a ≡ true → a || b ≡ true
-or_left true b e = refl
-or_left false b e = cc
-
-or_right : (a b : Bool) → b ≡ true → a || b ≡ true
-or_right true b e = refl
-or_right false b e = e
 
 is_less : (r : Ordering) → is_lt r ≡ true → is_eq r ≡ false
 is_less Less e = refl
@@ -107,24 +99,22 @@ is_more Less e = cc
 is_more Equal e = cc
 is_more Greater e = refl
 
-pub none_before : (l : Literal) (a : Atom) → is_before l a ≡ true → follows l a ≡ None
-none_before l a e = by_test (decides_itself_alone l.atom l.positive) refl
-  where
-    by_test : (b : Bool) → decides_itself_alone l.atom l.positive ≡ b → follows l a ≡ None
-    by_test true is =
-        let less : is_lt (atom_cmp a l.atom) ≡ true = rw is at e in
-        alone l.atom a l.positive is (not_itself l.atom a (atom_cmp a l.atom) (is_less _ less) refl)
-    by_test false is =
-        let low : nat_lt (rank a) (first_rank l.atom) ≡ true = rw is at e in
-        apart l.atom a l.positive (or_left _ _ low)
+pub none_below : (l : Literal) (a : Atom) → decides_itself_alone l.atom l.positive ≡ true → is_lt (atom_cmp a l.atom) ≡ true → follows l a ≡ None
+none_below l a own less = alone l.atom a l.positive own (not_itself l.atom a (atom_cmp a l.atom) (is_less _ less) refl)
 
-pub none_after : (l : Literal) (a : Atom) → is_after l a ≡ true → follows l a ≡ None
-none_after l a e = by_test (decides_itself_alone l.atom l.positive) refl
-  where
-    by_test : (b : Bool) → decides_itself_alone l.atom l.positive ≡ b → follows l a ≡ None
-    by_test true is =
-        let more : is_gt (atom_cmp a l.atom) ≡ true = rw is at e in
-        alone l.atom a l.positive is (not_itself l.atom a (atom_cmp a l.atom) (is_more _ more) refl)
-    by_test false is =
-        let high : nat_lt (last_rank l.atom) (rank a) ≡ true = rw is at e in
-        apart l.atom a l.positive (or_right _ _ high)
+pub none_above : (l : Literal) (a : Atom) → decides_itself_alone l.atom l.positive ≡ true → is_gt (atom_cmp a l.atom) ≡ true → follows l a ≡ None
+none_above l a own more = alone l.atom a l.positive own (not_itself l.atom a (atom_cmp a l.atom) (is_more _ more) refl)
+
+or_left : (a b : Bool) → a ≡ true → a || b ≡ true
+or_left true b e = refl
+or_left false b e = cc
+
+or_right : (a b : Bool) → b ≡ true → a || b ≡ true
+or_right true b e = refl
+or_right false b e = e
+
+pub none_of_lower : (l : Literal) (a : Atom) → nat_lt (rank a) (first_rank l.atom) ≡ true → follows l a ≡ None
+none_of_lower l a low = apart l.atom a l.positive (or_left _ _ low)
+
+pub none_of_higher : (l : Literal) (a : Atom) → nat_lt (last_rank l.atom) (rank a) ≡ true → follows l a ≡ None
+none_of_higher l a high = apart l.atom a l.positive (or_right _ _ high)

@@ -1,16 +1,12 @@
 -- Which atoms a literal can decide, by their places in a list that ascends.
-use Rattle.std.specs.Prelude.{◌≡◌, ℕ, ◌≤◌, ◌<◌, Bool, false, true, not, ◌&&◌, List, [], length, take, Option, None, Some, IsSome, if◌then◌else◌, nat_lt}
-use Rattle.std.specs.Cmp.Lexicographic.{slice_cmp}
+use Rattle.std.specs.Prelude.{◌≡◌, ℕ, ◌≤◌, ◌<◌, Bool, false, true, not, ◌&&◌, List, length, Option, None, Some, IsSome}
 use Rattle.std.specs.List.{AllWithin, slice_index_or}
-use Rattle.std.specs.Ordering.{nat_cmp, ordering_then, is_lt, is_gt}
-use Rattle.std.specs.declared.cmp.Ordering.{Ordering}
-use Rattle.std.specs.declared.cmp.Ordering.TheVariants.{Less, Equal, Greater}
 use Rattle.csp_atom.specs.Follows.{follows}
 use Rattle.csp_atom.specs.declared.atom.Atom.{Atom}
 use Rattle.csp_atom.specs.declared.atom.Atom.TheVariants.{HostIs, HostUnder, HostDomain, PortIs, PathIs, PathUnder, SchemeIs, NonceIs, IntegrityHas, IntegrityOutside, DigestIs}
 use Rattle.csp_atom.specs.declared.atom.Literal.{Literal}
 use Rattle.csp_valuation.specs.Marks.{Decision, cleared}
-use Rattle.csp_atom.specs.Order.{rank, atom_cmp}
+use Rattle.csp_atom.specs.Order.{rank}
 use Rattle.csp_valuation.specs.Paths.{literal_of, denial_of}
 use Rattle.csp_valuation.specs.declared.taken.Taken.{Taken}
 
@@ -48,19 +44,7 @@ last_rank (HostUnder suffix) = 2
 last_rank (PathIs pieces) = 5
 last_rank atom = rank atom
 
--- the atom stands before all that the literal can decide
-abbrev pub is_before : Literal → Atom → Bool
-is_before literal atom =
-    if decides_itself_alone literal.atom literal.positive then is_lt (atom_cmp atom literal.atom)
-    else nat_lt (rank atom) (first_rank literal.atom)
-
--- it stands after them
-abbrev pub is_after : Literal → Atom → Bool
-is_after literal atom =
-    if decides_itself_alone literal.atom literal.positive then is_gt (atom_cmp atom literal.atom)
-    else nat_lt (last_rank literal.atom) (rank atom)
-
--- the same of places of which some may be past the end
+-- the literal decides no atom outside of these places, of which some may be past the end
 pub record IsNear (literal : Literal) (atoms : List Atom) (start end : ℕ) : Type 0 where
   pub before : (j : ℕ) (d : Atom) → j < start → j < length atoms
       → follows literal (slice_index_or atoms j d) ≡ None

@@ -8,20 +8,8 @@ ghost use Rattle.csp_valuation.specs.Reach as spec;
 
 use crate::taken::Taken;
 use csp_atom::Atom;
-use csp_atom::order::{compare, rank};
-use csp_placed::{Reach, reach_below};
-
-// Whether no atom is above a later one.
-pub(crate) fn ascends(atoms: &[Atom]) -> bool
-    ensures { result ≡ true → Ascends atoms.now }
-{
-    for place in 1..atoms.len() {
-        if compare(&atoms[place - 1], &atoms[place]).is_gt() {
-            return false;
-        }
-    }
-    true
-}
+use csp_atom::order::rank;
+use csp_placed::{Reach, places_of, reach_below};
 
 // Places outside of which the literal decides no atom: all, where it isn't known that the atoms ascend.
 pub(crate) fn reach_of(literal: Taken, atoms: &[Atom], ascending: bool) -> Reach
@@ -102,34 +90,20 @@ fn reach_by_order(literal: Taken, atoms: &[Atom]) -> Reach
     }
 }
 
-// The place of the literal's own atom, where it decides that alone, or else those of the kinds on the same
+// The places of the literal's own atom, where it decides that alone, or else those of the kinds on the same
 // part of a check.
 fn reach_by_kind(literal: Taken, atoms: &[Atom]) -> Reach
     requires { Ascends atoms.now }
     ensures { Covers (literal_of literal.entry) atoms.now result.start result.end }
 {
-    let start = atoms.partition_point(|atom| is_before(literal, atom));
-    let end = atoms.partition_point(|atom| !is_after(literal, atom));
-    Reach { start, end }
-}
-
-fn is_before(literal: Taken, atom: &Atom) -> bool
-    ensures { result ≡ spec.is_before (literal_of literal.entry) atom.now }
-{
     if decides_itself_alone(literal.atom, literal.positive) {
-        compare(atom, literal.atom).is_lt()
-    } else {
-        rank(atom) < first_rank(literal.atom)
+        return places_of(literal.atom, atoms);
     }
-}
-
-fn is_after(literal: Taken, atom: &Atom) -> bool
-    ensures { result ≡ spec.is_after (literal_of literal.entry) atom.now }
-{
-    if decides_itself_alone(literal.atom, literal.positive) {
-        compare(atom, literal.atom).is_gt()
-    } else {
-        last_rank(literal.atom) < rank(atom)
+    let first = first_rank(literal.atom);
+    let last = last_rank(literal.atom);
+    Reach {
+        start: atoms.partition_point(|atom| rank(atom) < first),
+        end: atoms.partition_point(|atom| rank(atom) <= last),
     }
 }
 

@@ -20,12 +20,12 @@ use crate::marks::{Mark, clear_listed, clear_within, forget_all, mark_within};
 use crate::names::{
     Names, denied_names, mark_names, names_beside, narrowest_name, pop_name, push_name,
 };
-use crate::reach::{ascends, kind_end_of, near_of, reach_of};
+use crate::reach::{kind_end_of, near_of, reach_of};
 use crate::standing::{Standing, standing_under};
 use crate::taken::Taken;
 use csp_atom::{Atom, follows_as};
 use csp_model::{List, Memory};
-use csp_placed::{IndexedFormula, PlacedFormula, overlaps_of};
+use csp_placed::{IndexedFormula, PlacedFormula, ascends, overlaps_of};
 use std::alloc::Global;
 use std::marker::Model;
 
@@ -36,10 +36,10 @@ use std::marker::Model;
 /// taken and taken back at once costs nothing. In a list that ascends, as `place_formulas` makes it, a
 /// literal that decides no atom but its own is marked and cleared by a binary search. The denial that a path
 /// lies under a front takes binary searches and time linear in the atoms from the first file below the front,
-/// or else the first front below it, to the last front below it. The denial that a host lies under a suffix
-/// of the list takes a binary search and time linear in the atoms that it decides. Any other literal takes
-/// time linear in the atoms on the same part of a check. In other lists each literal takes time linear in all
-/// atoms.
+/// or else the first front below it, to the last front below it. The denial of a host or of a suffix of the
+/// list takes a binary search and time linear in the names that can hold with it, where `overlaps_of` lists
+/// them. Any other literal takes time linear in the atoms on the same part of a check, with no look at a name
+/// that isn't listed where one holds. In other lists each literal takes time linear in all atoms.
 #[derive(Debug, Drop)]
 pub struct Valuation<'a> {
     atoms: Vec<Atom>,

@@ -1,43 +1,41 @@
-use Rattle.std.proofs.Common.{◌≡◌, ◌∙◌, ap, sym, subst, map, List}
+use Rattle.std.proofs.Common.{◌≡◌, ◌∙◌, sym, ap, subst, List, [], ◌++◌, map}
+use Rattle.std.proofs.lemmas.List.{append-nil}
 use Rattle.csp_atom.specs.declared.atom.Atom.{Atom}
-use Rattle.csp_placed.specs.Facts.{IsListOf, facts_of}
+use Rattle.csp_formula.specs.Sentences.{sentence_of}
+use Rattle.csp_placed.specs.Facts.{facts_of, atom_of}
 use Rattle.csp_placed.specs.Placed.{sentence_at}
-use Rattle.csp_placed.proofs.Finding.{apart_rising}
-use Rattle.csp_placed.proofs.Listed.{IsMadeOf, members, list_of_first, list_of_second}
+use Rattle.csp_placed.specs.Sorting.{StandAt}
+use Rattle.csp_placed.proofs.Layers.{AreParted, parted}
+use Rattle.csp_placed.proofs.Wholes.{apart_rising, members}
 use Rattle.csp_placed.proofs.placing.place_formulas.Goals as goal
 
-made : (c : goal.After-drop-seen-2) → IsMadeOf c.in_ok-atoms.atoms (facts_of c.args.first.now) (facts_of c.args.second.now)
-made c = record {
-  empty = c.new-seen.result;
-  middle = c.collect_all.new.seen;
-  seen = c.collect_all-2.new.seen;
-  none = c.new-seen.ensures.empty;
-  first = c.in_ok-collect_all.ensures;
-  second = c.in_ok-collect_all-2.ensures;
-  list = c.in_ok-atoms.ensures.list;
-  rises = c.in_ok-atoms.ensures.rises;
-}
+facts : (c : goal.After-drop-facts-2) → map atom_of c.deref.result.now ≡ facts_of c.args.first.now ++ facts_of c.args.second.now
+facts c =
+    ap (map atom_of) c.deref.ensures.value ∙ c.in_ok-collect_all-2.ensures
+    ∙ ap (λ (xs : List Atom). xs ++ facts_of c.args.second.now) (c.in_ok-collect_all.ensures ∙ ap (λ (ks : List _). map atom_of ks ++ facts_of c.args.first.now) c.new-facts.ensures.items)
+
+stand : (c : goal.After-drop-facts-2) → StandAt c.in_ok-atoms.field-0.atoms c.in_ok-atoms.field-0.places.items (facts_of c.args.first.now ++ facts_of c.args.second.now)
+stand c = subst (StandAt c.in_ok-atoms.field-0.atoms c.in_ok-atoms.field-0.places.items) (facts c) c.in_ok-atoms.ensures.places
+
+split : (c : goal.After-drop-facts-2) → AreParted c.in_ok-atoms.field-0.atoms c.in_ok-atoms.field-0.places.items (facts_of c.args.first.now) (facts_of c.args.second.now)
+split c = parted c.in_ok-atoms.field-0.atoms c.in_ok-atoms.field-0.places.items (facts_of c.args.first.now) (facts_of c.args.second.now) (stand c)
+
+placed_first : (c : goal.After-drop-facts-2) → (c.place_all.new.places.rest.now ≡ (split c).back)
+    × (map (sentence_at c.in_ok-atoms.field-0.atoms) c.in_ok-placed_first.placed_first.items ≡ map sentence_of c.args.first.now)
+placed_first c = c.in_ok-placed_first.ensures c.in_ok-atoms.field-0.atoms (split c).front (split c).back (c.as_slice.ensures.value ∙ (split c).is) (split c).first
 
 pub returns-clause-first : goal.returns-clause-first
-returns-clause-first c =
-    let atoms = c.in_ok-atoms.atoms in
-    let facts = facts_of c.args.first.now in
-    let slice : c.as_slice.result.now ≡ atoms = c.as_slice.ensures in
-    let list = subst (λ (list : List Atom). IsListOf list facts) (sym slice) (list_of_first atoms facts (facts_of c.args.second.now) (made c)) in
-    ap (map (sentence_at atoms)) c.in_ok-first.ensures
-    ∙ ap (λ (list : List Atom). map (sentence_at list) c.in_ok-placed_first.placed_first.items) (sym slice) ∙ c.in_ok-placed_first.ensures list
+returns-clause-first c = ap (map (sentence_at c.in_ok-atoms.field-0.atoms)) c.in_ok-first.ensures ∙ (placed_first c).1
 
 pub returns-clause-second : goal.returns-clause-second
 returns-clause-second c =
-    let atoms = c.in_ok-atoms.atoms in
-    let facts = facts_of c.args.second.now in
-    let slice : c.as_slice-2.result.now ≡ atoms = c.as_slice-2.ensures in
-    let list = subst (λ (list : List Atom). IsListOf list facts) (sym slice) (list_of_second atoms (facts_of c.args.first.now) facts (made c)) in
-    ap (map (sentence_at atoms)) c.from_vec.ensures
-    ∙ ap (λ (list : List Atom). map (sentence_at list) c.in_ok-placed_second.placed_second.items) (sym slice) ∙ c.in_ok-placed_second.ensures list
+    let placed = c.in_ok-placed_second.ensures c.in_ok-atoms.field-0.atoms (split c).back [] ((placed_first c).0 ∙ sym (append-nil (split c).back)) (split c).second in
+    ap (map (sentence_at c.in_ok-atoms.field-0.atoms)) c.from_vec.ensures ∙ placed.1
 
 pub returns-clause-once : goal.returns-clause-once
-returns-clause-once c = apart_rising c.in_ok-atoms.atoms c.in_ok-atoms.ensures.rises
+returns-clause-once c = apart_rising c.in_ok-atoms.field-0.atoms c.in_ok-atoms.ensures.rises
 
 pub returns-clause-atoms : goal.returns-clause-atoms
-returns-clause-atoms c = members c.in_ok-atoms.atoms (facts_of c.args.first.now) (facts_of c.args.second.now) (made c)
+returns-clause-atoms c =
+    members c.in_ok-atoms.field-0.atoms (map atom_of c.deref.result.now) (facts_of c.args.first.now ++ facts_of c.args.second.now) c.in_ok-atoms.field-0.places.items (facts c) c.in_ok-atoms.ensures.places
+    c.in_ok-atoms.ensures.only

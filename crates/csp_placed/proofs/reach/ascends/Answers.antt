@@ -1,7 +1,7 @@
 use Rattle.std.proofs.Common.{arith, ◌∙◌, sym, ap}
 use Rattle.std.specs.Ordering.{is_gt}
-use Rattle.csp_valuation.proofs.Ascending.{ascends_one, ascends_more, next_at}
-use Rattle.csp_valuation.proofs.reach.ascends.Goals as goal
+use Rattle.csp_placed.proofs.Ascending.{ascends_one, ascends_more, next_at}
+use Rattle.csp_placed.proofs.reach.ascends.Goals as goal
 
 pub loop-place-init : goal.loop-place-init
 loop-place-init c = ascends_one c.args.atoms.now
