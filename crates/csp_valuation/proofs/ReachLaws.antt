@@ -10,7 +10,7 @@ use Rattle.std.specs.declared.cmp.Ordering.TheVariants.{Less, Equal, Greater}
 use Rattle.csp_model.proofs.EqualityDecided.{same_host_decides, same_hash_decides}
 use Rattle.csp_model.specs.declared.check.Digest.TheVariants.{Sha256, Sha384, Sha512}
 use Rattle.csp_atom.proofs.TableTests.{same_path_decides}
-use Rattle.csp_atom.specs.Follows.{follows, follows_true, follows_false, true_where, false_where}
+use Rattle.csp_atom.specs.Follows.{follows, follows_true, follows_false, true_where}
 use Rattle.csp_atom.specs.declared.atom.Atom.{Atom}
 use Rattle.csp_atom.specs.declared.atom.Atom.TheVariants.{HostIs, HostUnder, HostDomain, PortIs, PathIs, PathUnder, SchemeIs, NonceIs, IntegrityHas, IntegrityOutside, DigestIs}
 use Rattle.csp_atom.specs.declared.atom.Literal.{Literal}
