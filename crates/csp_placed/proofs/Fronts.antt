@@ -1,6 +1,7 @@
 -- In a list that ascends, the atoms of one kind whose paths begin with a front stand together.
-use Rattle.std.proofs.Common.{◌≡◌, refl, sym, ℕ, zero, suc, ◌≤◌, ◌<◌, Bool, true, false, nat_lt, List, [], ◌∷◌, take, length, arith}
+use Rattle.std.proofs.Common.{◌≡◌, ◌∙◌, refl, sym, ℕ, zero, suc, ◌≤◌, ◌<◌, ◌+◌, Bool, true, false, nat_lt, List, [], ◌∷◌, take, length, arith}
 use Rattle.std.proofs.lemmas.Bool.Decides.{nat_tests}
+use Rattle.std.proofs.lemmas.List.{get_or_default}
 use Rattle.std.specs.Cmp.{IsTotalOrder, alike_right}
 use Rattle.std.specs.Cmp.Lexicographic.{slice_cmp, lists_total, nat_list_cmp_total}
 use Rattle.std.specs.List.{slice_index_or}
@@ -11,7 +12,7 @@ use Rattle.std.specs.declared.cmp.Ordering.TheVariants.{Less, Equal, Greater}
 use Rattle.csp_atom.specs.declared.atom.Atom.{Atom}
 use Rattle.csp_atom.specs.declared.atom.Atom.TheVariants.{HostDomain, PathIs, PathUnder}
 use Rattle.csp_atom.specs.Order.{rank, atom_cmp}
-use Rattle.csp_placed.specs.Fronts.{ArePlacesBelow, path_of, start_cmp, front_cmp}
+use Rattle.csp_placed.specs.Fronts.{ArePlacesBelow, BeginAt, EndAt, path_of, start_cmp, front_cmp}
 use Rattle.csp_placed.specs.Facts.{Ascends}
 
 -- What goes up with the order
@@ -118,3 +119,51 @@ places front kind atoms start end s e first last = record {
         let more = is_more _ (last.1 end HostDomain (omega arith) (omega arith)) in
         cc (less, more)
     by_test false is = grind (arith, nat_tests)
+
+-- The end, where the first places are looked at
+
+-- the atoms before this place are below the front's kind, or of it
+abbrev pub AtMost : List (List ℕ) → ℕ → List Atom → ℕ → Type 0
+AtMost front kind atoms n = (k : ℕ) (d : Atom) → k < n → k < length atoms → is_le (front_cmp front kind (slice_index_or atoms k d)) ≡ true
+
+less_is_most : (r : Ordering) → is_lt r ≡ true → is_le r ≡ true
+less_is_most Less e = refl
+less_is_most r e = cc
+
+pub most_before : (front : List (List ℕ)) (kind : ℕ) (atoms : List Atom) (start : ℕ) → BeginAt front kind atoms start → AtMost front kind atoms start
+most_before front kind atoms start begin k d h within = less_is_most _ (begin.0 k d (omega arith) h)
+
+not_more : (r : Ordering) → is_gt r ≡ false → is_le r ≡ true
+not_more Greater e = cc
+not_more r e = refl
+
+more_is_not_most : (r : Ordering) → is_gt r ≡ true → is_le r ≡ false
+more_is_not_most Greater e = refl
+more_is_not_most r e = cc
+
+pub most_more : (front : List (List ℕ)) (kind : ℕ) (atoms : List Atom) (n : ℕ) (a : Atom) → AtMost front kind atoms n → n < length atoms → a ≡ slice_index_or atoms n a
+    → is_gt (front_cmp front kind a) ≡ false → AtMost front kind atoms (n + 1)
+most_more front kind atoms n a so_far h at low k d below within = by_last (nat_lt k n) refl
+  where
+    by_last : (t : Bool) → nat_lt k n ≡ t → is_le (front_cmp front kind (slice_index_or atoms k d)) ≡ true
+    by_last true is = so_far k d (grind (arith, nat_tests)) within
+    by_last false is =
+        let e : k ≡ n = grind (arith, nat_tests) in
+        let same : slice_index_or atoms n d ≡ a = get_or_default atoms n d a h ∙ sym at in
+        rw (e, same) (not_more _ low)
+
+pub ends_at : (front : List (List ℕ)) (kind : ℕ) (atoms : List Atom) (n : ℕ) (a : Atom) → Ascends atoms → AtMost front kind atoms n → n < length atoms → a ≡ slice_index_or atoms n a
+    → is_gt (front_cmp front kind a) ≡ true → EndAt front kind atoms n
+ends_at front kind atoms n a up so_far h at more = (
+  λ k d low below. so_far k d below (omega arith),
+  λ k d low below. after k d low below (is_le (front_cmp front kind (slice_index_or atoms k d))) refl,
+)
+  where
+    after : (k : ℕ) (d : Atom) → n ≤ k → k < length atoms → (t : Bool) → is_le (front_cmp front kind (slice_index_or atoms k d)) ≡ t
+        → is_le (front_cmp front kind (slice_index_or atoms k d)) ≡ false
+    after k d low below false is = is
+    after k d low below true is =
+        let same : slice_index_or atoms n d ≡ a = get_or_default atoms n d a h ∙ sym at in
+        let most : is_le (front_cmp front kind (slice_index_or atoms n d)) ≡ true = parted_most front kind atoms up n k d low below is in
+        let not_most : is_le (front_cmp front kind (slice_index_or atoms n d)) ≡ false = rw same (more_is_not_most _ more) in
+        absurd cc

@@ -1,8 +1,9 @@
 -- Which atoms of a list that ascends the denial of a front can decide.
-use Rattle.std.specs.Prelude.{◌≡◌, ℕ, ◌≤◌, false, List, [], length, take, None}
+use Rattle.std.specs.Prelude.{◌≡◌, ℕ, ◌≤◌, false, true, List, [], length, take, None}
 use Rattle.std.specs.Cmp.Lexicographic.{slice_cmp}
 use Rattle.std.specs.List.{AllWithin}
-use Rattle.std.specs.Ordering.{nat_cmp, ordering_then}
+use Rattle.std.specs.List.Sorted.{IsPartitionPoint}
+use Rattle.std.specs.Ordering.{is_le, is_lt, nat_cmp, ordering_then}
 use Rattle.std.specs.declared.cmp.Ordering.{Ordering}
 use Rattle.std.specs.declared.cmp.Ordering.TheVariants.{Less, Equal, Greater}
 use Rattle.csp_atom.specs.Follows.{follows}
@@ -24,6 +25,16 @@ start_cmp path front = slice_cmp (slice_cmp nat_cmp) (take (length front) path) 
 -- where the atom stands to those of this rank whose paths begin with the front: level with them if it is one
 abbrev pub front_cmp : List (List ℕ) → ℕ → Atom → Ordering
 front_cmp front kind atom = ordering_then (nat_cmp (rank atom) kind) (start_cmp (path_of atom) front)
+
+-- those that stand before the atoms of this rank whose paths begin with the front end at this place
+abbrev pub BeginAt : List (List ℕ) → ℕ → List Atom → ℕ → Type 0
+BeginAt front kind atoms = IsPartitionPoint (λ atom. is_lt (front_cmp front kind atom) ≡ true)
+    (λ atom. is_lt (front_cmp front kind atom) ≡ false) atoms
+
+-- and those that stand after them begin at this one
+abbrev pub EndAt : List (List ℕ) → ℕ → List Atom → ℕ → Type 0
+EndAt front kind atoms = IsPartitionPoint (λ atom. is_le (front_cmp front kind atom) ≡ true)
+    (λ atom. is_le (front_cmp front kind atom) ≡ false) atoms
 
 -- the atoms of this rank whose paths begin with the front are those at these places
 pub record ArePlacesBelow (front : List (List ℕ)) (kind : ℕ) (atoms : List Atom) (start end : ℕ)

@@ -1,5 +1,5 @@
 //! Lists of atoms that ascend: the places of an atom, and of those that the denial of a front can decide.
-ghost use Rattle.std.specs.Prelude.{◌≡◌, ◌≤◌, ◌<◌, ◌↔◌, ◌-◌, IsTrue, true};
+ghost use Rattle.std.specs.Prelude.{◌≡◌, ◌≤◌, ◌<◌, ◌↔◌, ◌-◌, IsTrue, length, true};
 ghost use Rattle.csp_placed.specs.Facts.{Ascends, ArePlacesOf};
 ghost use Rattle.csp_placed.specs.Fronts as spec;
 
@@ -91,8 +91,25 @@ fn places_below(front: &[Bytes], kind: u8, atoms: &[Atom]) -> Reach
     ensures { spec.ArePlacesBelow front.now kind atoms.now result.start result.end }
 {
     let start = atoms.partition_point(|atom| compare_to_front(atom, kind, front).is_lt());
-    let end = atoms.partition_point(|atom| compare_to_front(atom, kind, front).is_le());
+    let end = end_below(front, kind, start, atoms);
     Reach { start, end }
+}
+
+// Where those places end that begin here. Most fronts have none or one, so the first are looked at before a
+// search: paths may be long.
+fn end_below(front: &[Bytes], kind: u8, start: usize, atoms: &[Atom]) -> usize
+    requires ascends { Ascends atoms.now }
+    requires begin { spec.BeginAt front.now kind atoms.now start }
+    ensures inside { result ≤ length atoms.now }
+    ensures end { spec.EndAt front.now kind atoms.now result }
+{
+    let few = atoms.len().min(start.saturating_add(2));
+    for place in start..few {
+        if compare_to_front(&atoms[place], kind, front).is_gt() {
+            return place;
+        }
+    }
+    atoms.partition_point(|atom| compare_to_front(atom, kind, front).is_le())
 }
 
 // Where the atom stands to those of the kind whose paths begin with the front: `Equal` if it is one of them.
