@@ -16,7 +16,7 @@ use Rattle.csp_formula.specs.Values.{atoms_in}
 use Rattle.csp_formula.specs.declared.formula.Formula.{Formula}
 use Rattle.csp_formula.specs.declared.formula.Formula.TheVariants as formula
 use Rattle.csp_placed.specs.Facts.{facts_of}
-use Rattle.csp_placed.proofs.Gaining.{all_facts, any_facts}
+use Rattle.csp_placed.proofs.Gathering.{all_facts, any_facts}
 use Rattle.csp_compare.specs.Residuals.{has_no_constant, KeepsValues, value_under, joined_by, IsUnsure, IsLeft}
 use Rattle.csp_compare.proofs.LeftOver.{says_Constant, surely_is}
 

@@ -48,6 +48,14 @@ next_at atoms n x y h p q low d =
     let second : slice_index_or atoms n d ≡ y = get_or_default atoms n d y h ∙ sym q in
     rw (first, second) low
 
+pub falls : (atoms : List Atom) (n : ℕ) (x y : Atom) → 0 < n → n < length atoms → x ≡ slice_index_or atoms (n - 1) x → y ≡ slice_index_or atoms n y
+    → is_gt (atom_cmp x y) ≡ true → ¬ Ascends atoms
+falls atoms n x y pos h p q more up =
+    let low : is_gt (atom_cmp (slice_index_or atoms (n - 1) x) (slice_index_or atoms n x)) ≡ false = up (n - 1) n x (omega arith) h in
+    let same : is_gt (atom_cmp x y) ≡ is_gt (atom_cmp (slice_index_or atoms (n - 1) x) (slice_index_or atoms n x)) =
+    ap (λ (a : Atom). is_gt (atom_cmp a y)) p ∙ ap (λ (a : Atom). is_gt (atom_cmp (slice_index_or atoms (n - 1) x) a)) (q ∙ get_or_default atoms n y x h) in
+    cc (low, more, same)
+
 pub ascends_adjacent : (atoms : List Atom) → ((k : ℕ) (d : Atom) → k + 1 < length atoms → is_gt (atom_cmp (slice_index_or atoms k d) (slice_index_or atoms (k + 1) d)) ≡ false) → Ascends atoms
 ascends_adjacent atoms next = up_to (length atoms) (omega arith)
   where

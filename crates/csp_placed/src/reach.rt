@@ -1,5 +1,5 @@
 //! Lists of atoms that ascend: the places of an atom, and of those that the denial of a front can decide.
-ghost use Rattle.std.specs.Prelude.{◌≡◌, ◌≤◌, ◌<◌, ◌↔◌, ◌-◌, IsTrue, length, true};
+ghost use Rattle.std.specs.Prelude.{◌≡◌, ◌≤◌, ◌<◌, ◌↔◌, ◌-◌, IsTrue, length};
 ghost use Rattle.csp_placed.specs.Facts.{Ascends, ArePlacesOf};
 ghost use Rattle.csp_placed.specs.Fronts as spec;
 
@@ -37,7 +37,7 @@ impl Reach {
 
 /// Whether no atom is above a later one.
 pub fn ascends(atoms: &[Atom]) -> bool
-    ensures { result ≡ true → Ascends atoms.now }
+    ensures { IsTrue result ↔ Ascends atoms.now }
 {
     for place in 1..atoms.len() {
         if compare(&atoms[place - 1], &atoms[place]).is_gt() {

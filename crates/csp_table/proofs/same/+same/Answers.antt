@@ -4,7 +4,7 @@ use Rattle.csp_formula.specs.Sentences.{Not, Both, all_of, any_of, sentence_of}
 use Rattle.csp_formula.specs.declared.formula.Formula.{Formula}
 use Rattle.csp_placed.specs.Placed.{fact, sentence_at}
 use Rattle.csp_placed.specs.declared.placed.PlacedFormula.{PlacedFormula}
-use Rattle.csp_placed.proofs.Gaining.{says_Every, says_OneOf}
+use Rattle.csp_placed.proofs.Gathering.{says_Every, says_OneOf}
 use Rattle.csp_placed.proofs.Layers.{placed_FactAnd, placed_Every, placed_OneOf}
 use Rattle.csp_table.proofs.Saying.{says_Not, placed_Not, say_more}
 use Rattle.csp_table.proofs.same.+same.Goals as goal
