@@ -10,7 +10,7 @@ invariant_of-result c =
       rw c.in_ok-path.ensures.items (equal (λ y r. search rules) ∙ rw c.none.ensures none),
       rw c.in_ok-path.ensures.items (omega arith),
       omega (arith, c.in_ok-path.ensures.exact),
-      rw c.deref.ensures.value at c.ascends-ascending.ensures,
+      rw c.deref.ensures.value at c.ascends-ascending.ensures.0,
       rw c.deref-2.ensures.value at c.in_ok-overlaps.ensures,
       rw (c.in_ok-path.ensures.items, c.in_ok-names.ensures.items) refl,
       omega (arith, c.in_ok-names.ensures.exact),
