@@ -47,8 +47,7 @@ impl Text {
         }
     }
 
-    /// The text of ASCII bytes, in lower case.
-    // The bytes are copied at once, and changed in place.
+    /// The text of ASCII bytes, in lower case. They are copied once, and changed in place.
     pub fn from_ascii_lowercase(alloc: Global, ascii: &[u8]) -> Result<Text, Memory>
         requires { IsTrue (spec.is_ascii_text ascii.now) }
         ensures { IfOk result (λ made. made ≡ spec.lower ascii.now) }
