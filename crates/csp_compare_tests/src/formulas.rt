@@ -7,7 +7,7 @@ use crate::values::{literals, policies};
 use csp_atom::{Atom, Literal, Vocabulary, holds, vocabulary_of};
 use csp_cell::Cell;
 use csp_compare::residual;
-use csp_formula::{Formula, compile, surely};
+use csp_formula::{Formula, compile, question_at, same_formulas, surely};
 use csp_model::{Check, Duplicate, List, Memory, Policy, PolicyList};
 use csp_pick::{can_pick, representative};
 use csp_placed::{PlacedFormula, place_formulas};
@@ -182,9 +182,8 @@ fn decided_by_places(
     let vocabulary: Vocabulary = vocabulary_of(rt.alloc(), list, list)?;
     let policy = list.policies.get(0).ok_or("no policy")?;
     let shape = shape_at(number).ok_or("no shape")?;
-    let mut formulas = Vec::new(rt.alloc());
-    formulas.push(compile(rt.alloc(), policy, shape, &vocabulary)?)?;
-    let placed = place_formulas(rt.alloc(), &formulas, &[])?;
+    let compiled = compile(rt.alloc(), policy, shape, &vocabulary)?;
+    let placed = place_formulas(rt.alloc(), &[&compiled], &[])?;
     let known = literals(rt.alloc(), known)?;
     let formula = placed.first.get(0).ok_or("no formula")?;
     let atoms = placed.atoms.copy(rt.alloc())?;
@@ -225,14 +224,14 @@ fn check_at(
     representative(rt.alloc(), &cell, shape, vocabulary)
 }
 
-// Each atom of the formulas as it is for the check.
+// Each atom of the formula as it is for the check.
 fn facts_of(
     alloc: Global,
-    formulas: &[Formula],
+    formula: &Formula,
     vocabulary: &Vocabulary,
     check: &Check,
 ) -> Result<List<Literal>, Memory> {
-    let placed = place_formulas(alloc, formulas, &[])?;
+    let placed = place_formulas(alloc, &[formula], &[])?;
     let mut known = List::new(alloc);
     for atom in placed.atoms.as_slice() {
         known.push(Literal {
@@ -251,13 +250,9 @@ fn value_on(
     shape: Shape,
     check: &Check,
 ) -> Result<Option<bool>, Memory> {
-    let mut formulas = Vec::new(alloc);
-    formulas.push(compile(alloc, policy, shape, vocabulary)?)?;
-    let known = facts_of(alloc, &formulas, vocabulary, check)?;
-    match formulas.first() {
-        Some(formula) => Ok(surely(formula, known.as_slice())),
-        None => Ok(None),
-    }
+    let formula = compile(alloc, policy, shape, vocabulary)?;
+    let known = facts_of(alloc, &formula, vocabulary, check)?;
+    Ok(surely(&formula, known.as_slice()))
 }
 
 #[test]
@@ -272,6 +267,67 @@ fn formulas_are_what_the_policy_allows(rt: HostRuntime) -> Result<(), Fail> {
         let is_allowed = allows(policy, &check);
         drop(check);
         assert_eq!(rt; value?, Some(is_allowed), "{number}");
+    }
+    Ok(())
+}
+
+// A policy whose lists differ and yet say the same at many shapes.
+const ALIKE: &str = "Content-Security-Policy: \
+    default-src a.example https://b.example/x 'nonce-a'; img-src 'self' data: a.example; \
+    font-src 'self' blob: a.example; media-src 'self' a.example data:; connect-src 1.2.3 a.example; \
+    object-src 3.2.1 a.example; form-action 'self' data: a.example; base-uri 'self' http: a.example; \
+    script-src-elem 'nonce-a' 'strict-dynamic' a.example; script-src 'strict-dynamic' 'nonce-a'; \
+    style-src-elem 'nonce-a' 'sha256-47DEQpj8HBSa+/TImW+5JCeuQeRkm5NMpJWZG3hSuFU='; \
+    style-src-attr 'sha256-47DEQpj8HBSa+/TImW+5JCeuQeRkm5NMpJWZG3hSuFU=' 'nonce-b' 'unsafe-hashes'; \
+    script-src-attr 'unsafe-hashes' 'sha256-47DEQpj8HBSa+/TImW+5JCeuQeRkm5NMpJWZG3hSuFU='";
+
+// The policy's formula of each shape, as text.
+fn formula_texts(
+    rt: &(impl Abort + AllocGlobal),
+    policy: &Policy,
+    vocabulary: &Vocabulary,
+) -> Result<List<String>, Fail> {
+    let mut texts = List::new(rt.alloc());
+    for number in 0..189 {
+        let shape = shape_at(number).ok_or("no shape")?;
+        let formula = compile(rt.alloc(), policy, shape, vocabulary)?;
+        texts.push(format!(in rt.alloc(); "{formula:?}")?)?;
+    }
+    Ok(texts)
+}
+
+// Formulas of the shape and of those before it are found to be equal where they are, if they have an atom.
+fn check_found(
+    rt: &(impl Abort + AllocGlobal),
+    policy: &Policy,
+    texts: &List<String>,
+    number: u8,
+) -> Result<(), Fail> {
+    let shape = shape_at(number).ok_or("no shape")?;
+    let asked = question_at(policy, shape);
+    let text = texts.get(usize::from(number)).ok_or("no text")?;
+    for earlier in 0..number {
+        let question = question_at(policy, shape_at(earlier).ok_or("no shape")?);
+        let is_equal = texts.get(usize::from(earlier)) == Some(text);
+        let is_found = same_formulas(policy, question, asked);
+        assert!(rt;
+            is_found == is_equal || (is_equal && !text.contains("Fact")),
+            "{number} {earlier}"
+        );
+    }
+    Ok(())
+}
+
+#[test]
+fn equal_formulas_are_found(rt: HostRuntime) -> Result<(), Fail> {
+    for block in [EVERY_KIND, ALIKE] {
+        let list = policies(&rt, block)?;
+        let vocabulary = vocabulary_of(rt.alloc(), &list, &list)?;
+        let policy = list.policies.get(0).ok_or("no policy")?;
+        let texts = formula_texts(&rt, policy, &vocabulary)?;
+        for number in 0..189 {
+            check_found(&rt, policy, &texts, number)?;
+        }
     }
     Ok(())
 }

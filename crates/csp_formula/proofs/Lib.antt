@@ -17,4 +17,8 @@ pub mod AtomsOfSources
 pub mod AtomsWithin
 pub mod AtomsOfPolicies
 pub mod ReadParts
+pub mod Alike
+pub mod NormalQuestions
+pub mod InStep
+pub mod SameAnswers
 mod ExamplesOfShapes

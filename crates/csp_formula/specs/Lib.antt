@@ -4,4 +4,6 @@ pub mod Values
 pub mod Sources
 pub mod Compiled
 pub mod Belonging
+pub mod Outlines
+pub mod Questions
 pub mod HashSets

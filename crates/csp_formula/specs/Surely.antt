@@ -1,5 +1,5 @@
 -- What literals decide of an atom and of a sentence.
-use Rattle.std.specs.Prelude.{Bool, true, false, not, List, [], ◌∷◌, Option, Some, None}
+use Rattle.std.specs.Prelude.{Bool, true, false, not, List, Option, Some, None}
 use Rattle.csp_atom.specs.Follows.{decided}
 use Rattle.csp_atom.specs.declared.atom.Literal.{Literal}
 use Rattle.csp_formula.specs.Sentences.{Sentence, Known, Fact, Not, Both, Either}

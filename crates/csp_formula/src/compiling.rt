@@ -7,18 +7,17 @@ ghost use Rattle.csp_model.specs.declared.check.Check.{Check as CheckValue};
 ghost use Rattle.csp_shape.specs.Shapes.{HasShape};
 ghost use Rattle.csp_formula.specs.Sentences.{sentence_of};
 ghost use Rattle.csp_formula.specs.Compiled as spec;
+ghost use Rattle.csp_formula.specs.Questions.{answer_of_list, question_sentence};
 ghost use Rattle.csp_formula.specs.Values.{is_true_for};
 
 use crate::formula::Formula;
 use crate::inline::{allows_all_inline, hash_counts, is_element_kind};
 use crate::laws::a_formula_is_what_the_policy_allows;
+use crate::question::{ListQuestion, Question, question_at, sources_at};
 use crate::sources::list_formula;
 use crate::tokens::{digests_formula, integrity_formula, nonces_formula};
 use csp_atom::Vocabulary;
-use csp_inline::{eval_allows, wasm_allows};
-use csp_match::governor;
-use csp_model::{FetchRule, Group, InlineKind, Keyword, List, Memory, Name, Policy, Source};
-use csp_nav::{capability_allows, opaque_ancestor_allows, worker_start_allows};
+use csp_model::{FetchRule, InlineKind, Keyword, List, Memory, Origin, Policy, Source};
 use csp_shape::Shape;
 use csp_token::has_keyword;
 use std::alloc::Global;
@@ -43,74 +42,52 @@ pub fn compile(
         → is_true_for vocabulary.now.hashes asked (sentence_of made) ≡ allows policy.now asked) }
 {
     a_formula_is_what_the_policy_allows();
-    policy_formula(alloc, policy, shape, vocabulary)
+    formula_of(alloc, policy, question_at(policy, shape), vocabulary)
 }
 
-fn policy_formula(
+/// The formula of a policy's answer to a question. With `question_at` it is what `compile` makes.
+pub fn formula_of(
     alloc: Global,
     policy: &Policy,
-    shape: Shape,
+    question: Question,
     vocabulary: &Vocabulary,
 ) -> Result<Formula, Memory>
     ensures { IfOk result (λ made. sentence_of made
-        ≡ spec.policy_sentence policy.now shape vocabulary.now.hashes) }
+        ≡ question_sentence policy.now vocabulary.now.hashes question) }
 {
-    match shape {
-        Shape::Fetch {
-            group,
-            parser_inserted,
-            ..
-        } => fetch_formula(alloc, policy, group, shape, parser_inserted, vocabulary),
-        Shape::Form { .. } => listed_formula(alloc, policy, Name::FormAction, shape),
-        Shape::Base { .. } => listed_formula(alloc, policy, Name::BaseUri, shape),
-        Shape::Ancestor { .. } => listed_formula(alloc, policy, Name::FrameAncestors, shape),
-        Shape::OpaqueAncestor => Ok(Formula::Constant(opaque_ancestor_allows(policy))),
-        Shape::Inline { kind } => inline_formula(alloc, policy, kind),
-        Shape::Eval => Ok(Formula::Constant(eval_allows(policy))),
-        Shape::Wasm => Ok(Formula::Constant(wasm_allows(policy))),
-        Shape::Capability { capability } => {
-            Ok(Formula::Constant(capability_allows(policy, capability)))
-        }
-        Shape::WorkerStart => Ok(Formula::Constant(worker_start_allows(policy))),
+    match question {
+        Question::Known(known) => Ok(Formula::Constant(known)),
+        Question::Listed(asked) => match sources_at(policy, asked.place) {
+            None => Ok(Formula::Constant(true)),
+            Some(sources) => list_answer(alloc, &policy.origin, asked, sources, vocabulary),
+        },
+        Question::Inline { place, kind } => match sources_at(policy, place) {
+            None => Ok(Formula::Constant(true)),
+            Some(sources) => inline_formula(alloc, kind, sources),
+        },
     }
 }
 
-// The formula of the list that governs, which decides alone.
-fn listed_formula(
+// The formula of what the list says.
+fn list_answer(
     alloc: Global,
-    policy: &Policy,
-    effective: Name,
-    shape: Shape,
-) -> Result<Formula, Memory>
-    ensures { IfOk result (λ made. sentence_of made ≡ spec.listed_sentence policy.now effective shape) }
-{
-    match governor(policy, effective) {
-        None => Ok(Formula::Constant(true)),
-        Some(found) => list_formula(alloc, &policy.origin, shape, &found.directive.sources),
-    }
-}
-
-// The formula of fetches of a group, where the list that governs says this of their URL.
-fn fetch_formula(
-    alloc: Global,
-    policy: &Policy,
-    group: Group,
-    shape: Shape,
-    parser_inserted: bool,
+    origin: &Origin,
+    asked: ListQuestion,
+    sources: &List<Source>,
     vocabulary: &Vocabulary,
 ) -> Result<Formula, Memory>
     ensures { IfOk result (λ made. sentence_of made
-        ≡ spec.group_sentence policy.now group shape parser_inserted vocabulary.now.hashes) }
+        ≡ answer_of_list origin.now vocabulary.now.hashes asked sources.now) }
 {
-    match governor(policy, group.directive()) {
-        None => Ok(Formula::Constant(true)),
-        Some(found) => {
-            let sources = &found.directive.sources;
-            let listed = list_formula(alloc, &policy.origin, shape, sources)?;
-            let rule = group.rule(found.name);
-            ruled_formula(alloc, rule, vocabulary, sources, parser_inserted, listed)
-        }
-    }
+    let listed = list_formula(alloc, origin, asked.shape(), sources.as_slice())?;
+    ruled_formula(
+        alloc,
+        asked.rule,
+        vocabulary,
+        sources,
+        asked.parser_inserted,
+        listed,
+    )
 }
 
 // The formula of fetches by the rule of a governing list; `listed` says whether the list matches their URL.
@@ -156,17 +133,8 @@ fn dynamic_or_listed(sources: &List<Source>, parser_inserted: bool, listed: Form
     }
 }
 
-// The formula of inline code or style of a kind.
-fn inline_formula(alloc: Global, policy: &Policy, kind: InlineKind) -> Result<Formula, Memory>
-    ensures { IfOk result (λ made. sentence_of made ≡ spec.kind_sentence policy.now kind) }
-{
-    match governor(policy, kind.directive()) {
-        None => Ok(Formula::Constant(true)),
-        Some(found) => sources_formula(alloc, kind, &found.directive.sources),
-    }
-}
-
-fn sources_formula(
+// The formula of inline code or style of a kind, where this list governs.
+fn inline_formula(
     alloc: Global,
     kind: InlineKind,
     sources: &List<Source>,

@@ -6,12 +6,17 @@ mod deciding;
 mod formula;
 mod inline;
 pub mod laws;
+mod outline;
 mod parts;
+mod question;
+mod same;
 mod schemes;
 mod shapes;
 mod sources;
 mod tokens;
 
-pub use compiling::compile;
+pub use compiling::{compile, formula_of};
 pub use deciding::surely;
 pub use formula::Formula;
+pub use question::{ListQuestion, Question, question_at};
+pub use same::same_formulas;

@@ -1,14 +1,14 @@
-//! Formulas of the parts of host-sources.
+//! Formulas of the parts of host-sources, by their outlines.
 ghost use Rattle.std.specs.Prelude.{◌≡◌, IfOk};
+ghost use Rattle.csp_formula.specs.Outlines as outlines;
 ghost use Rattle.csp_formula.specs.Sentences.{sentence_of};
 ghost use Rattle.csp_formula.specs.Sources as spec;
 
 use crate::formula::Formula;
-use crate::shapes::{after_redirect, is_ancestor};
+use crate::outline::{PathOutline, PortOutline};
 use csp_atom::Atom;
 use csp_grammar::{is_domain, is_four_numbers};
-use csp_model::{Duplicate, Host, HostPart, Memory, Path, PathPart, PortPart, Scheme, Text};
-use csp_shape::Shape;
+use csp_model::{Duplicate, Host, HostPart, Memory, PathPart, Text};
 use std::alloc::Global;
 
 // The formula of a host. It is false where no URL can have the host.
@@ -44,68 +44,32 @@ fn exact_formula(alloc: Global, text: &Text) -> Result<Formula, Memory>
     }
 }
 
-// The formula of a port at a scheme.
-pub(crate) fn port_formula(part: PortPart, scheme: Scheme) -> Formula
-    ensures { sentence_of result ≡ spec.port_sentence part scheme }
+// The formula of a port.
+pub(crate) fn port_formula(outline: PortOutline) -> Formula
+    ensures { sentence_of result ≡ outlines.port_said outline }
 {
-    match part {
-        PortPart::Absent => Formula::Fact(Atom::PortIs(scheme.default_port())),
-        PortPart::Any => Formula::Constant(true),
-        PortPart::Number(number) => Formula::Fact(Atom::PortIs(number)),
-        PortPart::TooLarge => Formula::Constant(false),
+    match outline {
+        PortOutline::Constant(known) => Formula::Constant(known),
+        PortOutline::Is(number) => Formula::Fact(Atom::PortIs(number)),
     }
 }
 
-// The formula of an origin's port at a scheme.
-pub(crate) fn own_port_formula(port: Option<u16>, scheme: Scheme) -> Formula
-    ensures { sentence_of result ≡ spec.own_port_sentence port scheme }
+// The formula of a path.
+pub(crate) fn path_formula(
+    alloc: Global,
+    outline: PathOutline,
+    part: &PathPart,
+) -> Result<Formula, Memory>
+    ensures { IfOk result (λ f. sentence_of f ≡ outlines.path_said outline part.now) }
 {
-    match port {
-        None => Formula::Fact(Atom::PortIs(scheme.default_port())),
-        Some(number) if number == scheme.default_port() => Formula::Constant(false),
-        Some(number) => Formula::Fact(Atom::PortIs(number)),
-    }
-}
-
-// The formula of a path. After a redirect every path will do, and the path of an ancestor is `/`.
-pub(crate) fn path_formula(alloc: Global, part: &PathPart, shape: Shape) -> Result<Formula, Memory>
-    ensures { IfOk result (λ f. sentence_of f ≡ spec.path_sentence part.now shape) }
-{
-    match part {
-        PathPart::Absent => Ok(Formula::Constant(true)),
-        PathPart::Exact(pieces) => {
-            if after_redirect(shape) {
-                Ok(Formula::Constant(true))
-            } else if has_dots(pieces) || is_ancestor(shape) {
-                Ok(Formula::Constant(false))
-            } else {
-                Ok(Formula::Fact(Atom::PathIs(pieces.copy(alloc)?)))
-            }
+    match (outline, part) {
+        (PathOutline::Constant(known), _) => Ok(Formula::Constant(known)),
+        (PathOutline::Itself, PathPart::Absent) => Ok(Formula::Constant(true)),
+        (PathOutline::Itself, PathPart::Exact(pieces)) => {
+            Ok(Formula::Fact(Atom::PathIs(pieces.copy(alloc)?)))
         }
-        PathPart::Prefix(pieces) => {
-            if after_redirect(shape) || pieces.as_slice().is_empty() {
-                Ok(Formula::Constant(true))
-            } else if has_dots(pieces) || is_ancestor(shape) {
-                Ok(Formula::Constant(false))
-            } else {
-                Ok(Formula::Fact(Atom::PathUnder(pieces.copy(alloc)?)))
-            }
+        (PathOutline::Itself, PathPart::Prefix(pieces)) => {
+            Ok(Formula::Fact(Atom::PathUnder(pieces.copy(alloc)?)))
         }
     }
-}
-
-// Whether `.` or `..` is a piece, as in no URL.
-fn has_dots(pieces: &Path) -> bool
-    ensures { result ≡ spec.has_dots pieces.now }
-{
-    pieces
-        .as_slice()
-        .iter()
-        .any(|piece| is_dots(piece.as_slice()))
-}
-
-fn is_dots(piece: &[u8]) -> bool
-    ensures { result ≡ spec.is_dots piece.now }
-{
-    matches!(piece, b"." | b"..")
 }

@@ -10,6 +10,7 @@ pub(crate) fn scheme_matches(part: &str, scheme: Scheme) -> bool
     ensures { result ≡ spec.scheme_matches part.now (scheme_text scheme) }
 {
     match part {
+        "https" => scheme == Scheme::Https,
         "http" => matches!(scheme, Scheme::Http | Scheme::Https),
         "ws" => scheme != Scheme::Ftp,
         "wss" => matches!(scheme, Scheme::Wss | Scheme::Https),

@@ -1,15 +1,21 @@
 -- Lists of atoms that ascend, one place after another, and the places of an atom in them.
-use Rattle.std.proofs.Common.{◌≡◌, ◌∙◌, refl, sym, ap, subst, ℕ, zero, suc, ◌≤◌, ◌<◌, ◌+◌, ◌-◌, Bool, true, false, nat_lt, List, length, arith, add-one}
+use Rattle.std.proofs.Common.{◌≡◌, ◌∙◌, refl, sym, ap, subst, ℕ, zero, suc, ◌≤◌, ◌<◌, ◌+◌, ◌-◌, Bool, true, false, nat_lt, List, length, arith, add-one, Ordering, Less, Equal, Greater}
 use Rattle.std.proofs.lemmas.Bool.Decides.{nat_tests}
 use Rattle.std.proofs.lemmas.List.{get_or_default}
 use Rattle.std.specs.Cmp.{upto, tied_itself}
 use Rattle.std.specs.List.{slice_index_or}
 use Rattle.std.specs.List.Sorted.{IsPartitionPoint}
-use Rattle.std.specs.Ordering.{is_lt, is_gt}
+use Rattle.std.specs.Ordering.{is_lt, is_gt, ordering_then}
 use Rattle.csp_atom.specs.declared.atom.Atom.{Atom}
 use Rattle.csp_atom.specs.Order.{atom_cmp}
 use Rattle.csp_atom.proofs.OrderLaws.{atom_total}
 use Rattle.csp_placed.specs.Facts.{Ascends, ArePlacesOf}
+
+-- what sorts by two orders sorts by the first
+pub first_is_not_less : (one other : Ordering) → is_lt (ordering_then one other) ≡ false → is_lt one ≡ false
+first_is_not_less Less other h = h
+first_is_not_less Equal other h = refl
+first_is_not_less Greater other h = refl
 
 -- One place more
 

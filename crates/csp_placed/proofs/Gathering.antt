@@ -1,6 +1,6 @@
 -- The atoms of one layer of a formula, and of the formulas of a list one after another.
-use Rattle.std.proofs.Common.{◌≡◌, ◌∙◌, sym, ap, subst, refl, ℕ, suc, ◌<◌, ◌≤◌, ◌+◌, List, [], ◌∷◌, ◌++◌, map, drop, drop-cons, get_or, length, add-one, append_assoc}
-use Rattle.std.proofs.lemmas.List.{append-nil}
+use Rattle.std.proofs.Common.{◌≡◌, ◌∙◌, sym, ap, subst, refl, arith, Bor, ℕ, suc, ◌<◌, ◌≤◌, ◌+◌, List, [], ◌∷◌, ◌++◌, map, drop, drop-cons, get_or, length, add-one, append_assoc}
+use Rattle.std.proofs.lemmas.List.{append-nil, get_or-map, length-map}
 use Rattle.std.proofs.Math.ListN.{drop_of_length-le}
 use Rattle.csp_atom.specs.declared.atom.Atom.{Atom}
 use Rattle.csp_formula.specs.Sentences.{Sentence, all_of, any_of, sentence_of, sentence_step}
@@ -49,3 +49,17 @@ pub gains_all : (old new : List Key) (formulas : List Formula) (i : ℕ) → Gai
 gains_all old new formulas i so_far h =
     let none : drop i formulas ≡ [] = drop_of_length-le formulas h in
     sym (append-nil (map atom_of new)) ∙ subst (λ (rest : List Formula). map atom_of new ++ facts_of rest ≡ map atom_of old ++ facts_of formulas) none so_far
+
+-- Formulas that are referred to
+
+abbrev pub referred : List (Bor Formula) → List Formula
+referred formulas = map (λ (f : Bor Formula). f.now) formulas
+
+pub referred_at : (formulas : List (Bor Formula)) (i : ℕ) (f : Bor Formula) → i < length formulas → f ≡ get_or formulas i f → f.now ≡ get_or (referred formulas) i f.now
+referred_at formulas i f h at = ap (λ (g : Bor Formula). g.now) at ∙ sym (get_or-map (λ (g : Bor Formula). g.now) formulas i f f.now h)
+
+pub referred_within : (formulas : List (Bor Formula)) (i : ℕ) → i < length formulas → i < length (referred formulas)
+referred_within formulas i h = omega (arith, h, length-map formulas (λ (f : Bor Formula). f.now))
+
+pub referred_over : (formulas : List (Bor Formula)) (i : ℕ) → length formulas ≤ i → length (referred formulas) ≤ i
+referred_over formulas i h = omega (arith, h, length-map formulas (λ (f : Bor Formula). f.now))

@@ -1,6 +1,6 @@
 -- One layer of a formula over places, and the places of the facts of formulas one after another.
 use Rattle.std.proofs.Common.{◌≡◌, ◌∙◌, sym, ap, subst, refl, ℕ, suc, ◌<◌, ◌≤◌, ◌+◌, Bool, List, [], ◌∷◌, ◌++◌, map, drop, drop-cons, get_or, slice_get, Option, Some, length, add-one, append_assoc}
-use Rattle.std.proofs.lemmas.List.{append-nil}
+use Rattle.std.proofs.lemmas.List.{append-nil, map_push}
 use Rattle.std.proofs.Math.ListN.{drop_of_length-le}
 use Rattle.std.specs.Global.{Vec}
 use Rattle.csp_atom.specs.declared.atom.Atom.{Atom}
@@ -37,10 +37,6 @@ placed_OneOf atoms v = ap (sentence_at atoms) (sym (rolls-OneOf v)) ∙ fold-rol
 
 -- One formula after another
 
-map_push : {X Y : Type 0} (f : X → Y) (xs : List X) (x : X) → map f (xs ++ x ∷ []) ≡ map f xs ++ f x ∷ []
-map_push f [] x = refl
-map_push f (y ∷ xs) x = ap (λ (ys : List _). f y ∷ ys) (map_push f xs x)
-
 -- what is placed says what the formulas so far say
 abbrev pub SaysSoFar : List Atom → List PlacedFormula → List Formula → List Formula → Type 0
 SaysSoFar atoms placed rest all = map (sentence_at atoms) placed ++ map sentence_of rest ≡ map sentence_of all
@@ -65,7 +61,7 @@ pub record AreParted (atoms : List Atom) (places : List ℕ) (one other : List A
 head_is : {X : Type 0} (x y : X) (xs ys : List X) → x ∷ xs ≡ y ∷ ys → x ≡ y
 head_is x y xs ys e = cc
 
-tail_is : {X : Type 0} (x y : X) (xs ys : List X) → x ∷ xs ≡ y ∷ ys → xs ≡ ys
+pub tail_is : {X : Type 0} (x y : X) (xs ys : List X) → x ∷ xs ≡ y ∷ ys → xs ≡ ys
 tail_is x y xs ys e = cc
 
 pub parted : (atoms : List Atom) (places : List ℕ) (one other : List Atom) → StandAt atoms places (one ++ other) → AreParted atoms places one other

@@ -1,5 +1,5 @@
 -- The index of the parts of an or, one part after another, and its order.
-use Rattle.std.proofs.Common.{◌≡◌, ◌∙◌, sym, ap, subst, refl, ℕ, suc, zero, ◌+◌, ◌<◌, Bool, false, List, [], ◌∷◌, ◌++◌, map, take, get_or, slice_get, Option, Some, None, length, length-take, arith, Contains, IsSortedBy, Ordering, Less, Equal, Greater, is_lt, inl, inr, ◌⊎◌, IfSome, option_map}
+use Rattle.std.proofs.Common.{◌≡◌, ◌∙◌, sym, ap, subst, refl, ℕ, suc, zero, ◌+◌, ◌<◌, Bool, false, List, [], ◌∷◌, ◌++◌, map, take, get_or, slice_get, Option, Some, None, length, length-take, arith, Contains, IsSortedBy, is_lt, inl, inr, ◌⊎◌, IfSome, option_map}
 use Rattle.std.proofs.lemmas.Bool.{false≢true}
 use Rattle.std.proofs.lemmas.List.{take_more}
 use Rattle.std.proofs.lemmas.List.Sorted.{IsNonDecreasingBy-from_sort}
@@ -15,6 +15,7 @@ use Rattle.csp_placed.specs.Indexing.{IsIndexed, indexed_parts}
 use Rattle.csp_placed.specs.declared.indexed.Parts.{Parts}
 use Rattle.csp_placed.specs.declared.placed.PlacedFormula.{PlacedFormula}
 use Rattle.csp_placed.specs.declared.placed.PlacedFormula.TheVariants.{Constant, Fact as FactOf, FactAnd}
+use Rattle.csp_placed.proofs.Ascending.{first_is_not_less}
 use Rattle.csp_placed.proofs.Layers.{placed_Constant, placed_Fact, placed_FactAnd}
 
 -- What one part says
@@ -61,11 +62,6 @@ listed_more leads more others rest parts i part h at keeps holds before here num
     ]
 
 -- In order
-
-first_is_not_less : (one other : Ordering) → is_lt (ordering_then one other) ≡ false → is_lt one ≡ false
-first_is_not_less Less other h = h
-first_is_not_less Equal other h = refl
-first_is_not_less Greater other h = refl
 
 pub rises_sorted : (leads : List (ℕ × ℕ)) → IsSortedBy (λ x y. is_lt (ordering_then (nat_cmp x.0 y.0) (nat_cmp x.1 y.1))) leads → Rises leads
 rises_sorted leads sorted i j d before within =

@@ -1,7 +1,7 @@
 -- Facts sorted with their numbers, and the atoms that they stand at, one fact after another.
 use Rattle.std.proofs.Common.{◌≡◌, ◌≢◌, ◌∙◌, refl, sym, ap, subst, ℕ, zero, suc, ◌≤◌, ◌<◌, ◌+◌, ◌-◌, Bool, true, false, nat_eq, nat_lt, List, [], ◌∷◌, ◌++◌, map, length, get_or, set, slice_get, Option, Some, inl, inr, arith, Contains, IsSortedBy, Ordering, Less, Equal, Greater, is_lt}
 use Rattle.std.proofs.lemmas.Bool.Decides.{nat_tests}
-use Rattle.std.proofs.lemmas.List.{length-append, get_or-map, get_or-set_same, get_or-set_other, get_or_append_left, get_or_default}
+use Rattle.std.proofs.lemmas.List.{length-append, length-map, length-set, get_or-map, get_or-set_same, get_or-set_other, get_or_append_left, get_or_default}
 use Rattle.std.proofs.lemmas.List.Elements.{Contains-append_left, Contains-append_cases, Contains-push}
 use Rattle.std.proofs.lemmas.List.Sorted.{Contains-permutation, IsPermutation-sym}
 use Rattle.std.proofs.lemmas.Option.{slice_get-map, slice_get-get_or, slice_get_within, get_or_from_slice_get}
@@ -17,7 +17,7 @@ use Rattle.csp_placed.specs.Facts.{atom_of}
 use Rattle.csp_placed.specs.Overlaps.{Rise, StandsAt}
 use Rattle.csp_placed.specs.Sorting.{StandAt, AreNumbered, atom_in, AreSorted, IsBound, KeepsPlaces, AddsOnly}
 use Rattle.csp_placed.specs.declared.key.Key.{Key}
-use Rattle.csp_placed.proofs.Ascending.{ascends_adjacent}
+use Rattle.csp_placed.proofs.Ascending.{ascends_adjacent, first_is_not_less}
 
 -- Numbers
 
@@ -60,12 +60,8 @@ numbers_more keys pairs more i key so_far h at e = subst (λ (ps : List (Key × 
 pub numbers_all : (keys : List Key) (pairs : List (Key × ℕ)) (i : ℕ) → NumbersSoFar keys pairs i → length keys ≤ i → AreNumbered (map atom_of keys) pairs
 numbers_all keys pairs i so_far h = record {
   right = so_far.right;
-  whole = λ n below. so_far.whole n (omega (arith, same_length atom_of keys, below, h));
+  whole = λ n below. so_far.whole n (omega (arith, length-map keys atom_of, below, h));
 }
-  where
-    same_length : {X Y : Type 0} (f : X → Y) (xs : List X) → length (map f xs) ≡ length xs
-    same_length f [] = refl
-    same_length f (x ∷ xs) = ap suc (same_length f xs)
 
 pub numbered_moved : (facts : List Atom) (old new : List (Key × ℕ)) → IsPermutation old new → AreNumbered facts old → AreNumbered facts new
 numbered_moved facts old new moved numbered = record {
@@ -75,11 +71,6 @@ numbered_moved facts old new moved numbered = record {
 
 -- In order
 
-first_is_not_less : (one other : Ordering) → is_lt (ordering_then one other) ≡ false → is_lt one ≡ false
-first_is_not_less Less other h = h
-first_is_not_less Equal other h = refl
-first_is_not_less Greater other h = refl
-
 turned : (r : Ordering) → is_lt r ≡ false → is_gt (ordering_reverse r) ≡ false
 turned Less h = cc
 turned Equal h = refl
@@ -88,15 +79,11 @@ turned Greater h = refl
 pub sorted_pairs : (pairs : List (Key × ℕ)) → IsSortedBy (λ x y. is_lt (ordering_then (atom_cmp (atom_in x) (atom_in y)) (nat_cmp x.1 y.1))) pairs → AreSorted pairs
 sorted_pairs [] sorted = λ i j d low h. absurd (omega (arith, h))
 sorted_pairs (p ∷ ps) sorted = ascends_adjacent (map atom_in (p ∷ ps)) (λ k d h.
-    let within : k + 1 < length (p ∷ ps) = omega (arith, h, map_length atom_in (p ∷ ps)) in
+    let within : k + 1 < length (p ∷ ps) = omega (arith, h, length-map (p ∷ ps) atom_in) in
     let lower : get_or (map atom_in (p ∷ ps)) k d ≡ atom_in (get_or (p ∷ ps) k p) = get_or-map atom_in (p ∷ ps) k p d (omega (arith, within)) in
     let upper : get_or (map atom_in (p ∷ ps)) (k + 1) d ≡ atom_in (get_or (p ∷ ps) (k + 1) p) = get_or-map atom_in (p ∷ ps) (k + 1) p d within in
     let low = first_is_not_less _ _ (sorted k p (omega arith) within) in
     rw (lower, upper) (ap is_gt (atom_total.antisymm (atom_in (get_or (p ∷ ps) k p)) (atom_in (get_or (p ∷ ps) (k + 1) p))) ∙ turned _ low))
-  where
-    map_length : {X Y : Type 0} (f : X → Y) (xs : List X) → length (map f xs) ≡ length xs
-    map_length f [] = refl
-    map_length f (x ∷ xs) = ap suc (map_length f xs)
 
 -- One atom more
 
@@ -181,11 +168,6 @@ placed_none facts pairs places long = record {
   only = λ a has. absurd (omega (arith, has.1));
 }
 
-length_set : {X : Type 0} (xs : List X) (n : ℕ) (x : X) → length (set xs n x) ≡ length xs
-length_set [] n x = refl
-length_set (y ∷ xs) zero x = refl
-length_set (y ∷ xs) (suc n) x = ap suc (length_set xs n x)
-
 pub bound_at : (facts : List Atom) (pairs : List (Key × ℕ)) (atoms : List Atom) (places : List ℕ) (i : ℕ) (pair : Key × ℕ) → PlacedSoFar facts pairs atoms places i
     → i < length pairs → pair ≡ get_or pairs i pair → IsBound (atom_in pair) atoms
 bound_at facts pairs atoms places i pair so_far h at = subst (λ (p : Key × ℕ). IsBound (atom_in p) atoms) (sym at) (so_far.bound i pair (omega arith) h)
@@ -198,7 +180,7 @@ pub placed_more : (facts : List Atom) (pairs : List (Key × ℕ)) (atoms new : L
     → PlacedSoFar facts pairs atoms places i → i < length pairs → pair ≡ get_or pairs i pair → Rise new → StandsAt new place (atom_in pair) → KeepsPlaces atoms new → AddsOnly (atom_in pair) atoms new
     → PlacedSoFar facts pairs new (set places pair.1 place) (i + 1)
 placed_more facts pairs atoms new places i pair place numbered sorted so_far h at rises stands keeps adds = record {
-  long = length_set places pair.1 place ∙ so_far.long;
+  long = length-set places pair.1 place ∙ so_far.long;
   rises = rises;
   bound = λ k d low q a has. elim (adds a has) [
     | inl before ↦ so_far.bound k d (omega (arith, low)) q a before
@@ -220,15 +202,11 @@ placed_more facts pairs atoms new places i pair place numbered sorted so_far h a
     fact_here : Contains facts (atom_in pair)
     fact_here = (pair.1, number_in, get_or_from_slice_get facts pair.1 (atom_in pair) (atom_in pair) right)
 
-    pairs_length : {X Y : Type 0} (f : X → Y) (xs : List X) → length (map f xs) ≡ length xs
-    pairs_length f [] = refl
-    pairs_length f (x ∷ xs) = ap suc (pairs_length f xs)
-
     later : (k : ℕ) (d : Key × ℕ) → i + 1 ≤ k → k < length pairs → is_gt (atom_cmp (atom_in pair) (atom_in (get_or pairs k d))) ≡ false
     later k d low q =
         let first : get_or (map atom_in pairs) i (atom_in d) ≡ atom_in pair = get_or-map atom_in pairs i d (atom_in d) h ∙ ap atom_in (get_or_default pairs i d pair h ∙ sym at) in
         let second : get_or (map atom_in pairs) k (atom_in d) ≡ atom_in (get_or pairs k d) = get_or-map atom_in pairs k d (atom_in d) q in
-        rw (sym first, sym second) (sorted i k (atom_in d) (omega (arith, low)) (omega (arith, q, pairs_length atom_in pairs)))
+        rw (sym first, sym second) (sorted i k (atom_in d) (omega (arith, low)) (omega (arith, q, length-map pairs atom_in)))
 
     right_of : (k : ℕ) (d : Key × ℕ) → k < length pairs → slice_get facts (get_or pairs k d).1 ≡ Some (atom_in (get_or pairs k d))
     right_of k d q = numbered.right (get_or pairs k d) (k, q, get_or_default pairs k (get_or pairs k d) d q)

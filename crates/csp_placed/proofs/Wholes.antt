@@ -8,15 +8,13 @@ use Rattle.csp_atom.specs.Order.{atom_cmp}
 use Rattle.csp_atom.proofs.OrderLaws.{atom_total}
 use Rattle.csp_placed.specs.Overlaps.{Rise}
 use Rattle.csp_placed.specs.Sorting.{StandAt}
+use Rattle.csp_placed.proofs.Layers.{tail_is}
 
 pub apart_rising : (atoms : List Atom) → Rise atoms → AllPairs (λ (a b : Atom). a ≢ b) atoms
 apart_rising atoms rises i j d p h same =
     let less = rises i j d p h in
     let level = tied_itself atom_total (get_or atoms j d) in
     cc (less, level, ap (λ (a : Atom). atom_cmp a (get_or atoms j d)) same)
-
-tail_is : {X : Type 0} (x y : X) (xs ys : List X) → x ∷ xs ≡ y ∷ ys → xs ≡ ys
-tail_is x y xs ys e = cc
 
 -- an atom that stands at one of the places stands in the list
 stood : (atoms : List Atom) (places : List ℕ) (facts : List Atom) → StandAt atoms places facts → (n : ℕ) (a : Atom) → n < length facts → get_or facts n a ≡ a → Contains atoms a

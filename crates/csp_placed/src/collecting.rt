@@ -8,6 +8,20 @@ use crate::key::Key;
 use csp_formula::Formula;
 use csp_model::Memory;
 
+// Adds the atoms of each formula that is referred to.
+pub(crate) fn collect_referred<'f>(
+    formulas: &[&'f Formula],
+    facts: &mut Vec<Key<'f>>,
+) -> Result<(), Memory>
+    ensures { OnOk result (map spec.atom_of facts.new.items
+        ≡ map spec.atom_of facts.old.items ++ spec.facts_of (map (λ f. f.now) formulas.now)) }
+{
+    for formula in formulas {
+        collect(formula, facts)?;
+    }
+    Ok(())
+}
+
 // Adds the atoms of a formula.
 #[cycle(collect)]
 fn collect<'f>(formula: &'f Formula, facts: &mut Vec<Key<'f>>) -> Result<(), Memory>
@@ -28,10 +42,7 @@ fn collect<'f>(formula: &'f Formula, facts: &mut Vec<Key<'f>>) -> Result<(), Mem
 
 // Adds the atoms of each.
 #[cycle(collect)]
-pub(crate) fn collect_all<'f>(
-    formulas: &'f [Formula],
-    facts: &mut Vec<Key<'f>>,
-) -> Result<(), Memory>
+fn collect_all<'f>(formulas: &'f [Formula], facts: &mut Vec<Key<'f>>) -> Result<(), Memory>
     ensures { OnOk result (map spec.atom_of facts.new.items
         ≡ map spec.atom_of facts.old.items ++ spec.facts_of formulas.now) }
 {

@@ -4,10 +4,11 @@ ghost use Rattle.std.specs.List.{AllPairs, Contains};
 ghost use Rattle.csp_atom.specs.declared.atom.Atom.{Atom as AtomValue};
 ghost use Rattle.csp_formula.specs.Sentences.{all_of, sentence_of};
 ghost use Rattle.csp_placed.specs.Facts.{facts_of};
+ghost use Rattle.csp_placed.specs.Overlaps.{Rise};
 ghost use Rattle.csp_placed.specs.Placed.{sentence_at};
 ghost use Rattle.csp_placed.specs.Placing as spec;
 
-use crate::collecting::collect_all;
+use crate::collecting::collect_referred;
 use crate::indexed::IndexedFormula;
 use crate::placed::PlacedFormula;
 use crate::sorting::{SortedFacts, sort_facts};
@@ -25,29 +26,31 @@ pub struct PlacedFormulas {
     pub second: List<PlacedFormula>,
 }
 
-/// Gives the formulas of two lists places in one list of their atoms, in which each stands once.
+/// Gives the formulas of two lists places in one list of their atoms, which rise, so that each stands once.
+/// A formula may stand elsewhere and be placed in several such lists.
 pub fn place_formulas(
     alloc: Global,
-    first: &[Formula],
-    second: &[Formula],
+    first: &[&Formula],
+    second: &[&Formula],
 ) -> Result<PlacedFormulas, Memory>
     ensures first { IfOk result (λ made.
-        map (sentence_at made.atoms) made.first ≡ map sentence_of first.now) }
+        map (sentence_at made.atoms) made.first ≡ map (λ f. sentence_of f.now) first.now) }
     ensures second { IfOk result (λ made.
-        map (sentence_at made.atoms) made.second ≡ map sentence_of second.now) }
+        map (sentence_at made.atoms) made.second ≡ map (λ f. sentence_of f.now) second.now) }
     ensures once { IfOk result (λ made. AllPairs (λ (one other : AtomValue). one ≢ other) made.atoms) }
-    ensures atoms { IfOk result (λ made. (atom : AtomValue)
-        → Contains made.atoms atom ↔ Contains (facts_of first.now ++ facts_of second.now) atom) }
+    ensures rises { IfOk result (λ made. Rise made.atoms) }
+    ensures atoms { IfOk result (λ made. (atom : AtomValue) → Contains made.atoms atom
+        ↔ Contains (facts_of (map (λ f. f.now) first.now) ++ facts_of (map (λ f. f.now) second.now)) atom) }
 {
     let mut facts = Vec::new(alloc);
-    collect_all(first, &mut facts)?;
-    collect_all(second, &mut facts)?;
+    collect_referred(first, &mut facts)?;
+    collect_referred(second, &mut facts)?;
     let SortedFacts { atoms, places } = sort_facts(alloc, &facts)?;
     let mut places = Places {
         rest: places.as_slice(),
     };
-    let placed_first = place_all(alloc, first, &mut places)?;
-    let placed_second = place_all(alloc, second, &mut places)?;
+    let placed_first = place_referred(alloc, first, &mut places)?;
+    let placed_second = place_referred(alloc, second, &mut places)?;
     let first = index_all(alloc, placed_first)?;
     Ok(PlacedFormulas {
         atoms,
@@ -87,6 +90,23 @@ impl<'p> Places<'p> {
             None => 0,
         }
     }
+}
+
+// Each formula that is referred to over the places of its facts, one after another.
+fn place_referred(
+    alloc: Global,
+    formulas: &[&Formula],
+    places: &mut Places,
+) -> Result<Vec<PlacedFormula>, Memory>
+    ensures { IfOk result (λ placed.
+        spec.ArePlaced (map (λ f. f.now) formulas.now) placed.items
+        places.old.rest.now places.new.rest.now) }
+{
+    let mut placed = Vec::with_capacity(alloc, formulas.len())?;
+    for formula in formulas {
+        placed.push(place(alloc, formula, places)?)?;
+    }
+    Ok(placed)
 }
 
 // The formula over the places of its facts, which are the first of these.

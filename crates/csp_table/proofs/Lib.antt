@@ -1,4 +1,3 @@
-pub mod Saying
 pub mod Gathered
 pub mod SoFar
 pub mod Ports

@@ -1,100 +1,121 @@
--- Shapes that ask or say the same of each policy have the same formulas, and those that were compiled stay where they are.
-use Rattle.std.proofs.Common.{◌≡◌, ◌∙◌, refl, sym, ap, ap₂, subst, ℕ, List, [], ◌∷◌, ◌++◌, map, length, Option, Some, None, All}
-use Rattle.std.specs.Prelude.{◌↔◌, MatchOption, slice_get, Contains}
-use Rattle.std.specs.List.{flat_map}
+-- Formulas that stand at the same places are the same, and what was placed stays where it is.
+use Rattle.std.proofs.Common.{◌≡◌, ◌∙◌, refl, sym, ap, ap₂, subst, ℕ, ◌+◌, ◌<◌, List, [], ◌∷◌, ◌++◌, map, take, get_or, length, Option, Some, None, All}
+use Rattle.std.specs.Prelude.{IsTrue, MatchOption, slice_get}
+use Rattle.std.specs.List.{filter_map}
+use Rattle.std.specs.Option.{option_and_then, option_map}
+use Rattle.std.proofs.lemmas.List.{map-append, map_more}
 use Rattle.std.proofs.lemmas.List.Elements.{All-contains, All-push}
-use Rattle.std.proofs.lemmas.Option.{slice_get_within, get_or_from_slice_get}
 use Rattle.csp_model.specs.declared.policy.Policy.{Policy}
 use Rattle.csp_model.specs.declared.policy.PolicyList.{PolicyList}
 use Rattle.csp_model.specs.declared.source.Hash.{Hash}
-use Rattle.csp_atom.specs.declared.atom.Atom.{Atom}
+use Rattle.csp_shape.specs.Numbers.{number}
+use Rattle.csp_shape.specs.Shapes.{is_shape}
 use Rattle.csp_shape.specs.declared.shape.Shape.{Shape}
 use Rattle.csp_formula.specs.Compiled.{policy_sentence}
 use Rattle.csp_formula.specs.Sentences.{Sentence, sentence_of}
-use Rattle.csp_formula.specs.Values.{atoms_in}
 use Rattle.csp_formula.specs.declared.formula.Formula.{Formula}
 use Rattle.csp_placed.specs.declared.placing.PlacedFormulas.{PlacedFormulas}
-use Rattle.csp_table.specs.declared.question.Question.{Question}
+use Rattle.csp_table.specs.declared.policy.PolicyFormulas.{PolicyFormulas}
 use Rattle.csp_table.specs.declared.sharing.Earlier.{Earlier}
-use Rattle.csp_table.specs.declared.sharing.Sharing.{Sharing}
-use Rattle.csp_table.specs.Kinds.{SaysSame, IsSaidAt, Extends}
-use Rattle.csp_table.specs.Questions.{question_at}
-use Rattle.csp_table.specs.Sharing.{AreAskedAt, AskTheSame, HasFormulas, IsOfShape, IsOfSomeShape, AllStand, IsPlaceOf}
-use Rattle.csp_table.specs.Tables.{AreAt, said_of}
-use Rattle.csp_table.proofs.Answered.{one_answer}
-use Rattle.csp_table.proofs.SoFar.{get_last, kept_kind}
+use Rattle.csp_table.specs.Growing.{Extends, StandsAt}
+use Rattle.csp_table.specs.Policies.{place_at, formula_at, AreOf, AreOfEach}
+use Rattle.csp_table.specs.Sharing.{ArePlaced, ArePlacedAt, IsOfShape, IsEarlier}
+use Rattle.csp_table.specs.Tables.{AreAt}
+use Rattle.csp_table.proofs.Gathered.{gathered}
+use Rattle.csp_table.proofs.SoFar.{extended}
 
--- Where the same is asked, the same is said
+-- What is picked out of a list where each gives something
 
-module _ (hashes : List Hash) (one other : Shape) where
-  same_said : (policies : List Policy) (questions : List Question)
-      → map (λ (p : Policy). question_at p one) policies ≡ map Some questions
-      → map (λ (p : Policy). question_at p other) policies ≡ map Some questions
-      → map (λ (p : Policy). policy_sentence p one hashes) policies ≡ map (λ (p : Policy). policy_sentence p other hashes) policies
-  same_said [] questions e f = refl
-  same_said (p ∷ policies) [] e f = cc e
-  same_said (p ∷ policies) (question ∷ questions) e f =
-      ap₂ (λ (x : Sentence) (xs : List Sentence). x ∷ xs) (one_answer p hashes one other question (cc e) (cc f)) (same_said policies questions (cc e) (cc f))
+module _ {A B C D : Type 0} (pick : A → Option B) (says : B → C) (said : D → C) where
+  by_first : (x : A) (xs : List A) (y : D) (ys : List D) (o : Option B) → pick x ≡ o → option_map says o ≡ Some (said y)
+      → map says (filter_map pick xs) ≡ map said ys → map says (filter_map pick (x ∷ xs)) ≡ said y ∷ map said ys
+  by_first x xs y ys None e says_so rest = cc says_so
+  by_first x xs y ys (Some b) e says_so rest = rw e (ap₂ (λ (c : C) (cs : List C). c ∷ cs) (cc says_so) rest)
 
-  said : (policies : List Policy) (before now : Option (List Question)) → AskTheSame before now → AreAskedAt policies one before → AreAskedAt policies other now
-      → map (λ (p : Policy). policy_sentence p one hashes) policies ≡ map (λ (p : Policy). policy_sentence p other hashes) policies
-  said policies (Some before) (Some now) same e f =
-      same_said policies before e (f ∙ ap (map Some) (sym same))
-  said policies before now same e f = absurd same
+  pub all_there : (xs : List A) (ys : List D) → map (λ (x : A). option_map says (pick x)) xs ≡ map (λ (y : D). Some (said y)) ys
+      → map says (filter_map pick xs) ≡ map said ys
+  all_there [] [] e = refl
+  all_there [] (y ∷ ys) e = cc e
+  all_there (x ∷ xs) [] e = cc e
+  all_there (x ∷ xs) (y ∷ ys) e = by_first x xs y ys (pick x) refl (cc e) (all_there xs ys (cc e))
 
-  moved : (first second : PolicyList) (placed : PlacedFormulas) → said_of hashes one first ≡ said_of hashes other first
-      → said_of hashes one second ≡ said_of hashes other second → AreAt hashes first second one placed → AreAt hashes first second other placed
-  moved first second placed e f at = record {
-    first = at.first ∙ e;
-    second = at.second ∙ f;
-    once = at.once;
-    atoms = λ atom. subst (λ (all : List Atom). Contains placed.atoms atom ↔ Contains all atom)
-        (ap₂ (λ (xs ys : List Sentence). flat_map atoms_in xs ++ flat_map atoms_in ys) e f) (at.atoms atom);
-  }
+module _ (n m : ℕ) where
+  by_places : (x : PolicyFormulas) (xs : List PolicyFormulas) (o : Option Formula) → formula_at n x ≡ o → formula_at m x ≡ o
+      → filter_map (formula_at n) xs ≡ filter_map (formula_at m) xs → filter_map (formula_at n) (x ∷ xs) ≡ filter_map (formula_at m) (x ∷ xs)
+  by_places x xs None e f rest = rw (e, f) rest
+  by_places x xs (Some formula) e f rest = rw (e, f) (ap (λ (fs : List Formula). formula ∷ fs) rest)
 
-module _ (hashes : List Hash) (first second : PolicyList) where
-  moved_at : (one other : Shape) → said_of hashes one first ≡ said_of hashes other first → said_of hashes one second ≡ said_of hashes other second
-      → (o : Option PlacedFormulas) → MatchOption o ⊥ (AreAt hashes first second one) → MatchOption o ⊥ (AreAt hashes first second other)
-  moved_at one other e f None at = absurd at
-  moved_at one other e f (Some placed) at = moved hashes one other first second placed e f at
+  pub same_places : (xs : List PolicyFormulas) → map (place_at n) xs ≡ map (place_at m) xs → filter_map (formula_at n) xs ≡ filter_map (formula_at m) xs
+  same_places [] e = refl
+  same_places (x ∷ xs) e =
+      let here : place_at n x ≡ place_at m x = cc e in
+      by_places x xs (formula_at m x) (ap (option_and_then (slice_get x.formulas)) here) refl (same_places xs (cc e))
 
-  pub found : (sharing : Sharing) (shape : Shape) (ours theirs : Option (List Question)) (place : ℕ) → AllStand hashes first second sharing
-      → IsPlaceOf sharing.earlier ours theirs place → AreAskedAt first.policies shape ours → AreAskedAt second.policies shape theirs
-      → HasFormulas hashes first second shape sharing.kinds place
-  found sharing shape ours theirs place all is e f =
-      let of_shape = All-contains (IsOfShape hashes first second sharing.kinds) sharing.earlier is.one all.earlier is.listed in
-      let here = subst (λ (k : ℕ). HasFormulas hashes first second of_shape.kind sharing.kinds k) is.there of_shape.stands in
-      moved_at of_shape.kind shape (said hashes of_shape.kind shape first.policies is.one.first ours is.first of_shape.first e)
-      (said hashes of_shape.kind shape second.policies is.one.second theirs is.second of_shape.second f) (slice_get sharing.kinds place) here
+-- The formulas of each policy
 
-  -- a kind that says what the formulas of a shape do is that of the shape
-  pub same_kind : (shape : Shape) (ours theirs : List Formula) (kinds : List PlacedFormulas) (place : ℕ)
-      → map sentence_of ours ≡ said_of hashes shape first → map sentence_of theirs ≡ said_of hashes shape second
-      → All (IsOfSomeShape hashes first second) kinds → IsSaidAt kinds ours theirs place → HasFormulas hashes first second shape kinds place
-  same_kind shape ours theirs kinds place one other all said_at = by_kind (slice_get kinds place) refl said_at
-    where
-      by_kind : (o : Option PlacedFormulas) → slice_get kinds place ≡ o → MatchOption o ⊥ (λ kept. SaysSame kept ours theirs) → MatchOption o ⊥ (AreAt hashes first second shape)
-      by_kind None e same = absurd same
-      by_kind (Some kept) e same =
-          let is : IsOfSomeShape hashes first second kept =
-          subst (IsOfSomeShape hashes first second) (get_or_from_slice_get kinds place kept kept e) (all place kept (slice_get_within kinds place kept e)) in
-          moved hashes is.kind shape first second kept (sym is.at.first ∙ same.first ∙ one) (sym is.at.second ∙ same.second ∙ other) is.at
+pub of_each : (hashes : List Hash) (policy : Policy) (made : PolicyFormulas) → AreOf hashes policy made → (kind : Shape) → IsTrue (is_shape kind)
+    → option_map sentence_of (formula_at (number kind) made) ≡ Some (policy_sentence policy kind hashes)
+of_each hashes policy made are kind listed = by (formula_at (number kind) made) (are kind listed)
+  where
+    by : (o : Option Formula) → MatchOption o ⊥ (λ f. sentence_of f ≡ policy_sentence policy kind hashes)
+        → option_map sentence_of o ≡ Some (policy_sentence policy kind hashes)
+    by None h = absurd h
+    by (Some f) h = ap Some h
 
-  pub new_kind : (shape : Shape) (made : PlacedFormulas) (kinds : List PlacedFormulas) → AreAt hashes first second shape made
-      → HasFormulas hashes first second shape (kinds ++ made ∷ []) (length kinds)
-  new_kind shape made kinds at =
-      subst (λ (o : Option PlacedFormulas). MatchOption o ⊥ (AreAt hashes first second shape)) (sym (get_last kinds made)) at
+pub each_more : (hashes : List Hash) (policies : List Policy) (made : List PolicyFormulas) (one : PolicyFormulas) (i : ℕ) (policy : Policy) → i < length policies
+    → policy ≡ get_or policies i policy → AreOf hashes policy one → AreOfEach hashes (take i policies) made
+    → AreOfEach hashes (take (i + 1) policies) (made ++ one ∷ [])
+each_more hashes policies made one i policy below at are before kind listed =
+    let said = λ (p : Policy). Some (policy_sentence p kind hashes) in
+    let says = λ (x : PolicyFormulas). option_map sentence_of (formula_at (number kind) x) in
+    map-append says made (one ∷ [])
+    ∙ ap₂ (λ (front : List (Option Sentence)) (last : Option Sentence). front ++ last ∷ []) (before kind listed) (of_each hashes policy one are kind listed ∙ ap said at)
+    ∙ sym (map_more said policies i policy below)
 
-  grown : (kinds longer : List PlacedFormulas) (e : Earlier) → Extends kinds longer → IsOfShape hashes first second kinds e → IsOfShape hashes first second longer e
+-- formulas that were placed for a shape are what the policies say of it
+pub placed_at : (hashes : List Hash) (ours theirs : PolicyList) (first second : List PolicyFormulas) (kind : Shape) (placed : PlacedFormulas)
+    → AreOfEach hashes ours.policies first → AreOfEach hashes theirs.policies second → IsTrue (is_shape kind)
+    → ArePlacedAt first second (number kind) placed → AreAt hashes ours theirs kind placed
+placed_at hashes ours theirs first second kind placed one other listed are =
+    let says = λ (p : Policy). policy_sentence p kind hashes in
+    gathered hashes ours theirs kind (filter_map (formula_at (number kind)) first) (filter_map (formula_at (number kind)) second)
+    (all_there (formula_at (number kind)) sentence_of says first ours.policies (one kind listed))
+    (all_there (formula_at (number kind)) sentence_of says second theirs.policies (other kind listed))
+    placed are.first are.second are.once are.atoms
+
+pub stands_at : (hashes : List Hash) (ours theirs : PolicyList) (first second : List PolicyFormulas) (kind : Shape) (kinds : List PlacedFormulas) (n place : ℕ)
+    → AreOfEach hashes ours.policies first → AreOfEach hashes theirs.policies second → IsTrue (is_shape kind) → number kind ≡ n
+    → StandsAt kinds (ArePlacedAt first second n) place → StandsAt kinds (AreAt hashes ours theirs kind) place
+stands_at hashes ours theirs first second kind kinds n place one other listed at stands =
+    by (slice_get kinds place) (subst (λ (m : ℕ). StandsAt kinds (ArePlacedAt first second m) place) (sym at) stands)
+  where
+    by : (o : Option PlacedFormulas) → MatchOption o ⊥ (ArePlacedAt first second (number kind)) → MatchOption o ⊥ (AreAt hashes ours theirs kind)
+    by None h = absurd h
+    by (Some placed) h = placed_at hashes ours theirs first second kind placed one other listed h
+
+-- Earlier shapes
+
+module _ (first second : List PolicyFormulas) where
+  pub found : (kinds : List PlacedFormulas) (earlier : List Earlier) (ours theirs : List (Option ℕ)) (n place : ℕ)
+      → All (IsOfShape first second kinds) earlier → IsEarlier earlier ours theirs place
+      → ours ≡ map (place_at n) first → theirs ≡ map (place_at n) second → StandsAt kinds (ArePlacedAt first second n) place
+  found kinds earlier ours theirs n place all is one other =
+      let of = All-contains (IsOfShape first second kinds) earlier is.one all is.listed in
+      let e = same_places of.n n first (of.ours ∙ is.first ∙ one) in
+      let f = same_places of.n n second (of.theirs ∙ is.second ∙ other) in
+      subst (λ (k : ℕ). StandsAt kinds (ArePlacedAt first second n) k) is.there
+      (subst (λ (xs : List Formula). StandsAt kinds (ArePlaced xs (filter_map (formula_at n) second)) is.one.place) e
+      (subst (λ (ys : List Formula). StandsAt kinds (ArePlaced (filter_map (formula_at of.n) first) ys) is.one.place) f of.stands))
+
+  grown : (kinds longer : List PlacedFormulas) (e : Earlier) → Extends kinds longer → IsOfShape first second kinds e → IsOfShape first second longer e
   grown kinds longer e extends is = record {
-    kind = is.kind;
-    first = is.first;
-    second = is.second;
-    stands = subst (λ (ks : List PlacedFormulas). HasFormulas hashes first second is.kind ks e.place) (sym extends.1)
-        (kept_kind (AreAt hashes first second is.kind) kinds extends.0 e.place (slice_get kinds e.place) refl is.stands);
+    n = is.n;
+    ours = is.ours;
+    theirs = is.theirs;
+    stands = extended (ArePlacedAt first second is.n) kinds longer e.place extends is.stands;
   }
 
   pub added : (kinds longer : List PlacedFormulas) (earlier : List Earlier) (e : Earlier) → Extends kinds longer
-      → All (IsOfShape hashes first second kinds) earlier → IsOfShape hashes first second longer e → All (IsOfShape hashes first second longer) (earlier ++ e ∷ [])
+      → All (IsOfShape first second kinds) earlier → IsOfShape first second longer e → All (IsOfShape first second longer) (earlier ++ e ∷ [])
   added kinds longer earlier e extends all new =
-      All-push (IsOfShape hashes first second longer) earlier e (λ k d lt. grown kinds longer _ extends (all k d lt)) new
+      All-push (IsOfShape first second longer) earlier e (λ k d lt. grown kinds longer _ extends (all k d lt)) new

@@ -1,4 +1,4 @@
-pub mod Kinds
+pub mod Growing
 pub mod Tables
-pub mod Questions
+pub mod Policies
 pub mod Sharing

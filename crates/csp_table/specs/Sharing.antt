@@ -1,55 +1,44 @@
--- Shapes at which all policies are asked the same share formulas.
-use Rattle.std.specs.Prelude.{◌≡◌, ℕ, List, map, Option, Some, MatchOption, IfSome, slice_get, All, Contains}
-use Rattle.csp_model.specs.declared.policy.Policy.{Policy}
-use Rattle.csp_model.specs.declared.policy.PolicyList.{PolicyList}
-use Rattle.csp_model.specs.declared.source.Hash.{Hash}
-use Rattle.csp_shape.specs.declared.shape.Shape.{Shape}
+-- Shapes at which each policy's formula stands at the same place share what was placed.
+use Rattle.std.specs.Prelude.{◌≡◌, ◌≢◌, ◌↔◌, ℕ, List, ◌++◌, map, Option, All, AllPairs, Contains}
+use Rattle.std.specs.List.{filter_map}
+use Rattle.csp_atom.specs.declared.atom.Atom.{Atom}
+use Rattle.csp_formula.specs.Sentences.{sentence_of}
+use Rattle.csp_formula.specs.declared.formula.Formula.{Formula}
+use Rattle.csp_placed.specs.Facts.{facts_of}
+use Rattle.csp_placed.specs.Placed.{sentence_at}
 use Rattle.csp_placed.specs.declared.placing.PlacedFormulas.{PlacedFormulas}
-use Rattle.csp_table.specs.declared.question.Question.{Question}
+use Rattle.csp_table.specs.Growing.{StandsAt}
+use Rattle.csp_table.specs.Policies.{place_at, formula_at}
+use Rattle.csp_table.specs.declared.policy.PolicyFormulas.{PolicyFormulas}
 use Rattle.csp_table.specs.declared.sharing.Earlier.{Earlier}
 use Rattle.csp_table.specs.declared.sharing.Sharing.{Sharing}
-use Rattle.csp_table.specs.Questions.{question_at}
-use Rattle.csp_table.specs.Tables.{AreAt}
 
--- the questions are those that the policies are asked at the shape
-abbrev pub AreAskedAt : List Policy → Shape → Option (List Question) → Type 0
-AreAskedAt policies kind asked =
-    IfSome asked (λ questions. map (λ (p : Policy). question_at p kind) policies ≡ map Some questions)
+-- these formulas were placed over one list of their atoms
+pub record ArePlaced (ours theirs : List Formula) (placed : PlacedFormulas) : Type 0 where
+  pub first : map (sentence_at placed.atoms) placed.first ≡ map sentence_of ours
+  pub second : map (sentence_at placed.atoms) placed.second ≡ map sentence_of theirs
+  pub once : AllPairs (λ (one other : Atom). one ≢ other) placed.atoms
+  pub atoms : (atom : Atom) → Contains placed.atoms atom ↔ Contains (facts_of ours ++ facts_of theirs) atom
 
--- other shapes may ask so too, and the questions are equal
-abbrev pub AskTheSame : Option (List Question) → Option (List Question) → Type 0
-AskTheSame (Some one) (Some other) = one ≡ other
-AskTheSame one other = ⊥
+-- those of the shape of this number were
+abbrev pub ArePlacedAt : List PolicyFormulas → List PolicyFormulas → ℕ → PlacedFormulas → Type 0
+ArePlacedAt first second n = ArePlaced (filter_map (formula_at n) first) (filter_map (formula_at n) second)
 
--- at the place stand the formulas of the shape
-abbrev pub HasFormulas : List Hash → PolicyList → PolicyList → Shape → List PlacedFormulas → ℕ → Type 0
-HasFormulas hashes ours theirs kind kinds place =
-    MatchOption (slice_get kinds place) ⊥ (AreAt hashes ours theirs kind)
-
--- there is a shape that asks these questions, and its formulas stand at the place
-pub record IsOfShape (hashes : List Hash) (ours theirs : PolicyList) (kinds : List PlacedFormulas)
-    (e : Earlier) : Type 0 where
-  pub kind : Shape
-  pub first : AreAskedAt ours.policies kind e.first
-  pub second : AreAskedAt theirs.policies kind e.second
-  pub stands : HasFormulas hashes ours theirs kind kinds e.place
-
--- the kind has the formulas of some shape
-pub record IsOfSomeShape (hashes : List Hash) (ours theirs : PolicyList) (placed : PlacedFormulas)
+-- of some shape the formulas stand at these places, and at its place they stand placed
+pub record IsOfShape (first second : List PolicyFormulas) (kinds : List PlacedFormulas) (e : Earlier)
     : Type 0 where
-  pub kind : Shape
-  pub at : AreAt hashes ours theirs kind placed
+  pub n : ℕ
+  pub ours : map (place_at n) first ≡ e.first
+  pub theirs : map (place_at n) second ≡ e.second
+  pub stands : StandsAt kinds (ArePlacedAt first second n) e.place
 
--- each kind has the formulas of some shape, and each earlier shape has its own
-pub record AllStand (hashes : List Hash) (ours theirs : PolicyList) (sharing : Sharing) : Type 0 where
-  pub kinds : All (IsOfSomeShape hashes ours theirs) sharing.kinds
-  pub earlier : All (IsOfShape hashes ours theirs sharing.kinds) sharing.earlier
+abbrev pub AllStand : List PolicyFormulas → List PolicyFormulas → Sharing → Type 0
+AllStand first second sharing = All (IsOfShape first second sharing.kinds) sharing.earlier
 
--- one of them asked this of both lists, and has the place
-pub record IsPlaceOf (earlier : List Earlier) (ours theirs : Option (List Question)) (place : ℕ)
-    : Type 0 where
+-- one of them has these places in both lists, and this place
+pub record IsEarlier (earlier : List Earlier) (ours theirs : List (Option ℕ)) (place : ℕ) : Type 0 where
   pub one : Earlier
   pub listed : Contains earlier one
-  pub first : AskTheSame one.first ours
-  pub second : AskTheSame one.second theirs
+  pub first : one.first ≡ ours
+  pub second : one.second ≡ theirs
   pub there : one.place ≡ place

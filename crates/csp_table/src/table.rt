@@ -4,7 +4,7 @@ ghost use Rattle.csp_shape.specs.Shapes.{is_shape};
 ghost use Rattle.csp_shape.specs.declared.shape.Shape.{Shape as ShapeValue};
 ghost use Rattle.csp_table.specs.Tables.{AreAt, formulas_at};
 
-use crate::sharing::{Sharing, place_at};
+use crate::sharing::{Sharing, formulas_of_each, place_at};
 use csp_atom::Vocabulary;
 use csp_model::{List, Memory, PolicyList};
 use csp_placed::PlacedFormulas;
@@ -22,9 +22,9 @@ pub struct FormulaTable {
 }
 
 impl FormulaTable {
-    /// The formulas of all policies of both lists, where the vocabulary has their hash-sources. Beside the
-    /// different formulas there is memory for those of one shape at a time, and for a few words a policy and
-    /// shape. Where each policy is asked the same as at an earlier shape, none is compiled again.
+    /// The formulas of all policies of both lists, where the vocabulary has their hash-sources. Equal formulas
+    /// of a policy are compiled once. While the table is made, the different formulas of each policy stand
+    /// beside it, and a few words a policy and shape.
     pub fn new(
         alloc: Global,
         first: &PolicyList,
@@ -36,14 +36,16 @@ impl FormulaTable {
             (AreAt vocabulary.now.hashes first.now second.now kind)) }
     {
         each_number_is_one_shape();
+        let ours = formulas_of_each(alloc, first.policies.as_slice(), vocabulary)?;
+        let theirs = formulas_of_each(alloc, second.policies.as_slice(), vocabulary)?;
         let mut sharing = Sharing {
             kinds: List::new(alloc),
             earlier: List::new(alloc),
         };
         let mut places = List::new(alloc);
         let mut number = 0;
-        while let Some(shape) = shape_at(number) {
-            let place = place_at(alloc, first, second, shape, vocabulary, &mut sharing)?;
+        while shape_at(number).is_some() {
+            let place = place_at(alloc, &ours, &theirs, usize::from(number), &mut sharing)?;
             places.push(place)?;
             number += 1;
         }

@@ -1,0 +1,91 @@
+-- What a policy is asked at a shape: all that its sentence depends on there.
+use Rattle.std.specs.Prelude.{◌≡◌, ⊤, ℕ, is_some, Bool, true, false, ◌&&◌, if◌then◌else◌, List, [], Option, Some, None, slice_get}
+use Rattle.std.specs.List.{filter_map, list_any}
+use Rattle.csp_model.specs.DecideTokens.{has_keyword}
+use Rattle.csp_model.specs.declared.check.FetchRule.{FetchRule}
+use Rattle.csp_model.specs.declared.check.FetchRule.TheVariants as rule
+use Rattle.csp_model.specs.declared.policy.Directive.{Directive}
+use Rattle.csp_model.specs.declared.policy.Policy.{Policy}
+use Rattle.csp_model.specs.declared.source.Hash.{Hash}
+use Rattle.csp_model.specs.declared.source.Keyword.TheVariants as keyword
+use Rattle.csp_model.specs.declared.source.PathPart.TheVariants as path_part
+use Rattle.csp_model.specs.declared.source.Source.{Source}
+use Rattle.csp_model.specs.declared.source.Source.TheVariants as source
+use Rattle.csp_model.specs.declared.url.Origin.{Origin}
+use Rattle.csp_model.specs.declared.url.Scheme.{Scheme}
+use Rattle.csp_atom.specs.Vocabulary.{hash_of_source}
+use Rattle.csp_shape.specs.declared.shape.Shape.{Shape}
+use Rattle.csp_shape.specs.declared.shape.Shape.TheVariants as shape
+use Rattle.csp_formula.specs.Compiled.{fetch_sentence, inline_sentence, nonce_fact}
+use Rattle.csp_formula.specs.Sentences.{Sentence, Known}
+use Rattle.csp_formula.specs.Sources.{list_sentence}
+use Rattle.csp_formula.specs.declared.question.ListQuestion.{ListQuestion}
+use Rattle.csp_formula.specs.declared.question.Question.{Question}
+use Rattle.csp_formula.specs.declared.question.Question.TheVariants as asks
+
+-- a shape with such URLs
+abbrev pub urls_shape : Option Scheme → Bool → Bool → Shape
+urls_shape scheme redirected is_ancestor =
+    if is_ancestor then shape.Ancestor scheme else shape.Form scheme redirected
+
+abbrev pub shape_asked : ListQuestion → Shape
+shape_asked q = urls_shape q.scheme q.redirected q.is_ancestor
+
+-- what the list of a directive says; where there is none, all is allowed
+abbrev pub said_by_list : Option Directive → (List Source → Sentence) → Sentence
+said_by_list None says = Known true
+said_by_list (Some d) says = says d.sources
+
+-- what a list says to a question
+abbrev pub answer_of_list : Origin → List Hash → ListQuestion → List Source → Sentence
+answer_of_list self hashes q sources =
+    fetch_sentence q.rule hashes sources q.parser_inserted (list_sentence self (shape_asked q) sources)
+
+-- what the list at its place says to it
+abbrev pub list_answer : Policy → List Hash → ListQuestion → Sentence
+list_answer policy hashes q =
+    said_by_list (slice_get policy.directives q.place) (answer_of_list policy.origin hashes q)
+
+-- what the policy says to a question, where the vocabulary has these hashes
+abbrev pub question_sentence : Policy → List Hash → Question → Sentence
+question_sentence policy hashes (asks.Known b) = Known b
+question_sentence policy hashes (asks.Listed q) = list_answer policy hashes q
+question_sentence policy hashes (asks.Inline place which) =
+    said_by_list (slice_get policy.directives place) (inline_sentence which)
+
+-- 'strict-dynamic' stands in place of what the list says of URLs
+abbrev pub is_dynamic : FetchRule → List Source → Bool
+is_dynamic rule.Script sources = has_keyword keyword.StrictDynamic sources
+is_dynamic by sources = false
+
+-- the source has a path
+abbrev pub has_path : Source → Bool
+has_path (source.Hosted scheme host port path_part.Absent) = false
+has_path (source.Hosted scheme host port path) = true
+has_path other = false
+
+-- whether a redirect led there counts where a path of the list can be compared
+abbrev pub redirect_counts : Option Scheme → List Source → Bool
+redirect_counts scheme sources = is_some scheme && list_any has_path sources
+
+-- what a list is asked of fetches, but for what it doesn't look at
+abbrev pub list_question : ℕ → FetchRule → Option Scheme → Bool → Bool → List Source → ListQuestion
+list_question place by scheme redirected parser_inserted sources = record {
+  place = place;
+  rule = by;
+  scheme = scheme;
+  redirected = redirected && redirect_counts scheme sources;
+  is_ancestor = false;
+  parser_inserted = parser_inserted && is_dynamic by sources;
+}
+
+-- the lists have the same nonces and hashes in one order, as far as the rule looks at them
+abbrev pub HaveSameWords : FetchRule → List Source → List Source → Type 0
+HaveSameWords rule.Script one other = (filter_map nonce_fact one ≡ filter_map nonce_fact other)
+    × (filter_map hash_of_source one ≡ filter_map hash_of_source other)
+HaveSameWords rule.Style one other = filter_map nonce_fact one ≡ filter_map nonce_fact other
+HaveSameWords rule.List one other = ⊤
+
+-- the sources, or none where they don't count
+abbrev pub counted : Bool → List Source → List Source
+counted counts sources = if counts then sources else []

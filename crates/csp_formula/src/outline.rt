@@ -1,0 +1,224 @@
+//! What a source says of the checks of a shape, but for its texts. None of them is copied.
+ghost use Rattle.std.specs.Prelude.{◌≡◌, IsTrue};
+ghost use Rattle.csp_model.specs.declared.source.HostPart.{HostPart as HostPartValue};
+ghost use Rattle.csp_model.specs.declared.source.Source.{Source as SourceValue};
+ghost use Rattle.csp_model.specs.declared.source.Source.TheVariants.{Hosted as HostedSource, SchemeOnly};
+ghost use Rattle.csp_model.specs.declared.url.Origin.{Origin as OriginValue};
+ghost use Rattle.csp_formula.specs.Outlines as spec;
+ghost use Rattle.csp_formula.specs.Sources as sentences;
+
+use crate::schemes::{is_network_scheme, own_scheme_matches, scheme_matches, self_scheme_matches};
+use crate::shapes::{after_redirect, is_ancestor, shape_scheme};
+use csp_model::{Keyword, Origin, Path, PathPart, PortPart, Scheme, Source, Text};
+use csp_shape::Shape;
+
+// What a source says of a port.
+#[derive(Clone, Copy)]
+pub(crate) enum PortOutline {
+    Constant(bool),
+    // It is this one.
+    Is(u16),
+}
+
+// What a source says of a path.
+#[derive(Clone, Copy)]
+pub(crate) enum PathOutline {
+    Constant(bool),
+    // It is that of the source, or begins with it.
+    Itself,
+}
+
+// What a source says.
+#[derive(Clone, Copy)]
+pub(crate) enum Outline {
+    Constant(bool),
+    // The scheme is that of the source.
+    Scheme,
+    // The host is that of the source, and so much holds of the others.
+    Hosted {
+        port: PortOutline,
+        path: PathOutline,
+    },
+    // The host is that of the policy's origin.
+    Own {
+        port: PortOutline,
+    },
+}
+
+// The outline of a source of a policy of this origin.
+pub(crate) fn source_outline(origin: &Origin, shape: Shape, source: &Source) -> Outline
+    ensures { spec.outlined result origin.now source.now
+        ≡ sentences.source_sentence origin.now shape source.now }
+{
+    match source {
+        Source::Star => match shape_scheme(shape) {
+            Some(scheme) => Outline::Constant(is_network_scheme(scheme)),
+            None => Outline::Constant(false),
+        },
+        Source::SchemeOnly { scheme } => scheme_outline(scheme, shape_scheme(shape)),
+        Source::Hosted {
+            scheme,
+            port,
+            path,
+            ..
+        } => host_source_outline(scheme, *port, path, origin, shape),
+        Source::Word {
+            word: Keyword::SelfOrigin,
+        } => self_outline(origin, shape_scheme(shape)),
+        _ => Outline::Constant(false),
+    }
+}
+
+// The outline of a scheme-source.
+fn scheme_outline(part: &Text, scheme: Option<Scheme>) -> Outline
+    ensures { (self : OriginValue) → spec.outlined result self (SchemeOnly part.now)
+        ≡ sentences.scheme_sentence part.now scheme }
+{
+    match scheme {
+        Some(scheme) => Outline::Constant(scheme_matches(part.as_str(), scheme)),
+        None if Scheme::from_name(part.as_str()).is_some() => Outline::Constant(false),
+        None => Outline::Scheme,
+    }
+}
+
+// The outline of a host-source, whatever its host.
+fn host_source_outline(
+    scheme_part: &Option<Text>,
+    port: PortPart,
+    path: &PathPart,
+    origin: &Origin,
+    shape: Shape,
+) -> Outline
+    ensures { (host : HostPartValue) → spec.outlined result origin.now
+        (HostedSource scheme_part.now host port path.now)
+        ≡ sentences.host_source_sentence scheme_part.now host port path.now origin.now shape
+        (sentences.shape_scheme shape) }
+{
+    match shape_scheme(shape) {
+        Some(scheme) if own_scheme_matches(scheme_part, origin, scheme) => Outline::Hosted {
+            port: port_outline(port, scheme),
+            path: path_outline(path, shape),
+        },
+        _ => Outline::Constant(false),
+    }
+}
+
+// The outline of `'self'`.
+fn self_outline(origin: &Origin, scheme: Option<Scheme>) -> Outline
+    ensures { (source : SourceValue) → spec.outlined result origin.now source
+        ≡ sentences.self_sentence origin.now scheme }
+{
+    match (origin, scheme) {
+        (
+            Origin::Tuple {
+                scheme: own,
+                port,
+                ..
+            },
+            Some(scheme),
+        ) if self_scheme_matches(*own, scheme) => Outline::Own {
+            port: own_port_outline(*port, scheme),
+        },
+        _ => Outline::Constant(false),
+    }
+}
+
+// The outline of a port at a scheme.
+fn port_outline(part: PortPart, scheme: Scheme) -> PortOutline
+    ensures { spec.port_said result ≡ sentences.port_sentence part scheme }
+{
+    match part {
+        PortPart::Absent => PortOutline::Is(scheme.default_port()),
+        PortPart::Any => PortOutline::Constant(true),
+        PortPart::Number(number) => PortOutline::Is(number),
+        PortPart::TooLarge => PortOutline::Constant(false),
+    }
+}
+
+// The outline of an origin's port at a scheme.
+fn own_port_outline(port: Option<u16>, scheme: Scheme) -> PortOutline
+    ensures { spec.port_said result ≡ sentences.own_port_sentence port scheme }
+{
+    match port {
+        None => PortOutline::Is(scheme.default_port()),
+        Some(number) if number == scheme.default_port() => PortOutline::Constant(false),
+        Some(number) => PortOutline::Is(number),
+    }
+}
+
+// The outline of a path. After a redirect every path will do, and the path of an ancestor is `/`.
+fn path_outline(part: &PathPart, shape: Shape) -> PathOutline
+    ensures { spec.path_said result part.now ≡ sentences.path_sentence part.now shape }
+{
+    match part {
+        PathPart::Absent => PathOutline::Constant(true),
+        PathPart::Exact(_) if after_redirect(shape) => PathOutline::Constant(true),
+        PathPart::Exact(pieces) => piece_outline(pieces, shape),
+        PathPart::Prefix(pieces) if after_redirect(shape) || pieces.as_slice().is_empty() => {
+            PathOutline::Constant(true)
+        }
+        PathPart::Prefix(pieces) => piece_outline(pieces, shape),
+    }
+}
+
+// The outline of pieces that are looked at. Those of an ancestor, and those that no URL has, are never there.
+fn piece_outline(pieces: &Path, shape: Shape) -> PathOutline
+    ensures { result ≡ spec.pieces_outline (sentences.has_dots pieces.now) (sentences.is_ancestor shape) }
+{
+    if has_dots(pieces) || is_ancestor(shape) {
+        PathOutline::Constant(false)
+    } else {
+        PathOutline::Itself
+    }
+}
+
+// Whether `.` or `..` is a piece, as in no URL.
+fn has_dots(pieces: &Path) -> bool
+    ensures { result ≡ sentences.has_dots pieces.now }
+{
+    pieces
+        .as_slice()
+        .iter()
+        .any(|piece| is_dots(piece.as_slice()))
+}
+
+fn is_dots(piece: &[u8]) -> bool
+    ensures { result ≡ sentences.is_dots piece.now }
+{
+    matches!(piece, b"." | b"..")
+}
+
+// Whether two outlines are one.
+pub(crate) fn same_outline(one: Outline, other: Outline) -> bool
+    ensures { IsTrue result → one ≡ other }
+{
+    match (one, other) {
+        (Outline::Constant(one), Outline::Constant(other)) => one == other,
+        (Outline::Scheme, Outline::Scheme) => true,
+        (Outline::Hosted { port, path }, Outline::Hosted { port: at, path: by }) => {
+            same_port(port, at) && same_path(path, by)
+        }
+        (Outline::Own { port }, Outline::Own { port: at }) => same_port(port, at),
+        _ => false,
+    }
+}
+
+fn same_port(one: PortOutline, other: PortOutline) -> bool
+    ensures { IsTrue result → one ≡ other }
+{
+    match (one, other) {
+        (PortOutline::Constant(one), PortOutline::Constant(other)) => one == other,
+        (PortOutline::Is(one), PortOutline::Is(other)) => one == other,
+        _ => false,
+    }
+}
+
+fn same_path(one: PathOutline, other: PathOutline) -> bool
+    ensures { IsTrue result → one ≡ other }
+{
+    match (one, other) {
+        (PathOutline::Constant(one), PathOutline::Constant(other)) => one == other,
+        (PathOutline::Itself, PathOutline::Itself) => true,
+        _ => false,
+    }
+}

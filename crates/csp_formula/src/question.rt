@@ -1,0 +1,220 @@
+//! What a policy is asked at a shape: all that its formula depends on there. No text of a source is read.
+ghost use Rattle.std.specs.Prelude.{◌≡◌, List as Items, false, option_copied, slice_get};
+ghost use Rattle.std.specs.List.{list_any};
+ghost use Rattle.std.specs.Option.{option_map};
+ghost use Rattle.csp_model.specs.declared.policy.Directive.{Directive as DirectiveValue};
+ghost use Rattle.csp_model.specs.declared.source.Hash.{Hash as HashValue};
+ghost use Rattle.csp_formula.specs.Compiled as compiled;
+ghost use Rattle.csp_formula.specs.Questions as spec;
+
+use csp_inline::{eval_allows, wasm_allows};
+use csp_match::{governing, governor};
+use csp_model::laws::what_governs_stands_at_its_place;
+use csp_model::{
+    FetchRule, Group, InlineKind, Keyword, List, Name, PathPart, Policy, Scheme, Source,
+};
+use csp_nav::{capability_allows, opaque_ancestor_allows, worker_start_allows};
+use csp_shape::Shape;
+use csp_token::has_keyword;
+
+/// What a policy is asked at a shape of checks: all that its formula there depends on. Shapes at which a
+/// policy is asked the same have one formula.
+#[derive(Clone, Copy, Debug, PartialEq, Eq)]
+pub enum Question {
+    /// No list is asked: all such checks are allowed, or none is.
+    Known(bool),
+    /// What a list says of checks of URLs.
+    Listed(ListQuestion),
+    /// What the list of the directive at this place, counted from 0, says of inline code or style of a kind.
+    Inline { place: usize, kind: InlineKind },
+}
+
+/// What a list is asked of checks of URLs.
+#[derive(Clone, Copy, Debug, PartialEq, Eq)]
+pub struct ListQuestion {
+    /// The place of the list's directive in the policy, counted from 0.
+    pub place: usize,
+    /// How it decides.
+    pub rule: FetchRule,
+    /// The scheme of the URLs. None stands for every scheme but the five of `Scheme`.
+    pub scheme: Option<Scheme>,
+    /// Whether a redirect led to them.
+    pub redirected: bool,
+    /// Whether they are those of ancestors.
+    pub is_ancestor: bool,
+    /// Whether the parser inserted what fetches them, which counts for scripts alone.
+    pub parser_inserted: bool,
+}
+
+impl ListQuestion {
+    // A shape with these URLs.
+    pub(crate) fn shape(&self) -> Shape
+        ensures { result ≡ spec.shape_asked self.now }
+    {
+        if self.is_ancestor {
+            Shape::Ancestor {
+                scheme: self.scheme,
+            }
+        } else {
+            Shape::Form {
+                scheme: self.scheme,
+                redirected: self.redirected,
+            }
+        }
+    }
+}
+
+/// What a policy is asked at the shape. Its answer is the sentence that the policy has there.
+pub fn question_at(policy: &Policy, shape: Shape) -> Question
+    ensures { (hashes : Items HashValue) → spec.question_sentence policy.now hashes result
+        ≡ compiled.policy_sentence policy.now shape hashes }
+{
+    match shape {
+        Shape::Fetch {
+            group,
+            scheme,
+            redirected,
+            parser_inserted,
+        } => fetch_question(policy, group, scheme, redirected, parser_inserted),
+        Shape::Form { scheme, redirected } => {
+            listed_question(policy, Name::FormAction, scheme, redirected, false)
+        }
+        Shape::Base { scheme } => listed_question(policy, Name::BaseUri, scheme, false, false),
+        Shape::Ancestor { scheme } => {
+            listed_question(policy, Name::FrameAncestors, scheme, false, true)
+        }
+        Shape::OpaqueAncestor => Question::Known(opaque_ancestor_allows(policy)),
+        Shape::Inline { kind } => inline_question(policy, kind),
+        Shape::Eval => Question::Known(eval_allows(policy)),
+        Shape::Wasm => Question::Known(wasm_allows(policy)),
+        Shape::Capability { capability } => {
+            Question::Known(capability_allows(policy, capability))
+        }
+        Shape::WorkerStart => Question::Known(worker_start_allows(policy)),
+    }
+}
+
+// What the policy is asked of the URLs that a list decides on alone.
+fn listed_question(
+    policy: &Policy,
+    effective: Name,
+    scheme: Option<Scheme>,
+    redirected: bool,
+    is_ancestor: bool,
+) -> Question
+    ensures { (hashes : Items HashValue) → spec.question_sentence policy.now hashes result
+        ≡ compiled.listed_sentence policy.now effective (spec.urls_shape scheme redirected is_ancestor) }
+{
+    what_governs_stands_at_its_place();
+    match governing(policy, effective) {
+        None => Question::Known(true),
+        Some(place) => Question::Listed(ListQuestion {
+            place,
+            rule: FetchRule::List,
+            scheme,
+            redirected,
+            is_ancestor,
+            parser_inserted: false,
+        }),
+    }
+}
+
+// What the policy is asked of fetches of a group.
+fn fetch_question(
+    policy: &Policy,
+    group: Group,
+    scheme: Option<Scheme>,
+    redirected: bool,
+    parser_inserted: bool,
+) -> Question
+    ensures { (hashes : Items HashValue) → spec.question_sentence policy.now hashes result
+        ≡ compiled.group_sentence policy.now group (spec.urls_shape scheme redirected false)
+        parser_inserted hashes }
+{
+    what_governs_stands_at_its_place();
+    let effective = group.directive();
+    match (governing(policy, effective), governor(policy, effective)) {
+        (Some(place), Some(found)) => Question::Listed(list_question(
+            place,
+            group.rule(found.name),
+            scheme,
+            redirected,
+            parser_inserted,
+            &found.directive.sources,
+        )),
+        _ => Question::Known(true),
+    }
+}
+
+// What a list is asked of fetches. A redirect is left out where no path is compared, and what inserted the
+// element where `'strict-dynamic'` doesn't look at it, so that most equal questions look alike.
+fn list_question(
+    place: usize,
+    rule: FetchRule,
+    scheme: Option<Scheme>,
+    redirected: bool,
+    parser_inserted: bool,
+    sources: &List<Source>,
+) -> ListQuestion
+    ensures { result ≡ spec.list_question place rule scheme redirected parser_inserted sources.now }
+{
+    ListQuestion {
+        place,
+        rule,
+        scheme,
+        redirected: redirected && redirect_counts(scheme, sources),
+        is_ancestor: false,
+        parser_inserted: parser_inserted && is_dynamic(rule, sources),
+    }
+}
+
+// Whether it counts that a redirect led to URLs of the scheme: a path can be compared.
+fn redirect_counts(scheme: Option<Scheme>, sources: &List<Source>) -> bool
+    ensures { result ≡ spec.redirect_counts scheme sources.now }
+{
+    scheme.is_some() && has_paths(sources)
+}
+
+// Whether one of the sources has a path.
+fn has_paths(sources: &List<Source>) -> bool
+    ensures { result ≡ list_any spec.has_path sources.now }
+{
+    sources.as_slice().iter().any(has_path)
+}
+
+fn has_path(source: &Source) -> bool
+    ensures { result ≡ spec.has_path source.now }
+{
+    match source {
+        Source::Hosted { path, .. } => !matches!(path, PathPart::Absent),
+        _ => false,
+    }
+}
+
+// Whether `'strict-dynamic'` stands in place of what the list says of URLs.
+pub(crate) fn is_dynamic(rule: FetchRule, sources: &List<Source>) -> bool
+    ensures { result ≡ spec.is_dynamic rule sources.now }
+{
+    matches!(rule, FetchRule::Script) && has_keyword(sources, Keyword::StrictDynamic)
+}
+
+// What the policy is asked of inline code or style of a kind.
+fn inline_question(policy: &Policy, kind: InlineKind) -> Question
+    ensures { (hashes : Items HashValue) → spec.question_sentence policy.now hashes result
+        ≡ compiled.kind_sentence policy.now kind }
+{
+    what_governs_stands_at_its_place();
+    match governing(policy, kind.directive()) {
+        None => Question::Known(true),
+        Some(place) => Question::Inline { place, kind },
+    }
+}
+
+// The list of the directive at the place.
+pub(crate) fn sources_at(policy: &Policy, place: usize) -> Option<&List<Source>>
+    ensures { option_copied result
+        ≡ option_map (λ (d : DirectiveValue). d.sources) (slice_get policy.now.directives place) }
+{
+    let directive = policy.directives.as_slice().get(place)?;
+    Some(&directive.sources)
+}
