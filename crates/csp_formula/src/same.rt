@@ -18,7 +18,10 @@ use csp_shape::Shape;
 
 /// Whether the policy's formulas of the two questions are found to be equal, with neither of them built: lists
 /// are gone through side by side, and texts are compared only where they stand in both formulas, and not at
-/// all where one list is asked twice. It is false of equal formulas only where these have no atom.
+/// all where one list is asked twice.
+///
+/// Of equal formulas these aren't found: some that have no atom; those of two lists that spell a digest in two
+/// ways; and those of an empty list and of another with `'strict-dynamic'` that say the same of scripts.
 pub fn same_formulas(policy: &Policy, one: Question, other: Question) -> bool
     ensures { IsTrue result → (hashes : Items HashValue)
         → spec.question_sentence policy.now hashes one ≡ spec.question_sentence policy.now hashes other }

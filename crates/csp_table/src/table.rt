@@ -22,9 +22,9 @@ pub struct FormulaTable {
 }
 
 impl FormulaTable {
-    /// The formulas of all policies of both lists, where the vocabulary has their hash-sources. Equal formulas
-    /// of a policy are compiled once. While the table is made, the different formulas of each policy stand
-    /// beside it, and a few words a policy and shape.
+    /// The formulas of all policies of both lists, where the vocabulary has their hash-sources. A policy's
+    /// formulas that `same_formulas` finds to be equal are compiled once. While the table is made, the
+    /// different formulas of each policy stand beside it, and a few words a policy and shape.
     pub fn new(
         alloc: Global,
         first: &PolicyList,
