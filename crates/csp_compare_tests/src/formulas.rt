@@ -279,7 +279,7 @@ const ALIKE: &str = "Content-Security-Policy: \
     script-src-elem 'nonce-a' 'strict-dynamic' a.example; script-src 'strict-dynamic' 'nonce-a'; \
     style-src-elem 'nonce-a' 'sha256-47DEQpj8HBSa+/TImW+5JCeuQeRkm5NMpJWZG3hSuFU='; \
     style-src-attr 'sha256-47DEQpj8HBSa+/TImW+5JCeuQeRkm5NMpJWZG3hSuFU=' 'nonce-b' 'unsafe-hashes'; \
-    script-src-attr 'unsafe-hashes' 'sha256-47DEQpj8HBSa+/TImW+5JCeuQeRkm5NMpJWZG3hSuFU='";
+    script-src-attr 'unsafe-hashes' 'sha256-47DEQpj8HBSa-_TImW-5JCeuQeRkm5NMpJWZG3hSuFU='";
 
 // The policy's formula of each shape, as text.
 fn formula_texts(

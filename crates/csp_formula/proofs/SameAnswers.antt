@@ -1,8 +1,7 @@
 -- Lists with the same nonces and hashes answer alike, where they say the same of URLs.
-use Rattle.std.proofs.Common.{◌≡◌, ◌∙◌, sym, ap, ap₂, refl, Bool, true, false, List, [], ◌∷◌, ◌++◌, Option, map, filter, cond}
+use Rattle.std.proofs.Common.{◌≡◌, ◌∙◌, sym, ap, ap₂, refl, Bool, true, false, List, [], ◌∷◌, ◌++◌, map, filter, cond}
 use Rattle.std.specs.Prelude.{IsTrue, not, if◌then◌else◌}
 use Rattle.std.specs.List.{filter_map, list_any}
-use Rattle.std.specs.Option.{option_map}
 use Rattle.std.proofs.lemmas.Bool.{false≢true}
 use mathlib.Core.Bool.{beq}
 use Rattle.csp_model.specs.DecideInline.{allows_all_inline, hash_counts}
@@ -14,13 +13,12 @@ use Rattle.csp_model.specs.declared.check.InlineKind.{InlineKind}
 use Rattle.csp_model.specs.declared.source.Hash.{Hash}
 use Rattle.csp_model.specs.declared.source.Keyword.TheVariants as keyword
 use Rattle.csp_model.specs.declared.source.Source.{Source}
-use Rattle.csp_model.specs.declared.source.Source.TheVariants as source
 use Rattle.csp_model.specs.declared.url.Origin.{Origin}
 use Rattle.csp_atom.specs.Holding.{has_hash}
 use Rattle.csp_atom.specs.Vocabulary.{hash_of_source}
-use Rattle.csp_atom.specs.declared.atom.Atom.TheVariants.{IntegrityOutside, DigestIs}
+use Rattle.csp_atom.specs.declared.atom.Atom.TheVariants.{IntegrityOutside}
 use Rattle.csp_shape.specs.declared.shape.Shape.{Shape}
-use Rattle.csp_formula.specs.Compiled.{nonce_fact, nonces_sentence, has_pair, other_hashes, integrity_sentence, digest_of, digest_fact, digests_sentence, dynamic_sentence, fetch_sentence, only_where, inline_sentence}
+use Rattle.csp_formula.specs.Compiled.{nonce_fact, nonces_sentence, has_pair, other_hashes, integrity_sentence, digest_fact, digests_sentence, dynamic_sentence, fetch_sentence, only_where, inline_sentence}
 use Rattle.csp_formula.specs.Questions.{HaveSameWords, is_dynamic, counted, answer_of_list, shape_asked}
 use Rattle.csp_formula.specs.Sentences.{Sentence, Known, Fact, Not, all_of, any_of}
 use Rattle.csp_formula.specs.Sources.{list_sentence}
@@ -47,19 +45,6 @@ module _ (xs ys : List Source) (same : hashes_in xs ≡ hashes_in ys) where
   integrity_alike hashes =
       ap₂ (λ (others own : List Hash). all_of (Not (Fact IntegrityOutside) ∷ (map (λ h. Not (has_pair h)) others ++ any_of (map has_pair own) ∷ [])))
       (others_alike hashes) same
-
--- Digests
-
-abbrev digest_said : Hash → Option Sentence
-digest_said h = option_map (λ d. Fact (DigestIs d)) (digest_of h)
-
-digests_from : (xs : List Source) → filter_map digest_fact xs ≡ filter_map digest_said (hashes_in xs)
-digests_from [] = refl
-digests_from (source.Digest h ∷ xs) = rw (digests_from xs) refl
-digests_from (other ∷ xs) = digests_from xs
-
-pub digests_alike : (xs ys : List Source) → hashes_in xs ≡ hashes_in ys → digests_sentence xs ≡ digests_sentence ys
-digests_alike xs ys same = ap any_of (digests_from xs ∙ ap (filter_map digest_said) same ∙ sym (digests_from ys))
 
 -- Lists by one rule
 
@@ -118,16 +103,15 @@ nonces_counted : (counts : Bool) (xs : List Source) → any_of (filter_map nonce
 nonces_counted true xs = refl
 nonces_counted false xs = refl
 
-digests_counted : (counts : Bool) (xs : List Source) → digests_sentence (counted counts xs) ≡ only_where counts (digests_sentence xs)
+digests_counted : (counts : Bool) (xs : List Source) → any_of (filter_map digest_fact (counted counts xs)) ≡ only_where counts (digests_sentence xs)
 digests_counted true xs = refl
 digests_counted false xs = refl
 
 pub inline_alike : (which other : InlineKind) (xs ys : List Source) → allows_all_inline which xs ≡ false → allows_all_inline other ys ≡ false
     → filter_map nonce_fact (counted (is_element_kind which) xs) ≡ filter_map nonce_fact (counted (is_element_kind other) ys)
-    → hashes_in (counted (hash_counts which xs) xs) ≡ hashes_in (counted (hash_counts other ys) ys)
+    → filter_map digest_fact (counted (hash_counts which xs) xs) ≡ filter_map digest_fact (counted (hash_counts other ys) ys)
     → inline_sentence which xs ≡ inline_sentence other ys
-inline_alike which other xs ys e f nonces hashes =
+inline_alike which other xs ys e f nonces digests =
     let one = sym (nonces_counted (is_element_kind which) xs) ∙ ap any_of nonces ∙ nonces_counted (is_element_kind other) ys in
-    let two = sym (digests_counted (hash_counts which xs) xs) ∙ digests_alike (counted (hash_counts which xs) xs) (counted (hash_counts other ys) ys) hashes
-    ∙ digests_counted (hash_counts other ys) ys in
+    let two = sym (digests_counted (hash_counts which xs) xs) ∙ ap any_of digests ∙ digests_counted (hash_counts other ys) ys in
     rw (e, f) (ap₂ (λ (a b : Sentence). any_of (a ∷ b ∷ [])) one two)

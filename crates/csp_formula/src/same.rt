@@ -11,7 +11,7 @@ ghost use Rattle.csp_formula.specs.Sources as sentences;
 use crate::inline::{allows_all_inline, hash_counts, is_element_kind};
 use crate::outline::{Outline, PathOutline, same_outline, source_outline};
 use crate::question::{ListQuestion, Question, is_dynamic, sources_at};
-use crate::tokens::{same_hashes, same_nonces};
+use crate::tokens::{same_digests, same_hashes, same_nonces};
 use csp_grammar::{is_domain, is_four_numbers};
 use csp_model::{FetchRule, HostPart, InlineKind, List, Origin, PathPart, Policy, Source};
 use csp_shape::Shape;
@@ -20,8 +20,7 @@ use csp_shape::Shape;
 /// are gone through side by side, and texts are compared only where they stand in both formulas, and not at
 /// all where one list is asked twice.
 ///
-/// Of equal formulas these aren't found: some that have no atom; those of two lists that spell a digest in two
-/// ways; and those of an empty list and of another with `'strict-dynamic'` that say the same of scripts.
+/// It is false of equal formulas only where these have no atom.
 pub fn same_formulas(policy: &Policy, one: Question, other: Question) -> bool
     ensures { IsTrue result → (hashes : Items HashValue)
         → spec.question_sentence policy.now hashes one ≡ spec.question_sentence policy.now hashes other }
@@ -266,7 +265,7 @@ fn same_inline(
             let theirs = counted(is_element_kind(other_kind), other.as_slice());
             let our_hashes = counted(hash_counts(kind, one), one.as_slice());
             let their_hashes = counted(hash_counts(other_kind, other), other.as_slice());
-            same_nonces(ours, theirs) && same_hashes(our_hashes, their_hashes)
+            same_nonces(ours, theirs) && same_digests(our_hashes, their_hashes)
         }
         _ => false,
     }

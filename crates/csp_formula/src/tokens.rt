@@ -160,6 +160,48 @@ pub(crate) fn digests_formula(alloc: Global, sources: &[Source]) -> Result<Formu
     Ok(Formula::OneOf(parts))
 }
 
+// Whether two lists stand for the same digests in one order.
+pub(crate) fn same_digests(one: &[Source], other: &[Source]) -> bool
+    ensures { IsTrue result
+        → filter_map spec.digest_fact one.now ≡ filter_map spec.digest_fact other.now }
+{
+    let mut left = other;
+    for source in one {
+        if let Some(digest) = source_digest(source) {
+            match next_digest(left) {
+                Some((found, later)) if is_same_digest(found, digest) => left = later,
+                _ => return false,
+            }
+        }
+    }
+    next_digest(left).is_none()
+}
+
+fn is_same_digest(one: Digest, other: Digest) -> bool
+    ensures { IsTrue result → one ≡ other }
+{
+    match (one, other) {
+        (Digest::Sha256(one), Digest::Sha256(other)) => one == other,
+        (Digest::Sha384(one), Digest::Sha384(other)) => one == other,
+        (Digest::Sha512(one), Digest::Sha512(other)) => one == other,
+        _ => false,
+    }
+}
+
+// The first digest, and the sources after it.
+fn next_digest(sources: &[Source]) -> Option<(Digest, &[Source])>
+    ensures { MatchOption result (filter_map spec.digest_fact sources.now ≡ [])
+        (λ found. filter_map spec.digest_fact sources.now
+        ≡ Fact (Atom.DigestIs found.0) ∷ filter_map spec.digest_fact found.1.now) }
+{
+    for (number, source) in sources.iter().enumerate() {
+        if let Some(digest) = source_digest(source) {
+            return Some((digest, &sources[number + 1..]));
+        }
+    }
+    None
+}
+
 // The digest that a source stands for.
 fn source_digest(source: &Source) -> Option<Digest>
     ensures { option_map (λ d. Fact (Atom.DigestIs d)) result ≡ spec.digest_fact source.now }
