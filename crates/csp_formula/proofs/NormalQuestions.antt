@@ -1,4 +1,4 @@
--- What a question leaves out changes no answer: redirects where no path is compared, and what inserted a script.
+-- What a question leaves out changes no answer: redirects where no path is compared, what inserted a script, and an empty list.
 use Rattle.std.proofs.Common.{◌≡◌, ◌∙◌, sym, ap, ap₂, ℕ, refl, Bool, true, false, ◌&&◌, List, [], ◌∷◌, Option, Some, None}
 use Rattle.std.specs.Prelude.{is_some, slice_get, not, if◌then◌else◌}
 use Rattle.std.specs.List.{list_any}
@@ -21,10 +21,11 @@ use Rattle.csp_model.specs.declared.url.Origin.{Origin}
 use Rattle.csp_model.specs.declared.url.Scheme.{Scheme}
 use Rattle.csp_shape.specs.declared.shape.Shape.TheVariants as shape
 use Rattle.csp_formula.specs.Compiled.{nonces_sentence, integrity_sentence, fetch_sentence, group_sentence, said_by}
-use Rattle.csp_formula.specs.Questions.{has_path, is_dynamic, list_question, answer_of_list, list_answer, said_by_list}
+use Rattle.csp_formula.specs.Questions.{has_path, is_dynamic, list_question, answer_of_list, list_answer, matches_nothing, of_list, question_sentence, said_by_list, shape_asked}
 use Rattle.csp_formula.specs.Sentences.{Sentence, Known, Either, any_of}
 use Rattle.csp_formula.specs.Sources.{list_sentence, source_sentence}
 use Rattle.csp_formula.specs.declared.question.ListQuestion.{ListQuestion}
+use Rattle.csp_formula.specs.declared.question.Question.TheVariants as asks
 
 -- Redirects
 
@@ -107,3 +108,20 @@ governed_answer policy group hashes scheme redirected parser place g q is stands
     ∙ same_answer policy.origin by hashes scheme redirected parser place g.directive.sources
     ∙ sym (ap (λ (o : Option Governor). said_by o (λ f. fetch_sentence (fetch_rule group f.name) hashes f.directive.sources parser
     (list_sentence policy.origin (shape.Form scheme redirected) f.directive.sources))) governs)
+
+-- Empty lists
+
+known_answer : (policy : Policy) (hashes : List Hash) (q : ListQuestion) (by : FetchRule) (sources : List Source) → q.rule ≡ by
+    → list_answer policy hashes q ≡ answer_of_list policy.origin hashes q sources
+    → question_sentence policy hashes (if matches_nothing by sources then asks.Known false else asks.Listed q) ≡ list_answer policy hashes q
+known_answer policy hashes q rule.List [] e says =
+    sym (says ∙ ap (λ (r : FetchRule). fetch_sentence r hashes [] q.parser_inserted (list_sentence policy.origin (shape_asked q) [])) e)
+known_answer policy hashes q rule.List (s ∷ sources) e says = refl
+known_answer policy hashes q rule.Style sources e says = refl
+known_answer policy hashes q rule.Script sources e says = refl
+
+-- what is asked of the list at its place is answered as by the list
+pub normal_answer : (policy : Policy) (hashes : List Hash) (q : ListQuestion) (d : Directive) → slice_get policy.directives q.place ≡ Some d
+    → question_sentence policy hashes (of_list q d.sources) ≡ list_answer policy hashes q
+normal_answer policy hashes q d stands =
+    known_answer policy hashes q q.rule d.sources refl (ap (λ (o : Option Directive). said_by_list o (answer_of_list policy.origin hashes q)) stands)

@@ -55,16 +55,46 @@ dynamic_alike xs ys p q s t false false e parser says = says refl
 dynamic_alike xs ys p q s t true false e parser says = absurd (false≢true (sym e))
 dynamic_alike xs ys p q s t false true e parser says = absurd (false≢true e)
 
+-- scripts, with the same last part
+script_alike : (hashes : List Hash) (xs ys : List Source) (one other : Sentence) → HaveSameWords rule.Script xs ys → one ≡ other
+    → any_of (nonces_sentence xs ∷ integrity_sentence hashes xs ∷ one ∷ []) ≡ any_of (nonces_sentence ys ∷ integrity_sentence hashes ys ∷ other ∷ [])
+script_alike hashes xs ys one other words last =
+    ap (λ (nonces : List Sentence). any_of (any_of nonces ∷ integrity_sentence hashes xs ∷ one ∷ [])) words.0
+    ∙ ap₂ (λ (integrity dynamic : Sentence). any_of (nonces_sentence ys ∷ integrity ∷ dynamic ∷ [])) (integrity_alike xs ys words.1 hashes) last
+
 pub fetch_alike : (by : FetchRule) (hashes : List Hash) (xs ys : List Source) (p q : Bool) (s t : Sentence) → HaveSameWords by xs ys
     → is_dynamic by xs ≡ is_dynamic by ys → (is_dynamic by xs ≡ true → p ≡ q) → (is_dynamic by xs ≡ false → s ≡ t)
     → fetch_sentence by hashes xs p s ≡ fetch_sentence by hashes ys q t
 fetch_alike rule.Script hashes xs ys p q s t words same parser says =
-    let last = dynamic_alike xs ys p q s t (has_keyword keyword.StrictDynamic xs) (has_keyword keyword.StrictDynamic ys) same parser says in
-    ap (λ (nonces : List Sentence). any_of (any_of nonces ∷ integrity_sentence hashes xs ∷ dynamic_sentence xs p s ∷ [])) words.0
-    ∙ ap₂ (λ (integrity dynamic : Sentence). any_of (nonces_sentence ys ∷ integrity ∷ dynamic ∷ [])) (integrity_alike xs ys words.1 hashes) last
+    script_alike hashes xs ys (dynamic_sentence xs p s) (dynamic_sentence ys q t) words
+    (dynamic_alike xs ys p q s t (has_keyword keyword.StrictDynamic xs) (has_keyword keyword.StrictDynamic ys) same parser says)
 fetch_alike rule.Style hashes xs ys p q s t words same parser says =
     ap₂ (λ (nonces : List Sentence) (listed : Sentence). any_of (any_of nonces ∷ listed ∷ [])) words (says refl)
 fetch_alike rule.List hashes xs ys p q s t words same parser says = says refl
+
+-- 'strict-dynamic' allows nothing that the parser inserted, and an empty list matches nothing
+emptied : (by : FetchRule) (hashes : List Hash) (xs ys : List Source) (p q : Bool) (s t : Sentence) → HaveSameWords by xs ys
+    → is_dynamic by xs ≡ true → is_dynamic by ys ≡ false → p ≡ true → t ≡ Known false
+    → fetch_sentence by hashes xs p s ≡ fetch_sentence by hashes ys q t
+emptied rule.Script hashes xs ys p q s t words dynamic plain parser says =
+    script_alike hashes xs ys (dynamic_sentence xs p s) (dynamic_sentence ys q t) words (rw (dynamic, plain, parser) (sym says))
+emptied rule.Style hashes xs ys p q s t words dynamic plain parser says = absurd (false≢true dynamic)
+emptied rule.List hashes xs ys p q s t words dynamic plain parser says = absurd (false≢true dynamic)
+
+pub empty_alike : (self : Origin) (hashes : List Hash) (by : FetchRule) (one other : ListQuestion) (xs ys : List Source) → one.rule ≡ by → other.rule ≡ by
+    → HaveSameWords by xs ys → is_dynamic by xs ≡ true → is_dynamic by ys ≡ false → one.parser_inserted ≡ true → ys ≡ []
+    → answer_of_list self hashes one xs ≡ answer_of_list self hashes other ys
+empty_alike self hashes by one other xs ys e f words dynamic plain parser empty =
+    let says = ap (list_sentence self (shape_asked other)) empty in
+    ap (λ (r : FetchRule). fetch_sentence r hashes xs one.parser_inserted (list_sentence self (shape_asked one) xs)) e
+    ∙ emptied by hashes xs ys one.parser_inserted other.parser_inserted (list_sentence self (shape_asked one) xs)
+    (list_sentence self (shape_asked other) ys) words dynamic plain parser says
+    ∙ sym (ap (λ (r : FetchRule). fetch_sentence r hashes ys other.parser_inserted (list_sentence self (shape_asked other) ys)) f)
+
+pub words_turned : (by : FetchRule) (xs ys : List Source) → HaveSameWords by xs ys → HaveSameWords by ys xs
+words_turned rule.Script xs ys words = (sym words.0, sym words.1)
+words_turned rule.Style xs ys words = sym words
+words_turned rule.List xs ys words = tt
 
 words_alike : (by : FetchRule) (xs : List Source) → HaveSameWords by xs xs
 words_alike rule.Script xs = (refl, refl)

@@ -1,5 +1,5 @@
 -- What a policy is asked at a shape: all that its sentence depends on there.
-use Rattle.std.specs.Prelude.{◌≡◌, ⊤, ℕ, is_some, Bool, true, false, ◌&&◌, if◌then◌else◌, List, [], Option, Some, None, slice_get}
+use Rattle.std.specs.Prelude.{◌≡◌, ⊤, ℕ, is_some, Bool, true, false, ◌&&◌, if◌then◌else◌, List, [], ◌∷◌, Option, Some, None, slice_get}
 use Rattle.std.specs.List.{filter_map, list_any}
 use Rattle.csp_model.specs.DecideTokens.{has_keyword}
 use Rattle.csp_model.specs.declared.check.FetchRule.{FetchRule}
@@ -17,7 +17,7 @@ use Rattle.csp_atom.specs.Vocabulary.{hash_of_source}
 use Rattle.csp_shape.specs.declared.shape.Shape.{Shape}
 use Rattle.csp_shape.specs.declared.shape.Shape.TheVariants as shape
 use Rattle.csp_formula.specs.Compiled.{fetch_sentence, inline_sentence, nonce_fact}
-use Rattle.csp_formula.specs.Sentences.{Sentence, Known}
+use Rattle.csp_formula.specs.Sentences.{Sentence, Known, any_of}
 use Rattle.csp_formula.specs.Sources.{list_sentence}
 use Rattle.csp_formula.specs.declared.question.ListQuestion.{ListQuestion}
 use Rattle.csp_formula.specs.declared.question.Question.{Question}
@@ -78,6 +78,20 @@ list_question place by scheme redirected parser_inserted sources = record {
   is_ancestor = false;
   parser_inserted = parser_inserted && is_dynamic by sources;
 }
+
+-- an empty list that decides alone matches nothing
+abbrev pub matches_nothing : FetchRule → List Source → Bool
+matches_nothing rule.List [] = true
+matches_nothing by sources = false
+
+-- what is asked of a list
+abbrev pub of_list : ListQuestion → List Source → Question
+of_list q sources = if matches_nothing q.rule sources then asks.Known false else asks.Listed q
+
+-- one of two parts holds, of which neither ever does: so says a list of two sources that match nothing, an
+-- empty list of styles, and one by which no nonce and no hash counts for inline code
+abbrev pub never_twice : Sentence
+never_twice = any_of (Known false ∷ Known false ∷ [])
 
 -- the lists have the same nonces and hashes in one order, as far as the rule looks at them
 abbrev pub HaveSameWords : FetchRule → List Source → List Source → Type 0

@@ -7,6 +7,7 @@ ghost use Rattle.csp_model.specs.declared.source.Hash.{Hash as HashValue};
 ghost use Rattle.csp_formula.specs.Compiled as compiled;
 ghost use Rattle.csp_formula.specs.Questions as spec;
 
+use crate::inline::allows_all_inline;
 use csp_inline::{eval_allows, wasm_allows};
 use csp_match::{governing, governor};
 use csp_model::laws::what_governs_stands_at_its_place;
@@ -106,16 +107,30 @@ fn listed_question(
         ≡ compiled.listed_sentence policy.now effective (spec.urls_shape scheme redirected is_ancestor) }
 {
     what_governs_stands_at_its_place();
-    match governing(policy, effective) {
-        None => Question::Known(true),
-        Some(place) => Question::Listed(ListQuestion {
-            place,
-            rule: FetchRule::List,
-            scheme,
-            redirected,
-            is_ancestor,
-            parser_inserted: false,
-        }),
+    match (governing(policy, effective), governor(policy, effective)) {
+        (Some(place), Some(found)) => {
+            let asked = ListQuestion {
+                place,
+                rule: FetchRule::List,
+                scheme,
+                redirected,
+                is_ancestor,
+                parser_inserted: false,
+            };
+            of_list(asked, &found.directive.sources)
+        }
+        _ => Question::Known(true),
+    }
+}
+
+// What is asked of a list. One that is empty matches nothing, and that is known where it decides alone.
+fn of_list(asked: ListQuestion, sources: &List<Source>) -> Question
+    ensures { result ≡ spec.of_list asked sources.now }
+{
+    if matches!(asked.rule, FetchRule::List) && sources.is_empty() {
+        Question::Known(false)
+    } else {
+        Question::Listed(asked)
     }
 }
 
@@ -134,14 +149,12 @@ fn fetch_question(
     what_governs_stands_at_its_place();
     let effective = group.directive();
     match (governing(policy, effective), governor(policy, effective)) {
-        (Some(place), Some(found)) => Question::Listed(list_question(
-            place,
-            group.rule(found.name),
-            scheme,
-            redirected,
-            parser_inserted,
-            &found.directive.sources,
-        )),
+        (Some(place), Some(found)) => {
+            let sources = &found.directive.sources;
+            let rule = group.rule(found.name);
+            let asked = list_question(place, rule, scheme, redirected, parser_inserted, sources);
+            of_list(asked, sources)
+        }
         _ => Question::Known(true),
     }
 }
@@ -198,15 +211,20 @@ pub(crate) fn is_dynamic(rule: FetchRule, sources: &List<Source>) -> bool
     matches!(rule, FetchRule::Script) && has_keyword(sources, Keyword::StrictDynamic)
 }
 
-// What the policy is asked of inline code or style of a kind.
+// What the policy is asked of inline code or style of a kind. All of it is allowed where `'unsafe-inline'`
+// acts.
 fn inline_question(policy: &Policy, kind: InlineKind) -> Question
     ensures { (hashes : Items HashValue) → spec.question_sentence policy.now hashes result
         ≡ compiled.kind_sentence policy.now kind }
 {
     what_governs_stands_at_its_place();
-    match governing(policy, kind.directive()) {
-        None => Question::Known(true),
-        Some(place) => Question::Inline { place, kind },
+    let effective = kind.directive();
+    match (governing(policy, effective), governor(policy, effective)) {
+        (Some(_), Some(found)) if allows_all_inline(kind, &found.directive.sources) => {
+            Question::Known(true)
+        }
+        (Some(place), Some(_)) => Question::Inline { place, kind },
+        _ => Question::Known(true),
     }
 }
 

@@ -16,18 +16,18 @@ use csp_grammar::{is_domain, is_four_numbers};
 use csp_model::{FetchRule, HostPart, InlineKind, List, Origin, PathPart, Policy, Source};
 use csp_shape::Shape;
 
-/// Whether the policy's formulas of the two questions are found to be equal, with neither of them built: lists
-/// are gone through side by side, and texts are compared only where they stand in both formulas, and not at
-/// all where one list is asked twice.
-///
-/// It is false of equal formulas only where these have no atom.
+/// Whether the policy's formulas of the two questions are equal, with neither of them built: lists are gone
+/// through side by side, and texts are compared only where they stand in both formulas, and not at all where
+/// one list is asked twice. An or without parts counts as the constant that it is.
 pub fn same_formulas(policy: &Policy, one: Question, other: Question) -> bool
     ensures { IsTrue result → (hashes : Items HashValue)
         → spec.question_sentence policy.now hashes one ≡ spec.question_sentence policy.now hashes other }
 {
     match (one, other) {
         (Question::Known(one), Question::Known(other)) => one == other,
-        (Question::Listed(one), Question::Listed(other)) => same_listed(policy, one, other),
+        (Question::Listed(one), Question::Listed(other)) if one.rule == other.rule => {
+            same_listed(policy, one, other)
+        }
         (
             Question::Inline { place, kind },
             Question::Inline {
@@ -40,8 +40,72 @@ pub fn same_formulas(policy: &Policy, one: Question, other: Question) -> bool
                 _ => false,
             }
         }
+        (Question::Inline { .. }, _) => {
+            is_never_twice(policy, other) && is_never_twice(policy, one)
+        }
+        _ => is_never_twice(policy, one) && is_never_twice(policy, other),
+    }
+}
+
+// Whether the answer is an or of two parts that never hold. Lists of different rules, and of inline code, are
+// equal in this alone.
+fn is_never_twice(policy: &Policy, question: Question) -> bool
+    ensures { IsTrue result → (hashes : Items HashValue)
+        → spec.question_sentence policy.now hashes question ≡ spec.never_twice }
+{
+    match question {
+        Question::Known(_) => false,
+        Question::Listed(asked) => match sources_at(policy, asked.place) {
+            Some(sources) => is_never_twice_listed(&policy.origin, asked, sources),
+            None => false,
+        },
+        Question::Inline { place, kind } => match sources_at(policy, place) {
+            Some(sources) => is_never_twice_inline(kind, sources),
+            None => false,
+        },
+    }
+}
+
+// The same of what a list says of URLs.
+fn is_never_twice_listed(origin: &Origin, asked: ListQuestion, sources: &List<Source>) -> bool
+    ensures { IsTrue result → (hashes : Items HashValue)
+        → spec.answer_of_list origin.now hashes asked sources.now ≡ spec.never_twice }
+{
+    match asked.rule {
+        FetchRule::List => are_two_that_never_match(origin, asked.shape(), sources.as_slice()),
+        FetchRule::Style => sources.is_empty(),
+        FetchRule::Script => false,
+    }
+}
+
+// Whether there are two sources, and neither matches anything.
+fn are_two_that_never_match(origin: &Origin, shape: Shape, sources: &[Source]) -> bool
+    ensures { IsTrue result
+        → sentences.list_sentence origin.now shape sources.now ≡ spec.never_twice }
+{
+    match sources {
+        [one, other] => never_matches(origin, shape, one) && never_matches(origin, shape, other),
         _ => false,
     }
+}
+
+fn never_matches(origin: &Origin, shape: Shape, source: &Source) -> bool
+    ensures { IsTrue result
+        → sentences.source_sentence origin.now shape source.now ≡ Known false }
+{
+    matches!(
+        source_outline(origin, shape, source),
+        Outline::Constant(false)
+    )
+}
+
+// The same of what a list says of inline code or style of a kind.
+fn is_never_twice_inline(kind: InlineKind, sources: &List<Source>) -> bool
+    ensures { IsTrue result → compiled.inline_sentence kind sources.now ≡ spec.never_twice }
+{
+    !allows_all_inline(kind, sources)
+        && same_nonces(counted(is_element_kind(kind), sources.as_slice()), &[])
+        && same_digests(counted(hash_counts(kind, sources), sources.as_slice()), &[])
 }
 
 // The same of what lists say of URLs.
@@ -116,7 +180,9 @@ fn same_of_two_lists(
             let (ours, theirs) = (sources.as_slice(), others.as_slice());
             say_the_same(origin, ours, one.shape(), theirs, other.shape())
         }
-        _ => false,
+        // What an empty list matches is as little as `'strict-dynamic'` allows of what the parser inserted.
+        (true, false) => one.parser_inserted && others.is_empty(),
+        (false, true) => other.parser_inserted && sources.is_empty(),
     }
 }
 
