@@ -22,7 +22,7 @@ use csp_token::has_keyword;
 /// policy is asked the same have one formula.
 #[derive(Clone, Copy, Debug, PartialEq, Eq)]
 pub enum Question {
-    /// No list is asked: all such checks are allowed, or none is.
+    /// All such checks are allowed, or none is, whatever a source says.
     Known(bool),
     /// What a list says of checks of URLs.
     Listed(ListQuestion),

@@ -16,9 +16,12 @@ use csp_grammar::{is_domain, is_four_numbers};
 use csp_model::{FetchRule, HostPart, InlineKind, List, Origin, PathPart, Policy, Source};
 use csp_shape::Shape;
 
-/// Whether the policy's formulas of the two questions are equal, with neither of them built: lists are gone
-/// through side by side, and texts are compared only where they stand in both formulas, and not at all where
-/// one list is asked twice. An or without parts counts as the constant that it is.
+/// Whether the policy's formulas of the two questions are found to be equal, with neither of them built: lists
+/// are gone through side by side, and texts are compared only where they stand in both formulas, and not at
+/// all where one list is asked twice.
+///
+/// Of questions as `question_at` gives them all equal formulas are found, though no clause says so. An or
+/// without parts counts as the constant that it is.
 pub fn same_formulas(policy: &Policy, one: Question, other: Question) -> bool
     ensures { IsTrue result → (hashes : Items HashValue)
         → spec.question_sentence policy.now hashes one ≡ spec.question_sentence policy.now hashes other }
