@@ -10,7 +10,7 @@ use crate::draft::Draft;
 use crate::task::Task;
 use csp_model::{Check, Duplicate, Memory};
 use csp_placed::PlacedFormulas;
-use csp_search::{Found, Question, search};
+use csp_search::{Found, Overview, Question, search};
 use csp_shape::{Shape, shape_number};
 use csp_valuation::Valuation;
 use std::alloc::Global;
@@ -39,6 +39,7 @@ pub(crate) fn search_shape<'a>(
     requires room { length draft.old + length task.policies.now < 2 ^ 32 }
     ensures { IfOk result (IsOutcome task.entry shape draft.old draft.new) }
 {
+    let overview = Overview::new(alloc, formulas)?;
     let room = formulas.atoms.len();
     let mut valuation = Valuation::new(alloc, formulas.atoms.copy(alloc)?, room)?;
     let mut numbers = Vec::new(alloc);
@@ -48,6 +49,7 @@ pub(crate) fn search_shape<'a>(
             second: task.second,
             vocabulary: task.vocabulary,
             formulas,
+            overview: &overview,
             shape,
             policy: *policy,
         };

@@ -3,8 +3,8 @@
 ghost use Rattle.csp_valuation.specs.Glimpses.{Tells};
 ghost use Rattle.csp_placed.specs.Placed.{sentence_at};
 
+use crate::overview::Overview;
 use crate::uses::Uses;
-use csp_atom::Atom;
 use csp_model::Memory;
 use csp_placed::PlacedFormula;
 use csp_valuation::{Glance, Glimpse, Valuation};
@@ -15,7 +15,16 @@ use std::alloc::Global;
 struct Turn {
     place: usize,
     second: Glance,
-    first: Vec<Glance>,
+    // How many looks at the first list there had been.
+    looks: usize,
+}
+
+// Which policies of the first list the last literal can have brought to block the branch.
+#[derive(Debug, Drop)]
+struct Suspects {
+    // All of them may, and the list doesn't count.
+    are_all: bool,
+    list: Vec<usize>,
 }
 
 // What the last literal may have made true of the formula of the policy of the second list.
@@ -32,32 +41,59 @@ enum Last {
 
 #[derive(Debug, Drop)]
 pub(crate) struct Hints<'f> {
+    overview: &'f Overview<'f>,
     // How the atoms stand in the formula of the policy of the second list. Those that most of its parts speak
     // of are split by first, which leaves one case for most parts, not two.
     uses: Uses<'f>,
     // Where the next look at that formula begins, and at those of the first list.
     second: Glance,
     first: Vec<Glance>,
+    // Of each look at one of the first list which it was at, and where it began, so that it can be undone.
+    looks: Vec<(usize, Glance)>,
     // For each literal of the path.
     turns: Vec<Turn>,
     last: Last,
+    suspects: Suspects,
 }
 
 impl<'f> Hints<'f> {
-    // At the root, for a formula of the second list over these atoms, and so many of the first list.
+    // At the root, for a formula of the second list.
     pub(crate) fn new(
         alloc: Global,
         formula: Option<&'f PlacedFormula>,
-        atoms: &[Atom],
-        policies: usize,
+        overview: &'f Overview<'f>,
     ) -> Result<Hints<'f>, Memory> {
         Ok(Hints {
-            uses: Uses::new(alloc, formula, atoms)?,
+            overview,
+            uses: Uses::new(alloc, formula, overview.atoms().len())?,
             second: Glance::default(),
-            first: vec![in alloc; Glance::default(); policies]?,
+            first: vec![in alloc; Glance::default(); overview.policies()]?,
+            looks: Vec::new(alloc),
             turns: Vec::new(alloc),
             last: Last::Anything,
+            suspects: Suspects {
+                are_all: true,
+                list: Vec::new(alloc),
+            },
         })
+    }
+
+    // How many policies of the first list the last literal can have brought to block the branch.
+    pub(crate) fn suspect_count(&self) -> usize {
+        if self.suspects.are_all {
+            self.first.len()
+        } else {
+            self.suspects.list.len()
+        }
+    }
+
+    // One of them. They rise.
+    pub(crate) fn suspect(&self, number: usize) -> Option<usize> {
+        if self.suspects.are_all {
+            Some(number)
+        } else {
+            self.suspects.list.get(number).copied()
+        }
     }
 
     // A short look at the formula of the policy of the second list.
@@ -82,11 +118,15 @@ impl<'f> Hints<'f> {
         valuation: &Valuation,
         policy: usize,
         formula: &PlacedFormula,
-    ) -> bool {
-        match self.first.get_mut(policy) {
-            Some(from) => !matches!(valuation.glance(formula, &[], from), Glimpse::Nothing),
-            None => false,
+    ) -> Result<bool, Memory> {
+        if self.overview.may_hold(policy, valuation) {
+            return Ok(true);
         }
+        let Some(from) = self.first.get_mut(policy) else {
+            return Ok(false);
+        };
+        self.looks.push((policy, *from))?;
+        Ok(!matches!(valuation.glance(formula, &[], from), Glimpse::Nothing))
     }
 
     // Whether a short look at the formula of the policy of the second list has seen each part that the last
@@ -95,7 +135,9 @@ impl<'f> Hints<'f> {
         match self.last {
             Last::Nothing => true,
             Last::OwnParts { place } => {
-                !self.uses.may_hold_with_wide(place, valuation)
+                !self
+                    .uses
+                    .may_hold_with_wide(place, valuation, self.overview)
                     && !self.uses.may_have_true_part(place, valuation)
             }
             Last::Anything => false,
@@ -103,29 +145,45 @@ impl<'f> Hints<'f> {
     }
 
     // Before the path splits by the atom at this place.
-    pub(crate) fn split(&mut self, alloc: Global, place: usize) -> Result<(), Memory> {
-        let mut first = Vec::with_capacity(alloc, self.first.len())?;
-        first.extend_from_slice(&self.first)?;
+    pub(crate) fn split(&mut self, place: usize) -> Result<(), Memory> {
         self.turns.push(Turn {
             place,
             second: self.second,
-            first,
+            looks: self.looks.len(),
         })?;
         self.last = Last::OwnParts { place };
+        self.suspects.are_all = true;
         Ok(())
     }
 
-    // After the last literal of a path of this length was turned.
-    pub(crate) fn turn(&mut self, length: usize) {
-        self.turns.truncate(length);
-        if let Some(turn) = self.turns.last_mut() {
-            self.second = turn.second;
-            std::mem::swap(&mut self.first, &mut turn.first);
-            self.last = if self.uses.is_negated(turn.place) {
-                Last::Anything
-            } else {
-                Last::Nothing
+    // After the last literal of the path was turned.
+    pub(crate) fn turn(&mut self, valuation: &Valuation) -> Result<(), Memory> {
+        self.turns.truncate(valuation.path().len());
+        let Some(turn) = self.turns.last() else {
+            return Ok(());
+        };
+        let (place, looks) = (turn.place, turn.looks);
+        self.second = turn.second;
+        self.last = if self.uses.is_negated(place) {
+            Last::Anything
+        } else {
+            Last::Nothing
+        };
+        self.undo_looks(looks);
+        let list = &mut self.suspects.list;
+        self.suspects.are_all = !self.overview.suspects(place, valuation, list)?;
+        Ok(())
+    }
+
+    // Has looks at the first list begin where they did when there had been so many.
+    fn undo_looks(&mut self, count: usize) {
+        for _ in count..self.looks.len() {
+            let Some((policy, began)) = self.looks.pop() else {
+                return;
             };
+            if let Some(from) = self.first.get_mut(policy) {
+                *from = began;
+            }
         }
     }
 }

@@ -1,5 +1,5 @@
 //! The leaves of a tree of cases, and what a branch waits on that none ends.
-ghost use Rattle.std.specs.Prelude.{◌≡◌, IfSome, MatchOption, None, false, option_copied, slice_get, true, ⊤};
+ghost use Rattle.std.specs.Prelude.{◌≡◌, IfOk, IfSome, MatchOption, None, false, option_copied, slice_get, true, ⊤};
 ghost use Rattle.csp_formula.specs.Surely.{surely};
 ghost use Rattle.csp_placed.specs.Placed.{sentence_at};
 ghost use Rattle.csp_proof.specs.Accepts as rules;
@@ -11,7 +11,7 @@ ghost use Rattle.csp_valuation.specs.Valuations.{value_at};
 
 use crate::hints::Hints;
 use crate::searching::Question;
-use csp_model::{Disposition, Policy};
+use csp_model::{Disposition, Memory, Policy};
 use csp_placed::{IndexedFormula, PlacedFormula};
 use csp_proof::Node;
 use csp_valuation::{Glimpse, Standing, Valuation};
@@ -132,14 +132,18 @@ pub(crate) enum Step {
 }
 
 // What a branch calls for.
-pub(crate) fn next_step(question: Question, valuation: &Valuation, hints: &mut Hints) -> Step
+pub(crate) fn next_step(
+    question: Question,
+    valuation: &Valuation,
+    hints: &mut Hints,
+) -> Result<Step, Memory>
     requires posed { IsPosed question }
     requires atoms { valuation.now.atoms ≡ question.formulas.now.atoms }
-    ensures { spec.IsStep
-        (lists_of question.entry) (pair_of question.entry) valuation.now result }
+    ensures { IfOk result (spec.IsStep
+        (lists_of question.entry) (pair_of question.entry) valuation.now) }
 {
     match glimpse(question, valuation, hints) {
-        Glimpse::Holds => Step::Close { leaf: Node::Met },
+        Glimpse::Holds => Ok(Step::Close { leaf: Node::Met }),
         Glimpse::Open { place } => {
             if hints.has_seen_all(valuation) {
                 step_of_open(question, valuation, place, hints)
@@ -147,8 +151,8 @@ pub(crate) fn next_step(question: Question, valuation: &Valuation, hints: &mut H
                 step_of_whole(question, valuation, Some(place), hints)
             }
         }
-        Glimpse::Nothing => match blocking(question, valuation, hints) {
-            Some(leaf) => Step::Close { leaf },
+        Glimpse::Nothing => match blocking(question, valuation, hints)? {
+            Some(leaf) => Ok(Step::Close { leaf }),
             None => step_of_whole(question, valuation, None, hints),
         },
     }
@@ -174,16 +178,16 @@ fn step_of_whole(
     valuation: &Valuation,
     seen: Option<usize>,
     hints: &mut Hints,
-) -> Step
+) -> Result<Step, Memory>
     requires posed { IsPosed question }
     requires atoms { valuation.now.atoms ≡ question.formulas.now.atoms }
     requires open { IfSome seen (λ place. value_at valuation.now place ≡ None) }
-    ensures { spec.IsStep
-        (lists_of question.entry) (pair_of question.entry) valuation.now result }
+    ensures { IfOk result (spec.IsStep
+        (lists_of question.entry) (pair_of question.entry) valuation.now) }
 {
     match second_standing(question, valuation) {
-        Standing::Decided(true) => Step::Close { leaf: Node::Met },
-        Standing::Decided(false) => step_of_first(question, valuation),
+        Standing::Decided(true) => Ok(Step::Close { leaf: Node::Met }),
+        Standing::Decided(false) => Ok(step_of_first(question, valuation)),
         Standing::Open { place } => {
             if seen.is_none() {
                 look_on(question, valuation, hints);
@@ -201,43 +205,63 @@ fn look_on(question: Question, valuation: &Valuation, hints: &mut Hints) {
 }
 
 // What a branch calls for whose policy of the second list waits on the atom at this place.
-fn step_of_open(question: Question, valuation: &Valuation, place: usize, hints: &mut Hints) -> Step
+fn step_of_open(
+    question: Question,
+    valuation: &Valuation,
+    place: usize,
+    hints: &mut Hints,
+) -> Result<Step, Memory>
     requires posed { IsPosed question }
     requires atoms { valuation.now.atoms ≡ question.formulas.now.atoms }
     requires open { value_at valuation.now place ≡ None }
-    ensures { spec.IsStep
-        (lists_of question.entry) (pair_of question.entry) valuation.now result }
+    ensures { IfOk result (spec.IsStep
+        (lists_of question.entry) (pair_of question.entry) valuation.now) }
 {
-    match blocking(question, valuation, hints) {
+    Ok(match blocking(question, valuation, hints)? {
         Some(leaf) => Step::Close { leaf },
         None => Step::Split { place },
-    }
+    })
 }
 
-// The leaf of a policy of the first list that surely allows nothing more, if there is one.
-fn blocking(question: Question, valuation: &Valuation, hints: &mut Hints) -> Option<Node>
+// The leaf of a policy of the first list that surely allows nothing more, if there is one among those that the
+// last literal can have brought to it.
+fn blocking(
+    question: Question,
+    valuation: &Valuation,
+    hints: &mut Hints,
+) -> Result<Option<Node>, Memory>
     requires posed { IsPosed question }
     requires atoms { valuation.now.atoms ≡ question.formulas.now.atoms }
-    ensures { IfSome result (spec.IsLeaf
-        (lists_of question.entry) (pair_of question.entry) valuation.now.literals) }
+    ensures { IfOk result (λ found. IfSome found (spec.IsLeaf
+        (lists_of question.entry) (pair_of question.entry) valuation.now.literals)) }
 {
-    for policy in 0..question.first.policies.len() {
-        if may_hold(question, valuation, policy, hints) {
+    for number in 0..hints.suspect_count() {
+        let Some(policy) = hints.suspect(number) else {
+            return Ok(None);
+        };
+        if policy >= question.first.policies.len()
+            || may_hold(question, valuation, policy, hints)?
+        {
             continue;
         }
         if let Standing::Decided(false) = first_standing(question, valuation, policy) {
             let policy = policy as u32;
-            return Some(Node::Blocked { policy });
+            return Ok(Some(Node::Blocked { policy }));
         }
     }
-    None
+    Ok(None)
 }
 
 // Whether a short look tells that a policy of the first list may allow something.
-fn may_hold(question: Question, valuation: &Valuation, policy: usize, hints: &mut Hints) -> bool {
+fn may_hold(
+    question: Question,
+    valuation: &Valuation,
+    policy: usize,
+    hints: &mut Hints,
+) -> Result<bool, Memory> {
     match question.formulas.first.get(policy) {
         Some(formula) => hints.may_hold(valuation, policy, formula.formula()),
-        None => false,
+        None => Ok(false),
     }
 }
 

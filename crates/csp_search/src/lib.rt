@@ -5,8 +5,10 @@
 mod hints;
 mod leaf;
 mod open;
+mod overview;
 mod searching;
 mod tree;
 mod uses;
 
+pub use overview::Overview;
 pub use searching::{Found, Question, search};

@@ -10,6 +10,7 @@ ghost use Rattle.csp_shape.specs.Shapes.{is_shape};
 ghost use Rattle.csp_table.specs.Tables.{AreAt};
 
 use crate::open::open_check;
+use crate::overview::Overview;
 use crate::tree::find_tree;
 use csp_atom::Vocabulary;
 use csp_formula::laws::the_atoms_of_a_formula_are_of_its_shape;
@@ -29,6 +30,8 @@ pub struct Question<'a> {
     pub vocabulary: &'a Vocabulary,
     /// What the policies of both lists say of the shape.
     pub formulas: &'a PlacedFormulas,
+    /// An overview of these formulas.
+    pub overview: &'a Overview<'a>,
     pub shape: Shape,
     /// The number of the policy of the second list, counted from 0.
     pub policy: u32,

@@ -38,17 +38,16 @@ pub(crate) fn find_tree<'a>(
     let atoms = question.formulas.atoms.as_slice();
     let mut nodes = List::new(alloc);
     let formula = second_formula(question);
-    let policies = question.first.policies.len();
-    let mut hints = Hints::new(alloc, formula, atoms, policies)?;
+    let mut hints = Hints::new(alloc, formula, question.overview)?;
     valuation.clear();
     'steps: loop {
-        match next_step(question, valuation, &mut hints) {
+        match next_step(question, valuation, &mut hints)? {
             Step::Close { leaf } => {
                 nodes.push(leaf)?;
                 if !next_branch(valuation) {
                     return Ok(Some(nodes));
                 }
-                hints.turn(valuation.path().len());
+                hints.turn(valuation)?;
             }
             Step::Leave => return Ok(None),
             Step::Split { place } => {
@@ -56,7 +55,7 @@ pub(crate) fn find_tree<'a>(
                 nodes.push(Node::Split {
                     atom: atom.copy(alloc)?,
                 })?;
-                hints.split(alloc, place)?;
+                hints.split(place)?;
                 valuation.take(Taken {
                     atom,
                     positive: true,

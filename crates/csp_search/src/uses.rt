@@ -1,4 +1,5 @@
 //! How atoms stand in a formula.
+use crate::overview::Overview;
 use csp_atom::Atom;
 use csp_model::Memory;
 use csp_placed::PlacedFormula;
@@ -18,9 +19,6 @@ pub(crate) struct Uses<'f> {
     // The parts of the formula, those of an or in it among them, by the places of the facts that stand in
     // them.
     parts: Vec<(usize, &'f PlacedFormula)>,
-    // The places of the fronts, and of the atom that the host is a domain, which hold where other atoms do.
-    fronts: Vec<usize>,
-    domain: Option<usize>,
 }
 
 impl<'f> Uses<'f> {
@@ -28,20 +26,17 @@ impl<'f> Uses<'f> {
     pub(crate) fn new(
         alloc: Global,
         formula: Option<&'f PlacedFormula>,
-        atoms: &[Atom],
+        atoms: usize,
     ) -> Result<Uses<'f>, Memory> {
         let mut uses = Uses {
-            weights: vec![in alloc; 0; atoms.len()]?,
-            negated: vec![in alloc; false; atoms.len()]?,
+            weights: vec![in alloc; 0; atoms]?,
+            negated: vec![in alloc; false; atoms]?,
             parts: Vec::new(alloc),
-            fronts: Vec::new(alloc),
-            domain: None,
         };
         if let Some(formula) = formula {
             note(formula, false, &mut uses);
             note_parts(formula, &mut uses.parts)?;
             uses.parts.sort_by_key(|(place, _)| *place)?;
-            uses.find_wide(atoms)?;
             uses.keep_most(parts_of(formula) / 2);
         }
         Ok(uses)
@@ -73,14 +68,20 @@ impl<'f> Uses<'f> {
 
     // Whether the path may make a part true in which a suffix or a front stands that holds where the atom at
     // this place does, or that the host is a domain, apart from that atom.
-    pub(crate) fn may_hold_with_wide(&self, place: usize, valuation: &Valuation) -> bool {
+    pub(crate) fn may_hold_with_wide(
+        &self,
+        place: usize,
+        valuation: &Valuation,
+        overview: &Overview,
+    ) -> bool {
         match valuation.atoms().get(place) {
             Some(Atom::HostIs(_) | Atom::HostUnder(_)) => {
-                self.may_hold_with_domain(valuation) || self.may_hold_with_name(place, valuation)
+                self.may_hold_at(overview.domain(), valuation)
+                    || self.may_hold_with_name(place, valuation)
             }
-            Some(Atom::PathIs(_) | Atom::PathUnder(_)) => self.fronts.iter().any(|front| *front
-                != place
-                && self.is_true_in_part(*front, valuation)),
+            Some(Atom::PathIs(_) | Atom::PathUnder(_)) => overview.fronts().iter().any(|front| {
+                *front != place && self.is_true_in_part(*front, valuation)
+            }),
             _ => false,
         }
     }
@@ -96,8 +97,8 @@ impl<'f> Uses<'f> {
         valuation.value(place) == Some(true) && may_have_true(self.parts_at(place), valuation)
     }
 
-    fn may_hold_with_domain(&self, valuation: &Valuation) -> bool {
-        match self.domain {
+    fn may_hold_at(&self, place: Option<usize>, valuation: &Valuation) -> bool {
+        match place {
             Some(place) => may_have_true(self.parts_at(place), valuation),
             None => false,
         }
@@ -113,17 +114,6 @@ impl<'f> Uses<'f> {
         }
     }
 
-    fn find_wide(&mut self, atoms: &[Atom]) -> Result<(), Memory> {
-        for (place, atom) in atoms.iter().enumerate() {
-            match atom {
-                Atom::PathUnder(_) => self.fronts.push(place)?,
-                Atom::HostDomain => self.domain = Some(place),
-                _ => {}
-            }
-        }
-        Ok(())
-    }
-
     fn note_fact(&mut self, place: usize, is_negated: bool) {
         if let Some(weight) = self.weights.get_mut(place) {
             *weight = weight.saturating_add(1);
@@ -134,8 +124,10 @@ impl<'f> Uses<'f> {
     }
 
     fn keep_most(&mut self, half: u32) {
-        for weight in self.weights.iter_mut() {
-            if *weight <= half {
+        for (place, _) in &self.parts {
+            if let Some(weight) = self.weights.get_mut(*place)
+                && *weight <= half
+            {
                 *weight = 0;
             }
         }
@@ -188,12 +180,12 @@ fn note_parts<'f>(
     Ok(())
 }
 
-// Adds the part with each place of a fact that stands in this formula.
+// Adds each place of a fact that stands in this formula, with what is beside it.
 #[cycle(note_facts)]
-fn note_facts<'f>(
-    formula: &'f PlacedFormula,
-    part: &'f PlacedFormula,
-    found: &mut Vec<(usize, &'f PlacedFormula)>,
+pub(crate) fn note_facts<T: Copy>(
+    formula: &PlacedFormula,
+    part: T,
+    found: &mut Vec<(usize, T)>,
 ) -> Result<(), Memory> {
     match formula {
         PlacedFormula::Constant(_) => Ok(()),
@@ -210,10 +202,10 @@ fn note_facts<'f>(
 }
 
 #[cycle(note_facts)]
-fn note_facts_of_all<'f>(
-    formulas: &'f [PlacedFormula],
-    part: &'f PlacedFormula,
-    found: &mut Vec<(usize, &'f PlacedFormula)>,
+fn note_facts_of_all<T: Copy>(
+    formulas: &[PlacedFormula],
+    part: T,
+    found: &mut Vec<(usize, T)>,
 ) -> Result<(), Memory> {
     for formula in formulas {
         note_facts(formula, part, found)?;

@@ -5,7 +5,6 @@ use Rattle.csp_search.specs.Branches.{pending}
 use Rattle.csp_search.specs.Questions.{lists_of, pair_of}
 use Rattle.csp_search.proofs.Lists.{all_at}
 use Rattle.csp_search.proofs.Opens.{open_fewer, less_leaf, less_split, work}
-use Rattle.csp_search.proofs.Saying.{leaves_open}
 use Rattle.csp_search.proofs.Steps.{taken_true}
 use Rattle.csp_search.proofs.Trees.{Keeps, keeps_start, keeps_leaf, keeps_split, ends, open_here, open_within}
 use Rattle.csp_search.proofs.tree.find_tree.Goals as goal
@@ -24,43 +23,38 @@ returns-then-not-next_branch-clause-tree c =
     let q = c.args.question in
     let atoms = q.formulas.now.atoms in
     let ls = c.steps.valuation.literals in
-    let kept = keeps_leaf (lists_of q) (pair_of q) atoms c.steps.nodes c.push.new.self ls (pending [] ls) c.in-Close.leaf c.steps.invariant.keeps c.in-Close.ensures c.in_ok-push-in-Close.ensures.ok in
+    let kept = keeps_leaf (lists_of q) (pair_of q) atoms c.steps.nodes c.push.new.self ls (pending [] ls) c.in-Close.leaf c.steps.invariant.keeps (rw c.in-Close.is at c.in_ok-leaf.ensures) c.in_ok-push-in-Close.ensures.ok in
     let last = subst (λ (bs : List (List Literal)). Keeps (lists_of q) (pair_of q) atoms c.push.new.self bs) c.if-not-next_branch.ensures.branch kept in
     ends (lists_of q) (pair_of q) atoms c.push.new.self last
 
-pub steps-smaller-in-Close : goal.steps-smaller-in-Close
-steps-smaller-in-Close c =
+pub steps-smaller-in_ok-turn-in-Close : goal.steps-smaller-in_ok-turn-in-Close
+steps-smaller-in_ok-turn-in-Close c =
     let atoms = c.args.question.formulas.now.atoms in
     let ls = c.steps.valuation.literals in
     subst (λ (bs : List (List Literal)). work atoms bs < work atoms (ls ∷ pending [] ls)) (sym c.if-not-next_branch.ensures.branch) (less_leaf atoms ls (pending [] ls))
 
-pub steps-preserved-in-Close : goal.steps-preserved-in-Close
-steps-preserved-in-Close c =
+pub steps-preserved-in_ok-turn-in-Close : goal.steps-preserved-in_ok-turn-in-Close
+steps-preserved-in_ok-turn-in-Close c =
     let q = c.args.question in
     let atoms = q.formulas.now.atoms in
     let ls = c.steps.valuation.literals in
-    let kept = keeps_leaf (lists_of q) (pair_of q) atoms c.steps.nodes c.push.new.self ls (pending [] ls) c.in-Close.leaf c.steps.invariant.keeps c.in-Close.ensures c.in_ok-push-in-Close.ensures.ok in
+    let kept = keeps_leaf (lists_of q) (pair_of q) atoms c.steps.nodes c.push.new.self ls (pending [] ls) c.in-Close.leaf c.steps.invariant.keeps (rw c.in-Close.is at c.in_ok-leaf.ensures) c.in_ok-push-in-Close.ensures.ok in
     record {
       atoms = c.if-not-next_branch.ensures.atoms ∙ c.steps.invariant.atoms;
       room = c.if-not-next_branch.ensures.room ∙ c.steps.invariant.room;
       keeps = subst (λ (bs : List (List Literal)). Keeps (lists_of q) (pair_of q) atoms c.push.new.self bs) (sym c.if-not-next_branch.ensures.branch) kept;
     }
 
-pub returns-in-Leave-clause-open : goal.returns-in-Leave-clause-open
-returns-in-Leave-clause-open c =
-    let q = c.args.question in
-    leaves_open (lists_of q) (pair_of q) c.steps.valuation.literals c.in-Leave.ensures.0 c.in-Leave.ensures.1
-
 pub bounds-atoms-place : goal.bounds-atoms-place
 bounds-atoms-place c =
     let atoms = c.args.question.formulas.now.atoms in
-    rw c.as_slice-atoms.ensures (open_within c.steps.valuation.literals c.steps.valuation.atoms atoms c.in-Split.place c.steps.invariant.atoms c.in-Split.ensures)
+    rw c.as_slice-atoms.ensures (open_within c.steps.valuation.literals c.steps.valuation.atoms atoms c.in-Split.place c.steps.invariant.atoms (rw c.in-Split.is at c.in_ok-leaf.ensures))
 
 pub offset_bounds-atoms-place : goal.offset_bounds-atoms-place
 offset_bounds-atoms-place c =
     let atoms = c.args.question.formulas.now.atoms in
     let within : c.in-Split.place < length c.as_slice-atoms.result.now =
-    rw c.as_slice-atoms.ensures (open_within c.steps.valuation.literals c.steps.valuation.atoms atoms c.in-Split.place c.steps.invariant.atoms c.in-Split.ensures) in
+    rw c.as_slice-atoms.ensures (open_within c.steps.valuation.literals c.steps.valuation.atoms atoms c.in-Split.place c.steps.invariant.atoms (rw c.in-Split.is at c.in_ok-leaf.ensures)) in
     omega arith
 
 pub take-requires : goal.take-requires
@@ -70,7 +64,7 @@ take-requires c =
     let atoms = q.formulas.now.atoms in
     let a = c.index-atoms-place.result in
     let is : a ≡ get_or atoms c.in-Split.place a = rw c.as_slice-atoms.ensures at c.index-atoms-place.is in
-    let there = open_here ls c.steps.valuation.atoms atoms c.in-Split.place a c.steps.invariant.atoms c.in-Split.ensures is in
+    let there = open_here ls c.steps.valuation.atoms atoms c.in-Split.place a c.steps.invariant.atoms (rw c.in-Split.is at c.in_ok-leaf.ensures) is in
     let enough = rw c.requires.atoms at c.requires.room in
     omega (arith, open_fewer ls atoms c.in-Split.place a true there.0 there.1, c.steps.invariant.keeps.each.0.room, c.steps.invariant.room, enough)
 
@@ -81,7 +75,7 @@ steps-smaller c =
     let atoms = q.formulas.now.atoms in
     let a = c.index-atoms-place.result in
     let is : a ≡ get_or atoms c.in-Split.place a = rw c.as_slice-atoms.ensures at c.index-atoms-place.is in
-    let there = open_here ls c.steps.valuation.atoms atoms c.in-Split.place a c.steps.invariant.atoms c.in-Split.ensures is in
+    let there = open_here ls c.steps.valuation.atoms atoms c.in-Split.place a c.steps.invariant.atoms (rw c.in-Split.is at c.in_ok-leaf.ensures) is in
     rw (c.take.ensures, taken_true ls a) (less_split atoms ls (pending [] ls) c.in-Split.place a there.0 there.1)
 
 pub steps-preserved : goal.steps-preserved
@@ -91,7 +85,7 @@ steps-preserved c =
     let atoms = q.formulas.now.atoms in
     let a = c.index-atoms-place.result in
     let is : a ≡ get_or atoms c.in-Split.place a = rw c.as_slice-atoms.ensures at c.index-atoms-place.is in
-    let there = open_here ls c.steps.valuation.atoms atoms c.in-Split.place a c.steps.invariant.atoms c.in-Split.ensures is in
+    let there = open_here ls c.steps.valuation.atoms atoms c.in-Split.place a c.steps.invariant.atoms (rw c.in-Split.is at c.in_ok-leaf.ensures) is in
     let valid = all_at IsValidAtom atoms c.in-Split.place a c.requires.valid there.0 in
     let pushed = rw c.in_ok-copy-in-Split.ensures at c.in_ok-push-in-Split.ensures.ok in
     record {
