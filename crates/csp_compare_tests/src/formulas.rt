@@ -12,6 +12,7 @@ use csp_model::{Check, Duplicate, List, Memory, Policy, PolicyList};
 use csp_pick::{can_pick, representative};
 use csp_placed::{PlacedFormula, place_formulas};
 use csp_shape::{Shape, shape_at};
+use csp_table::FormulaTable;
 use csp_valuation::{Taken, Valuation};
 use csp_verdict::allows;
 use std::alloc::Global;
@@ -282,7 +283,8 @@ const ALIKE: &str = "Content-Security-Policy: \
     script-src-attr 'unsafe-hashes' 'sha256-47DEQpj8HBSa-_TImW-5JCeuQeRkm5NMpJWZG3hSuFU='";
 
 // A policy whose formulas of different kinds of lists have no atom and are equal: none of them matches anything.
-const BARE: &str = "Content-Security-Policy: default-src 'none'; img-src 'report-sample' 'unsafe-eval'; \
+const BARE: &str =
+    "Content-Security-Policy: default-src 'none'; img-src 'report-sample' 'unsafe-eval'; \
     font-src 'none'; media-src 'report-sample'; connect-src * 'report-sample'; form-action 'none'; \
     base-uri 'report-sample' data:; style-src 'none'; style-src-attr 'unsafe-inline'; \
     script-src 'strict-dynamic'; script-src-attr 'report-sample'; script-src-elem 'none'; \
@@ -316,43 +318,46 @@ fn formula_texts(
     Ok(texts)
 }
 
-// Formulas of the shape and of those before it are found to be equal exactly where they are.
+// Formulas of the shape and of those before it are found to be equal exactly where they are. Whether none is.
 fn check_found(
     rt: &(impl Abort + AllocGlobal),
     policy: &Policy,
     texts: &List<String>,
     number: u8,
-) -> Result<(), Fail> {
-    let shape = shape_at(number).ok_or("no shape")?;
-    let asked = question_at(policy, shape);
+) -> Result<bool, Fail> {
+    let asked = question_at(policy, shape_at(number).ok_or("no shape")?);
     let text = texts.get(usize::from(number)).ok_or("no text")?;
+    let mut is_new = true;
     for earlier in 0..number {
         let question = question_at(policy, shape_at(earlier).ok_or("no shape")?);
         let is_equal = texts.get(usize::from(earlier)) == Some(text);
-        assert_eq!(rt;
+        let found = (
             same_formulas(policy, question, asked),
-            is_equal,
-            "{earlier} {number}: {text}"
-        );
-        assert_eq!(rt;
             same_formulas(policy, asked, question),
-            is_equal,
-            "{number} {earlier}: {text}"
         );
+        assert_eq!(rt; found, (is_equal, is_equal), "{earlier} {number}");
+        is_new = is_new && !is_equal;
     }
-    Ok(())
+    Ok(is_new)
 }
 
+// A table of one policy's formulas has each of them once.
 #[test]
 fn equal_formulas_are_found(rt: HostRuntime) -> Result<(), Fail> {
+    let nothing = policies(&rt, "")?;
     for block in [EVERY_KIND, ALIKE, BARE] {
         let list = policies(&rt, block)?;
-        let vocabulary = vocabulary_of(rt.alloc(), &list, &list)?;
+        let vocabulary = vocabulary_of(rt.alloc(), &list, &nothing)?;
         let policy = list.policies.get(0).ok_or("no policy")?;
         let texts = formula_texts(&rt, policy, &vocabulary)?;
+        let mut count = 0;
         for number in 0..189 {
-            check_found(&rt, policy, &texts, number)?;
+            if check_found(&rt, policy, &texts, number)? {
+                count += 1;
+            }
         }
+        let table = FormulaTable::new(rt.alloc(), &list, &nothing, &vocabulary)?;
+        assert_eq!(rt; table.kinds.len(), count);
     }
     Ok(())
 }
