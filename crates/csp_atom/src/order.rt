@@ -26,10 +26,8 @@ fn by_kind(one: &Atom, other: &Atom) -> Ordering
         (Atom::HostIs(one), Atom::HostIs(other)) => compare_hosts(one, other),
         (Atom::HostUnder(one), Atom::HostUnder(other)) => one.cmp(other),
         (Atom::PortIs(one), Atom::PortIs(other)) => one.cmp(other),
-        (Atom::PathIs(one), Atom::PathIs(other)) => compare_paths(one.as_slice(), other.as_slice()),
-        (Atom::PathUnder(one), Atom::PathUnder(other)) => {
-            compare_paths(one.as_slice(), other.as_slice())
-        }
+        (Atom::PathIs(one), Atom::PathIs(other)) => one.cmp(other),
+        (Atom::PathUnder(one), Atom::PathUnder(other)) => one.cmp(other),
         (Atom::SchemeIs(one), Atom::SchemeIs(other)) => one.cmp(other),
         (Atom::NonceIs(one), Atom::NonceIs(other)) => one.cmp(other),
         (Atom::IntegrityHas(one), Atom::IntegrityHas(other)) => algorithm_rank(one.algorithm)
@@ -51,7 +49,7 @@ fn compare_hosts(one: &Host, other: &Host) -> Ordering
     }
 }
 
-/// The order of two paths, piece by piece and each by its bytes.
+/// The order of two paths given by their pieces, piece by piece and each by its bytes.
 pub fn compare_paths(one: &[Bytes], other: &[Bytes]) -> Ordering
     ensures { result ≡ slice_cmp (slice_cmp nat_cmp) one.now other.now }
 {

@@ -21,6 +21,7 @@ pub mod Matching
 pub mod Names
 pub mod Navigation
 pub mod Parts
+pub mod PathKeys
 pub mod Paths
 pub mod Policies
 pub mod Reading

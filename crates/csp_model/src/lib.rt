@@ -5,6 +5,7 @@ mod check;
 mod copies;
 mod ends;
 mod grammar;
+mod keyed;
 pub mod laws;
 mod list;
 mod memory;

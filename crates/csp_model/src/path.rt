@@ -1,27 +1,33 @@
 //! Reads and writes the pieces of a path.
-ghost use Rattle.std.specs.Prelude.{◌≡◌, ◌++◌, IfOk, OnErr, OnOk, string_bytes, take};
+ghost use Rattle.std.specs.Prelude.{◌≡◌, ◌++◌, IfOk, OnErr, OnOk, Some, length, refl, string_bytes, take};
 ghost use Rattle.std.specs.String.{string_len};
 ghost use Rattle.std.specs.String.Boundary.{IsSplitPoint};
-ghost use Rattle.std.specs.Cmp.Lexicographic.{pointwise};
+ghost use Rattle.std.specs.Cmp.{po};
+ghost use Rattle.std.specs.Cmp.Lexicographic.{pointwise, slice_cmp, nat_list_cmp_total};
+ghost use Rattle.std.specs.Cmp.Lexicographic.{lists_ties, lists_total, texts_ties};
 ghost use Rattle.std.specs.Cmp.Rules.{comparing};
+ghost use Rattle.std.specs.Ordering.{nat_cmp};
 ghost use Rattle.std.specs.Prelude.{◌==◌};
 ghost use Rattle.std.proofs.Common.{rules};
 ghost use Rattle.percent_encoding.specs.Percent.{percent_decode};
 ghost use Rattle.csp_model.specs.Grammar as spec;
 ghost use Rattle.csp_model.specs.Paths.{path_text};
 
+use crate::keyed::KeyedPieces;
 use crate::list::List;
 use crate::memory::Memory;
 use crate::text::Bytes;
 use percent_encoding::{AsciiSet, NON_ALPHANUMERIC, ascii_set, percent_decode, percent_encode};
 use std::alloc::Global;
+use std::cmp::Ordering;
 use std::marker::Model;
 use std::rc::Rc;
 
-/// The pieces of a path. Its copies share them, so that they take next to no memory.
+/// The pieces of a path. Its copies share them, so that they take next to no memory. They are in order piece by
+/// piece, and each piece by its bytes.
 #[derive(Debug, Drop)]
 pub struct Path {
-    pieces: Rc<List<Bytes>, Global>,
+    pieces: Rc<KeyedPieces, Global>,
 }
 
 impl Model for Path {
@@ -38,7 +44,7 @@ impl Path {
         ensures { IfOk result (λ made. made ≡ pieces) }
     {
         Ok(Path {
-            pieces: Rc::new(alloc, pieces)?,
+            pieces: Rc::new(alloc, KeyedPieces::new(alloc, pieces)?)?,
         })
     }
 
@@ -55,14 +61,22 @@ impl Path {
     pub fn pieces(&self) -> &List<Bytes>
         ensures { result.now ≡ self.now }
     {
-        &self.pieces
+        self.pieces.pieces()
     }
 
     /// The pieces as a slice.
     pub fn as_slice(&self) -> &[Bytes]
         ensures { result.now ≡ self.now }
     {
-        self.pieces.as_slice()
+        self.pieces().as_slice()
+    }
+
+    /// The order of as many of the first pieces as the front has, or of all if there are fewer, and of those of
+    /// the front: `Equal` where the path begins with the front.
+    pub fn compare_start(&self, front: &Path) -> Ordering
+        ensures { result ≡ slice_cmp (slice_cmp nat_cmp) (take (length front.now) self.now) front.now }
+    {
+        self.pieces.compare_start(&front.pieces)
     }
 }
 
@@ -72,12 +86,36 @@ impl PartialEq for Path {
     ghost laws = { Prim.search (comparing, rules) };
 
     fn eq(&self, other: &Path) -> bool {
-        self.pieces() == other.pieces()
+        self.cmp(other).is_eq()
     }
 }
 
 impl Eq for Path {
     ghost laws = { Prim.search (comparing, rules) };
+}
+
+impl PartialOrd for Path {
+    ghost partial_cmp = { λ a b. Some (slice_cmp (slice_cmp nat_cmp) a b) };
+
+    ghost laws = { po (lists_total nat_list_cmp_total) (lists_ties (slice_cmp nat_cmp) texts_ties) };
+
+    fn partial_cmp(&self, other: &Path) -> Option<Ordering> {
+        Some(self.cmp(other))
+    }
+}
+
+impl Ord for Path {
+    ghost cmp = { slice_cmp (slice_cmp nat_cmp) };
+
+    ghost total = { lists_total nat_list_cmp_total };
+
+    ghost matches_partial_cmp = { λ a b. refl };
+
+    ghost matches_eq = { lists_ties (slice_cmp nat_cmp) texts_ties };
+
+    fn cmp(&self, other: &Path) -> Ordering {
+        self.pieces.compare(&other.pieces)
+    }
 }
 
 /// What a piece of a path is written with escapes for: every byte but letters, digits, `-`, `.`, `_` and `~`,
