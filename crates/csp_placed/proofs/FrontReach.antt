@@ -1,5 +1,5 @@
 -- The denial that a path lies under a front decides no atom but files and fronts that begin with it.
-use Rattle.std.proofs.Common.{◌≡◌, ◌≢◌, ◌∙◌, refl, ap, ℕ, ◌≤◌, ◌<◌, Bool, true, false, nat_lt, List, ◌++◌, length, None, arith, take_at, ◌⊎◌, inl, inr}
+use Rattle.std.proofs.Common.{◌≡◌, ◌≢◌, ◌∙◌, refl, ap, ℕ, ◌≤◌, ◌<◌, Bool, true, false, nat_lt, nat_le, List, ◌++◌, length, None, arith, take_at}
 use Rattle.std.proofs.lemmas.Bool.Decides.{nat_tests}
 use Rattle.std.specs.Bool.{Decides}
 use Rattle.std.specs.Cmp.{tied_itself}
@@ -7,13 +7,14 @@ use Rattle.std.specs.Cmp.Lexicographic.{slice_cmp}
 use Rattle.std.specs.List.{slice_index_or}
 use Rattle.std.specs.Ordering.{nat_cmp, ordering_then}
 use Rattle.std.specs.declared.cmp.Ordering.{Ordering}
-use Rattle.std.specs.declared.cmp.Ordering.TheVariants.{Less, Equal}
+use Rattle.std.specs.declared.cmp.Ordering.TheVariants.{Less, Equal, Greater}
 use Rattle.csp_model.proofs.EndLaws.{begins_Decides, beyond_Decides}
 use Rattle.csp_atom.specs.Follows.{follows, false_where}
 use Rattle.csp_atom.specs.declared.atom.Atom.{Atom}
 use Rattle.csp_atom.specs.declared.atom.Atom.TheVariants.{HostDomain, PathIs, PathUnder}
 use Rattle.csp_atom.specs.Order.{rank}
-use Rattle.csp_placed.specs.Fronts.{Covers, ArePlacesBelow, start_cmp, front_cmp, denied_front}
+use Rattle.csp_placed.specs.Fronts.{CoversBelow, ArePlacesBelow, start_cmp, front_cmp, denied_front}
+use Rattle.csp_placed.specs.declared.reach.Below.{Below}
 use Rattle.csp_placed.proofs.Fronts.{paths_total}
 
 -- What the denial decides
@@ -36,58 +37,67 @@ none_apart front a n m = refl
 
 -- The reach
 
--- the files stand before the fronts
-file_lower : (front : List (List ℕ)) (a : Atom) → front_cmp front 4 a ≡ Equal → front_cmp front 5 a ≡ Less
-file_lower front a e = kind_lower (rank a) _ e
+-- what isn't behind the files stands before the fronts
+before_fronts : (front : List (List ℕ)) (a : Atom) → front_cmp front 4 a ≢ Greater → front_cmp front 5 a ≡ Less
+before_fronts front a n = kind_lower (rank a) _ _ n
   where
-    kind_lower : (m : ℕ) (r : Ordering) → ordering_then (nat_cmp m 4) r ≡ Equal → ordering_then (nat_cmp m 5) r ≡ Less
-    kind_lower m r e = grind (arith, nat_tests)
+    kind_lower : (m : ℕ) (r s : Ordering) → ordering_then (nat_cmp m 4) r ≢ Greater → ordering_then (nat_cmp m 5) s ≡ Less
+    kind_lower m r s n = by_test (nat_le m 4) refl
+      where
+        by_test : (t : Bool) → nat_le m 4 ≡ t → ordering_then (nat_cmp m 5) s ≡ Less
+        by_test true is = grind (arith, nat_tests)
+        by_test false is = absurd (n (grind (arith, nat_tests)))
 
-module _ (front : List (List ℕ)) (atoms : List Atom) (first_file last_file first_front last_front : ℕ)
-    (files : ArePlacesBelow front 4 atoms first_file last_file) (fronts : ArePlacesBelow front 5 atoms first_front last_front) where
-  no_file : (k : ℕ) (d : Atom) → k < length atoms → (k < first_file) ⊎ (last_file ≤ k) → front_cmp front 4 (slice_index_or atoms k d) ≢ Equal
-  no_file k d h (inl is) level = let less = files.before k d (omega arith) is in cc (less, level)
-  no_file k d h (inr is) level = let more = files.after k d is h in cc (more, level)
+pub covers_below : (front : List (List ℕ)) (atoms : List Atom) (below : Below)
+    → ArePlacesBelow front 4 atoms below.files.start below.files.end
+    → ArePlacesBelow front 5 atoms below.fronts.start below.fronts.end
+    → CoversBelow (denied_front front) atoms below
+covers_below front atoms below files fronts =
+    let first = files.ordered in
+    let within = files.inside in
+    let apart : below.files.end ≤ below.fronts.start = by_test (nat_lt below.fronts.start below.files.end) refl in
+    record {
+      files = files.ordered;
+      apart = apart;
+      fronts = fronts.ordered;
+      inside = fronts.inside;
+      before = λ k d low high.
+          let less = files.before k d low high in
+          let lower = fronts.before k d low (omega arith) in
+          none_apart front (slice_index_or atoms k d) (λ e. cc (e, less)) (λ e. cc (e, lower));
+      between = λ k d low high.
+          let lower = fronts.before k d (omega arith) high in
+          none_apart front (slice_index_or atoms k d)
+          (λ e. let more = files.after k d low (omega (arith, fronts.ordered, fronts.inside)) in cc (e, more)) (λ e. cc (e, lower));
+      after = λ k d low high.
+          let more = fronts.after k d low high in
+          none_apart front (slice_index_or atoms k d)
+          (λ e. let above = files.after k d (omega (arith, fronts.ordered)) high in cc (e, above)) (λ e. cc (e, more));
+    }
+  where
+    by_test : (t : Bool) → nat_lt below.fronts.start below.files.end ≡ t → below.files.end ≤ below.fronts.start
+    by_test false is = grind (arith, nat_tests)
+    by_test true is =
+        let k = below.fronts.start in
+        let h : k < below.files.end = grind (arith, nat_tests) in
+        let in_list : k < length atoms = omega (arith, h, files.inside) in
+        let lower : front_cmp front 5 (slice_index_or atoms k HostDomain) ≡ Less =
+        before_fronts front (slice_index_or atoms k HostDomain) (λ e. not_above (nat_lt k below.files.start) refl e) in
+        absurd (not_lower (nat_lt k below.fronts.end) refl lower)
+      where
+        k : ℕ
+        k = below.fronts.start
 
-  covers_from : (start : ℕ) → start ≤ first_front → ((k : ℕ) → k < start → (k < first_file) ⊎ (last_file ≤ k))
-      → Covers (denied_front front) atoms start last_front
-  covers_from start low apart =
-      let up = fronts.ordered in
-      let inside = fronts.inside in
-      record {
-        ordered = omega arith;
-        inside = inside;
-        before = λ k d l h.
-            let less = fronts.before k d l (omega arith) in
-            none_apart front (slice_index_or atoms k d) (no_file k d (omega arith) (apart k h)) (λ level. cc (less, level));
-        after = λ k d l h.
-            let more = fronts.after k d l h in
-            none_apart front (slice_index_or atoms k d)
-            (λ level. let less = file_lower front (slice_index_or atoms k d) level in cc (less, more)) (λ level. cc (more, level));
-      }
+        inside : k < below.files.end → k < length atoms
+        inside h = omega (arith, h, files.inside)
 
-  files_first : first_file < last_file → first_file ≤ first_front
-  files_first some = by_tests (nat_lt first_file first_front) (nat_lt first_file last_front) refl refl
-    where
-      less : front_cmp front 5 (slice_index_or atoms first_file HostDomain) ≡ Less
-      less = file_lower front (slice_index_or atoms first_file HostDomain) (files.within first_file HostDomain (omega arith) some)
+        below_end : k < below.files.end
+        below_end = grind (arith, nat_tests)
 
-      by_tests : (s t : Bool) → nat_lt first_file first_front ≡ s → nat_lt first_file last_front ≡ t → first_file ≤ first_front
-      by_tests true t is e = grind (arith, nat_tests)
-      by_tests false true is e =
-          let level = fronts.within first_file HostDomain (grind (arith, nat_tests)) (grind (arith, nat_tests)) in
-          cc (less, level)
-      by_tests false false is e =
-          let inside = files.inside in
-          let more = fronts.after first_file HostDomain (grind (arith, nat_tests)) (omega arith) in
-          cc (less, more)
+        not_above : (t : Bool) → nat_lt k below.files.start ≡ t → front_cmp front 4 (slice_index_or atoms k HostDomain) ≢ Greater
+        not_above true low e = let less = files.before k HostDomain (omega arith) (grind (arith, nat_tests)) in cc (e, less)
+        not_above false low e = let level = files.within k HostDomain (grind (arith, nat_tests)) below_end in cc (e, level)
 
-  pub covers_files : first_file < last_file → Covers (denied_front front) atoms first_file last_front
-  covers_files some = covers_from first_file (files_first some) (λ k h. inl h)
-
-  pub covers_fronts : last_file ≤ first_file → Covers (denied_front front) atoms first_front last_front
-  covers_fronts none = covers_from first_front (omega arith) (λ k h. by_test k (nat_lt k first_file) refl)
-    where
-      by_test : (k : ℕ) (t : Bool) → nat_lt k first_file ≡ t → (k < first_file) ⊎ (last_file ≤ k)
-      by_test k true is = inl (grind (arith, nat_tests))
-      by_test k false is = inr (grind (arith, nat_tests))
+        not_lower : (t : Bool) → nat_lt k below.fronts.end ≡ t → front_cmp front 5 (slice_index_or atoms k HostDomain) ≢ Less
+        not_lower true low e = let level = fronts.within k HostDomain (omega arith) (grind (arith, nat_tests)) in cc (e, level)
+        not_lower false low e = let more = fronts.after k HostDomain (grind (arith, nat_tests)) (inside below_end) in cc (e, more)

@@ -1,5 +1,5 @@
 -- Which atoms of a list that ascends the denial of a front can decide.
-use Rattle.std.specs.Prelude.{◌≡◌, ℕ, ◌≤◌, false, true, List, [], length, take, None}
+use Rattle.std.specs.Prelude.{◌≡◌, ℕ, ◌≤◌, nat_lt, false, true, if◌then◌else◌, List, [], length, take, None}
 use Rattle.std.specs.Cmp.Lexicographic.{slice_cmp}
 use Rattle.std.specs.List.{AllWithin}
 use Rattle.std.specs.List.Sorted.{IsPartitionPoint}
@@ -11,6 +11,7 @@ use Rattle.csp_atom.specs.Order.{rank}
 use Rattle.csp_atom.specs.declared.atom.Atom.{Atom}
 use Rattle.csp_atom.specs.declared.atom.Atom.TheVariants.{PathIs, PathUnder}
 use Rattle.csp_atom.specs.declared.atom.Literal.{Literal}
+use Rattle.csp_placed.specs.declared.reach.Below.{Below}
 
 -- the path that the atom speaks of, with no pieces where it speaks of none
 abbrev pub path_of : Atom → List (List ℕ)
@@ -55,3 +56,21 @@ pub record Covers (literal : Literal) (atoms : List Atom) (start end : ℕ) : Ty
   pub inside : end ≤ length atoms
   pub before : AllWithin (λ atom. follows literal atom ≡ None) atoms 0 start
   pub after : AllWithin (λ atom. follows literal atom ≡ None) atoms end (length atoms)
+
+-- the first of the places of files, or of fronts where there are no files
+abbrev pub start_of : Below → ℕ
+start_of below = if nat_lt below.files.start below.files.end then below.files.start else below.fronts.start
+
+-- P is so of the items outside of the places of the files, and of the fronts behind them
+pub record OutsideOf {X : Type 0} (P : X → Type 0) (xs : List X) (below : Below) : Type 0 where
+  pub files : below.files.start ≤ below.files.end
+  pub apart : below.files.end ≤ below.fronts.start
+  pub fronts : below.fronts.start ≤ below.fronts.end
+  pub inside : below.fronts.end ≤ length xs
+  pub before : AllWithin P xs 0 below.files.start
+  pub between : AllWithin P xs below.files.end below.fronts.start
+  pub after : AllWithin P xs below.fronts.end (length xs)
+
+-- the literal decides none of those atoms
+abbrev pub CoversBelow : Literal → List Atom → Below → Type 0
+CoversBelow literal = OutsideOf (λ (atom : Atom). follows literal atom ≡ None)

@@ -15,4 +15,4 @@ pub use indexed::{IndexedFormula, Parts};
 pub use overlaps::{is_name, overlapping, overlaps_of};
 pub use placed::PlacedFormula;
 pub use placing::{PlacedFormulas, place_formulas};
-pub use reach::{Reach, ascends, places_of, reach_below};
+pub use reach::{Below, Reach, ascends, places_of, reach_below};

@@ -4,8 +4,8 @@ ghost use Rattle.csp_placed.specs.Facts.{Ascends, ArePlacesOf};
 ghost use Rattle.csp_placed.specs.Fronts as spec;
 
 use csp_atom::Atom;
-use csp_atom::order::{compare, compare_paths, rank};
-use csp_model::Bytes;
+use csp_atom::order::{compare, rank};
+use csp_model::Path;
 use std::cmp::Ordering;
 
 /// Places of a list: those from `start` on, up to `end` and without it.
@@ -65,28 +65,45 @@ pub fn places_of(atom: &Atom, atoms: &[Atom]) -> Reach
     }
 }
 
+/// Places of files and of fronts in a list that ascends, where the files stand before the fronts.
+#[derive(Clone, Copy, Debug)]
+pub struct Below {
+    pub files: Reach,
+    pub fronts: Reach,
+}
+
+impl Below {
+    /// The places from the first file, or else the first front, up to the last front.
+    pub fn whole(self) -> Reach
+        ensures start { result.start ≡ spec.start_of self }
+        ensures end { result.end ≡ self.fronts.end }
+    {
+        let first = if self.files.start < self.files.end {
+            self.files
+        } else {
+            self.fronts
+        };
+        Reach {
+            start: first.start,
+            end: self.fronts.end,
+        }
+    }
+}
+
 /// Places of a list that ascends outside of which the denial that the path lies under this front decides no
-/// atom: from the first file below the front, or else the first front below it, to the last front below it.
-/// Takes binary searches.
-pub fn reach_below(front: &[Bytes], atoms: &[Atom]) -> Reach
+/// atom: those of the files and of the fronts below it. Takes binary searches.
+pub fn reach_below(front: &Path, atoms: &[Atom]) -> Below
     requires { Ascends atoms.now }
-    ensures { spec.Covers (spec.denied_front front.now) atoms.now result.start result.end }
+    ensures { spec.CoversBelow (spec.denied_front front.now) atoms.now result }
 {
-    let files = places_below(front, 4, atoms);
-    let fronts = places_below(front, 5, atoms);
-    let start = if files.start < files.end {
-        files.start
-    } else {
-        fronts.start
-    };
-    Reach {
-        start,
-        end: fronts.end,
+    Below {
+        files: places_below(front, 4, atoms),
+        fronts: places_below(front, 5, atoms),
     }
 }
 
 // The places of the atoms of a kind, given by its rank, whose paths begin with the front.
-fn places_below(front: &[Bytes], kind: u8, atoms: &[Atom]) -> Reach
+fn places_below(front: &Path, kind: u8, atoms: &[Atom]) -> Reach
     requires { Ascends atoms.now }
     ensures { spec.ArePlacesBelow front.now kind atoms.now result.start result.end }
 {
@@ -97,7 +114,7 @@ fn places_below(front: &[Bytes], kind: u8, atoms: &[Atom]) -> Reach
 
 // Where those places end that begin here. Most fronts have none or one, so the first are looked at before a
 // search: paths may be long.
-fn end_below(front: &[Bytes], kind: u8, start: usize, atoms: &[Atom]) -> usize
+fn end_below(front: &Path, kind: u8, start: usize, atoms: &[Atom]) -> usize
     requires ascends { Ascends atoms.now }
     requires begin { spec.BeginAt front.now kind atoms.now start }
     ensures inside { result ≤ length atoms.now }
@@ -113,29 +130,23 @@ fn end_below(front: &[Bytes], kind: u8, start: usize, atoms: &[Atom]) -> usize
 }
 
 // Where the atom stands to those of the kind whose paths begin with the front: `Equal` if it is one of them.
-fn compare_to_front(atom: &Atom, kind: u8, front: &[Bytes]) -> Ordering
+fn compare_to_front(atom: &Atom, kind: u8, front: &Path) -> Ordering
     ensures { result ≡ spec.front_cmp front.now kind atom.now }
 {
     match rank(atom).cmp(&kind) {
-        Ordering::Equal => compare_start(path_of(atom), front),
+        Ordering::Equal => compare_start(atom, front),
         apart => apart,
     }
 }
 
-// The order of a path, cut to the length of the front, and the front.
-fn compare_start(path: &[Bytes], front: &[Bytes]) -> Ordering
-    ensures { result ≡ spec.start_cmp path.now front.now }
-{
-    let end = path.len().min(front.len());
-    compare_paths(&path[..end], front)
-}
-
-// The path that the atom speaks of, with no pieces where it speaks of none.
-fn path_of(atom: &Atom) -> &[Bytes]
-    ensures { result.now ≡ spec.path_of atom.now }
+// The order of the path that the atom speaks of, cut to the length of the front, and the front. It has no
+// pieces where the atom speaks of none.
+fn compare_start(atom: &Atom, front: &Path) -> Ordering
+    ensures { result ≡ spec.start_cmp (spec.path_of atom.now) front.now }
 {
     match atom {
-        Atom::PathIs(path) | Atom::PathUnder(path) => path.as_slice(),
-        _ => &[],
+        Atom::PathIs(path) | Atom::PathUnder(path) => path.compare_start(front),
+        _ if front.as_slice().is_empty() => Ordering::Equal,
+        _ => Ordering::Less,
     }
 }

@@ -2,15 +2,18 @@
 ghost use Rattle.std.specs.Prelude.{◌≡◌, IfOk};
 
 use crate::uses::note_facts;
-use csp_atom::{Atom, follows_as};
+use csp_atom::Atom;
 use csp_model::Memory;
-use csp_placed::{PlacedFormula, PlacedFormulas, Reach, ascends, reach_below};
+use csp_placed::{Below, PlacedFormula, PlacedFormulas, Reach, ascends, reach_below};
 use csp_valuation::Valuation;
 use std::alloc::Global;
 use std::marker::Model;
 
 // Of at most so many policies each is looked at after any literal.
 const FEW_POLICIES: usize = 4;
+
+// So many facts are too many to be asked one by one.
+const MANY_FACTS: usize = 16;
 
 /// An overview of the formulas at a shape, for all searches there: which policies of the first list speak of
 /// each atom, and which atoms hold where others do. It is seen as the atoms. One of other formulas makes no
@@ -19,8 +22,9 @@ const FEW_POLICIES: usize = 4;
 pub struct Overview<'f> {
     atoms: &'f [Atom],
     ascending: bool,
-    // For each policy of the first list the place of a fact that makes its formula true by itself, if one does.
-    alone: Vec<Option<usize>>,
+    // For each policy of the first list the places of a few facts of its formula, which isn't false while none of
+    // them is; or of no facts, where many would be needed.
+    enough: Vec<Vec<usize>>,
     // The policies in whose formulas an atom stands, by its place. They rise.
     mentions: Vec<(usize, usize)>,
     // The places of the fronts, and of the atom that the host is a domain, which hold where other atoms do.
@@ -46,10 +50,10 @@ impl<'f> Overview<'f> {
         ensures { IfOk result (λ made. made ≡ formulas.now.atoms) }
     {
         let atoms = formulas.atoms.as_slice();
-        let mut alone = Vec::with_capacity(alloc, formulas.first.len())?;
+        let mut enough = Vec::with_capacity(alloc, formulas.first.len())?;
         let mut mentions = Vec::new(alloc);
         for (policy, formula) in formulas.first.as_slice().iter().enumerate() {
-            alone.push(fact_alone(formula.formula()))?;
+            enough.push(enough_for(alloc, formula.formula())?)?;
             note_facts(formula.formula(), policy, &mut mentions)?;
         }
         mentions.sort_unstable();
@@ -57,7 +61,7 @@ impl<'f> Overview<'f> {
         Ok(Overview {
             atoms,
             ascending: ascends(atoms),
-            alone,
+            enough,
             mentions,
             fronts: fronts_of(alloc, atoms)?,
             domain: atoms
@@ -72,15 +76,18 @@ impl<'f> Overview<'f> {
 
     // How many policies the first list has.
     pub(crate) fn policies(&self) -> usize {
-        self.alone.len()
+        self.enough.len()
     }
 
-    // Whether the formula of this policy isn't false, as far as the fact tells that makes it true by itself.
+    // Whether the formula of this policy isn't false, as far as a few of its facts tell.
     pub(crate) fn may_hold(&self, policy: usize, valuation: &Valuation) -> bool {
-        match self.alone.get(policy) {
-            Some(Some(place)) => valuation.value(*place) != Some(false),
-            _ => false,
-        }
+        let Some(places) = self.enough.get(policy) else {
+            return false;
+        };
+        !places.is_empty()
+            && places
+                .iter()
+                .all(|place| valuation.value(*place) != Some(false))
     }
 
     pub(crate) fn fronts(&self) -> &[usize] {
@@ -100,15 +107,15 @@ impl<'f> Overview<'f> {
         found: &mut Vec<usize>,
     ) -> Result<bool, Memory> {
         found.clear();
-        if self.alone.len() <= FEW_POLICIES {
+        if self.enough.len() <= FEW_POLICIES {
             return Ok(false);
         }
         let is_told = match self.atoms.get(place) {
             None | Some(Atom::HostDomain) => false,
             Some(Atom::HostUnder(_)) => self.add_names(valuation.overlapping(place), found)?,
-            Some(front @ Atom::PathUnder(path)) if self.ascending => {
-                let reach = reach_below(path.as_slice(), self.atoms);
-                self.add_below(front, place, reach, found)?
+            Some(Atom::PathUnder(front)) if self.ascending => {
+                let Below { files, fronts } = reach_below(front, self.atoms);
+                self.add_within(files, found)? && self.add_within(fronts, found)?
             }
             Some(Atom::PathUnder(_)) => false,
             Some(_) => self.add_within(reach_of(place), found)?,
@@ -138,7 +145,7 @@ impl<'f> Overview<'f> {
             .partition_point(|(place, _)| *place < reach.start);
         let rest = &self.mentions[start..];
         let within = &rest[..rest.partition_point(|(place, _)| *place < reach.end)];
-        if found.len().saturating_add(within.len()) > self.alone.len() {
+        if found.len().saturating_add(within.len()) > self.enough.len() {
             return Ok(false);
         }
         for (_, policy) in within {
@@ -146,54 +153,79 @@ impl<'f> Overview<'f> {
         }
         Ok(true)
     }
+}
 
-    // The same of the paths that lie under the front at this place: of files, which stand at the start of its
-    // reach, and of fronts from its place on.
-    fn add_below(
-        &self,
-        front: &Atom,
-        place: usize,
-        reach: Reach,
-        found: &mut Vec<usize>,
-    ) -> Result<bool, Memory> {
-        let files = Reach {
-            start: reach.start,
-            end: self.end_of_files(front, reach.start, place),
-        };
-        let fronts = Reach {
-            start: place,
-            end: reach.end,
-        };
-        Ok(self.add_within(files, found)? && self.add_within(fronts, found)?)
+// The places of a few facts of a formula which isn't false while none of them is.
+fn enough_for(alloc: Global, formula: &PlacedFormula) -> Result<Vec<usize>, Memory> {
+    let mut places = Vec::new(alloc);
+    if enough_of(formula) < MANY_FACTS {
+        add_enough(formula, &mut places)?;
     }
+    Ok(places)
+}
 
-    // Where the files under the front end that begin here, before its own place.
-    fn end_of_files(&self, front: &Atom, start: usize, place: usize) -> usize {
-        for end in start..place {
-            match self.atoms.get(end) {
-                Some(atom) if follows_as(front, false, atom).is_some() => {}
-                _ => return end,
-            }
-        }
-        place
+// How few facts are enough for a formula: of an and those of each part, of an or those of one.
+#[cycle(enough_of)]
+fn enough_of(formula: &PlacedFormula) -> usize {
+    match formula {
+        PlacedFormula::Fact(_) => 1,
+        PlacedFormula::FactAnd { parts, .. } => enough_of_all(parts).saturating_add(1),
+        PlacedFormula::Every(parts) => enough_of_all(parts),
+        PlacedFormula::OneOf(parts) => enough_of_one(parts).0,
+        PlacedFormula::Constant(true) => 0,
+        PlacedFormula::Constant(false) | PlacedFormula::Not(_) => MANY_FACTS,
     }
 }
 
-// The place of a fact that makes the formula true by itself: the first that is a part of an or, or of an or
-// in it.
-fn fact_alone(formula: &PlacedFormula) -> Option<usize> {
-    match formula {
-        PlacedFormula::Fact(place) => Some(*place),
-        PlacedFormula::OneOf(parts) => {
-            for part in parts {
-                if let Some(place) = fact_alone(part) {
-                    return Some(place);
-                }
-            }
-            None
-        }
-        _ => None,
+#[cycle(enough_of)]
+fn enough_of_all(parts: &[PlacedFormula]) -> usize {
+    let mut count: usize = 0;
+    'every: for part in parts {
+        count = count.saturating_add(enough_of(part));
     }
+    count
+}
+
+// The fewest that are enough for one of the parts, and its number.
+#[cycle(enough_of)]
+fn enough_of_one(parts: &[PlacedFormula]) -> (usize, usize) {
+    let mut fewest = (MANY_FACTS, 0);
+    'one: for (number, part) in parts.iter().enumerate() {
+        let count = enough_of(part);
+        if count < fewest.0 {
+            fewest = (count, number);
+        }
+        if count <= 1 {
+            return fewest;
+        }
+    }
+    fewest
+}
+
+// Adds the places of those facts.
+#[cycle(add_enough)]
+fn add_enough(formula: &PlacedFormula, places: &mut Vec<usize>) -> Result<(), Memory> {
+    match formula {
+        PlacedFormula::Fact(place) => Ok(places.push(*place)?),
+        PlacedFormula::FactAnd { place, parts } => {
+            places.push(*place)?;
+            add_enough_of_all(parts, places)
+        }
+        PlacedFormula::Every(parts) => add_enough_of_all(parts, places),
+        PlacedFormula::OneOf(parts) => match parts.get(enough_of_one(parts).1) {
+            Some(part) => add_enough(part, places),
+            None => Ok(()),
+        },
+        PlacedFormula::Constant(_) | PlacedFormula::Not(_) => Ok(()),
+    }
+}
+
+#[cycle(add_enough)]
+fn add_enough_of_all(parts: &[PlacedFormula], places: &mut Vec<usize>) -> Result<(), Memory> {
+    'every: for part in parts {
+        add_enough(part, places)?;
+    }
+    Ok(())
 }
 
 // This place alone.

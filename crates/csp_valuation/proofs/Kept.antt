@@ -11,10 +11,11 @@ use Rattle.csp_valuation.specs.Changes.{GaveOnly}
 use Rattle.csp_valuation.specs.Marks.{Decision, answered, mark, cleared}
 use Rattle.csp_valuation.specs.Names.{IsNew, Lists}
 use Rattle.csp_valuation.specs.Paths.{literal_of, literals_of}
-use Rattle.csp_valuation.specs.Reach.{KeepsOutside}
-use Rattle.csp_placed.specs.Fronts.{Covers}
+use Rattle.csp_valuation.specs.Reach.{KeepsBelow, KeepsOutside}
+use Rattle.csp_placed.specs.Fronts.{Covers, CoversBelow}
+use Rattle.csp_placed.specs.declared.reach.Below.{Below}
 use Rattle.csp_valuation.specs.declared.taken.Taken.{Taken}
-use Rattle.csp_valuation.proofs.Marking.{mark_taken, literals_push, length_literals}
+use Rattle.csp_valuation.proofs.Marking.{mark_taken, length_literals}
 use Rattle.csp_valuation.proofs.Within.{marked_none}
 
 kept_answer : (o : Option Bool) (n m : ℕ) (rest : Option Decision) → n < m → cleared m rest ≡ rest → cleared m (answered o n rest) ≡ answered o n rest
@@ -58,20 +59,41 @@ kept_outside n ls l atoms start end e reach =
       after = λ j d low high. kept_at n ls l atoms j d e (omega arith) (λ a. reach.after j a low (omega arith));
     }
 
-pub keeps_outside : (path later : List Taken) (s : Taken) (n : ℕ) (atoms : List Atom) (marks : List (Option Decision)) (start end : ℕ)
-    → marks ≡ map (mark 1 (literals_of path)) atoms → n ≡ length later + 1 → path ≡ later ++ s ∷ []
+pub keeps_outside : (path : List Taken) (s : Taken) (n : ℕ) (atoms : List Atom) (marks : List (Option Decision)) (start end : ℕ)
+    → marks ≡ map (mark 1 (literals_of path ++ literal_of s ∷ [])) atoms → n ≡ length path + 1
     → Covers (literal_of s) atoms start end → KeepsOutside n marks start end
-keeps_outside path later s n atoms marks start end b e p reach =
-    rw (b, p, literals_push later s) (kept_outside n (literals_of later) (literal_of s) atoms start end (e ∙ ap (λ k. k + 1) (sym (length_literals later))) reach)
+keeps_outside path s n atoms marks start end b e reach =
+    rw b (kept_outside n (literals_of path) (literal_of s) atoms start end (e ∙ ap (λ k. k + 1) (sym (length_literals path))) reach)
 
-pub gives_only : (path later : List Taken) (s : Taken) (n : ℕ) (atoms : List Atom) (marks : List (Option Decision)) (listed : List ℕ)
-    → marks ≡ map (mark 1 (literals_of path)) atoms → n ≡ length later + 1 → path ≡ later ++ s ∷ []
+kept_below : (n : ℕ) (ls : List Literal) (l : Literal) (atoms : List Atom) (below : Below) → n ≡ length ls + 1 → CoversBelow l atoms below
+    → KeepsBelow n (map (mark 1 (ls ++ l ∷ [])) atoms) below
+kept_below n ls l atoms below e covers =
+    let long : length (map (mark 1 (ls ++ l ∷ [])) atoms) ≡ length atoms = length-map atoms (mark 1 (ls ++ l ∷ [])) in
+    let inside = covers.inside in
+    record {
+      files = covers.files;
+      apart = covers.apart;
+      fronts = covers.fronts;
+      inside = omega arith;
+      before = λ j d low high. kept_at n ls l atoms j d e (omega (arith, high, covers.files, covers.apart, covers.fronts, inside)) (λ a. covers.before j a low high);
+      between = λ j d low high. kept_at n ls l atoms j d e (omega (arith, high, covers.fronts, inside)) (λ a. covers.between j a low high);
+      after = λ j d low high. kept_at n ls l atoms j d e (omega (arith, high, long)) (λ a. covers.after j a low (omega (arith, high, long)));
+    }
+
+pub keeps_below : (path : List Taken) (s : Taken) (n : ℕ) (atoms : List Atom) (marks : List (Option Decision)) (below : Below)
+    → marks ≡ map (mark 1 (literals_of path ++ literal_of s ∷ [])) atoms → n ≡ length path + 1
+    → CoversBelow (literal_of s) atoms below → KeepsBelow n marks below
+keeps_below path s n atoms marks below b e covers =
+    rw b (kept_below n (literals_of path) (literal_of s) atoms below (e ∙ ap (λ k. k + 1) (sym (length_literals path))) covers)
+
+pub gives_only : (path : List Taken) (s : Taken) (n : ℕ) (atoms : List Atom) (marks : List (Option Decision)) (listed : List ℕ)
+    → marks ≡ map (mark 1 (literals_of path ++ literal_of s ∷ [])) atoms → n ≡ length path + 1
     → Lists (literal_of s) atoms listed → GaveOnly n marks listed
-gives_only path later s n atoms marks listed b e p lists j d h = elim (lists j HostDomain low) [
-  | inl none ↦ inl (rw (b, p, literals_push later s)
-      (kept_at n (literals_of later) (literal_of s) atoms j d (e ∙ ap (λ k. k + 1) (sym (length_literals later))) low (λ a. ap (follows (literal_of s)) (get_or_default atoms j a HostDomain low) ∙ none)))
+gives_only path s n atoms marks listed b e lists j d h = elim (lists j HostDomain low) [
+  | inl none ↦ inl (rw b
+      (kept_at n (literals_of path) (literal_of s) atoms j d (e ∙ ap (λ k. k + 1) (sym (length_literals path))) low (λ a. ap (follows (literal_of s)) (get_or_default atoms j a HostDomain low) ∙ none)))
   | inr has ↦ inr has
 ]
   where
     low : j < length atoms
-    low = omega (arith, ap length b, length-map atoms (mark 1 (literals_of path)))
+    low = omega (arith, ap length b, length-map atoms (mark 1 (literals_of path ++ literal_of s ∷ [])))

@@ -3,6 +3,7 @@ pub mod Changing
 pub mod Correcting
 pub mod Denying
 pub mod Excluded
+pub mod Halves
 pub mod Held
 pub mod Kept
 pub mod Leads

@@ -7,6 +7,8 @@ use Rattle.csp_atom.specs.declared.atom.Atom.TheVariants.{HostIs, HostUnder, Hos
 use Rattle.csp_atom.specs.declared.atom.Literal.{Literal}
 use Rattle.csp_valuation.specs.Marks.{Decision, cleared}
 use Rattle.csp_atom.specs.Order.{rank}
+use Rattle.csp_placed.specs.Fronts.{OutsideOf}
+use Rattle.csp_placed.specs.declared.reach.Below.{Below}
 use Rattle.csp_valuation.specs.Paths.{literal_of, denial_of}
 use Rattle.csp_valuation.specs.declared.taken.Taken.{Taken}
 
@@ -66,3 +68,7 @@ pub record KeepsOutside (by : ℕ) (marks : List (Option Decision)) (start end :
   pub inside : end ≤ length marks
   pub before : AllWithin (λ mark. cleared by mark ≡ mark) marks 0 start
   pub after : AllWithin (λ mark. cleared by mark ≡ mark) marks end (length marks)
+
+-- nor any but at the places of these files and fronts
+abbrev pub KeepsBelow : ℕ → List (Option Decision) → Below → Type 0
+KeepsBelow by = OutsideOf (λ (mark : Option Decision). cleared by mark ≡ mark)

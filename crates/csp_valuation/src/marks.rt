@@ -7,12 +7,12 @@ ghost use Rattle.csp_valuation.specs.Changes.{GaveOnly, cleared_at, marked_at};
 ghost use Rattle.csp_valuation.specs.Marks.{all_marked, cleared, denied, forgotten, value_of};
 ghost use Rattle.csp_valuation.specs.Names.{Lists, corrected};
 ghost use Rattle.csp_valuation.specs.Paths.{denial_of, literal_of};
-ghost use Rattle.csp_valuation.specs.Reach.{Excludes, IsNear, KeepsOutside};
-ghost use Rattle.csp_placed.specs.Fronts.{Covers};
+ghost use Rattle.csp_valuation.specs.Reach.{Excludes, IsNear, KeepsBelow, KeepsOutside};
+ghost use Rattle.csp_placed.specs.Fronts.{Covers, CoversBelow};
 
 use crate::taken::Taken;
 use csp_atom::{Atom, follows_as};
-use csp_placed::Reach;
+use csp_placed::{Below, Reach};
 use std::marker::Model;
 
 // What is decided of an atom: a truth value, and the number of the literal that gave it, where that of the
@@ -135,6 +135,41 @@ pub(crate) fn mark_within(
     );
 }
 
+// Marks the atoms that are not decided and that this literal decides, which are files or fronts below one.
+pub(crate) fn mark_below(
+    below: Below,
+    marks: &mut [Mark],
+    atoms: &[Atom],
+    literal: Taken,
+    by: usize,
+)
+    requires numbered { 0 < by }
+    requires long { length marks.old ≡ length atoms.now }
+    requires covers { CoversBelow (literal_of literal) atoms.now below }
+    ensures { marks.new ≡ all_marked (literal_of literal.entry) by marks.old atoms.now }
+{
+    let Below { files, fronts } = below;
+    let (marks_before, marks_after) = marks.split_at_mut(files.end);
+    let (before, after) = atoms.split_at(files.end);
+    mark_reach(files, marks_before, before, literal, by);
+    mark_reach(fronts.seen_from(files.end), marks_after, after, literal, by);
+}
+
+// Marks what this literal decides, which stands within the reach.
+fn mark_reach(reach: Reach, marks: &mut [Mark], atoms: &[Atom], literal: Taken, by: usize)
+    requires numbered { 0 < by }
+    requires long { length marks.old ≡ length atoms.now }
+    requires covers { Covers (literal_of literal) atoms.now reach.start reach.end }
+    ensures { marks.new ≡ all_marked (literal_of literal.entry) by marks.old atoms.now }
+{
+    let Reach { start, end } = reach;
+    let all = Reach {
+        start: 0,
+        end: end - start,
+    };
+    mark_all(all, &mut marks[start..end], &atoms[start..end], literal, by);
+}
+
 // Marks the first atoms, so many, which are of the literal's kind, and then the rest.
 fn mark_by_kind(
     near: Reach,
@@ -240,6 +275,17 @@ pub(crate) fn clear_within(reach: Reach, marks: &mut [Mark], by: usize)
 {
     let Reach { start, end } = reach;
     clear_all(&mut marks[start..end], by);
+}
+
+// Clears what the literal of this number decided, which are files or fronts below one.
+pub(crate) fn clear_below(below: Below, marks: &mut [Mark], by: usize)
+    requires { KeepsBelow by marks.old below }
+    ensures { marks.new ≡ map (cleared by) marks.old }
+{
+    let Below { files, fronts } = below;
+    let (before, after) = marks.split_at_mut(files.end);
+    clear_within(files, before, by);
+    clear_within(fronts.seen_from(files.end), after, by);
 }
 
 fn clear_all(marks: &mut [Mark], by: usize)

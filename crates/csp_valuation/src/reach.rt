@@ -1,15 +1,15 @@
 //! The places of the atoms that a literal can decide, where the atoms of a list ascend.
-ghost use Rattle.std.specs.Prelude.{◌≡◌, ◌≤◌, true};
+ghost use Rattle.std.specs.Prelude.{◌≡◌, ◌≤◌, IfSome, true};
 ghost use Rattle.std.specs.List.{AllWithin};
 ghost use Rattle.csp_placed.specs.Facts.{Ascends};
-ghost use Rattle.csp_placed.specs.Fronts.{Covers};
+ghost use Rattle.csp_placed.specs.Fronts.{Covers, CoversBelow};
 ghost use Rattle.csp_valuation.specs.Paths.{denial_of, literal_of};
 ghost use Rattle.csp_valuation.specs.Reach as spec;
 
 use crate::taken::Taken;
 use csp_atom::Atom;
 use csp_atom::order::rank;
-use csp_placed::{Reach, places_of, reach_below};
+use csp_placed::{Below, Reach, places_of, reach_below};
 
 // Places outside of which the literal decides no atom: all, where it isn't known that the atoms ascend.
 pub(crate) fn reach_of(literal: Taken, atoms: &[Atom], ascending: bool) -> Reach
@@ -23,6 +23,20 @@ pub(crate) fn reach_of(literal: Taken, atoms: &[Atom], ascending: bool) -> Reach
             start: 0,
             end: atoms.len(),
         }
+    }
+}
+
+// The places of the files and of the fronts outside of which the literal decides no atom, where it denies that
+// the path lies under a front.
+pub(crate) fn denied_below(literal: Taken, atoms: &[Atom], ascending: bool) -> Option<Below>
+    requires { ascending ≡ true → Ascends atoms.now }
+    ensures { IfSome result (CoversBelow (literal_of literal.entry) atoms.now) }
+{
+    match literal.atom {
+        Atom::PathUnder(front) if ascending && !literal.positive => {
+            Some(reach_below(front, atoms))
+        }
+        _ => None,
     }
 }
 
@@ -85,7 +99,7 @@ fn reach_by_order(literal: Taken, atoms: &[Atom]) -> Reach
     ensures { Covers (literal_of literal.entry) atoms.now result.start result.end }
 {
     match literal.atom {
-        Atom::PathUnder(front) if !literal.positive => reach_below(front.as_slice(), atoms),
+        Atom::PathUnder(front) if !literal.positive => reach_below(front, atoms).whole(),
         _ => reach_by_kind(literal, atoms),
     }
 }

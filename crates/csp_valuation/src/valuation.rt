@@ -16,11 +16,13 @@ ghost use Rattle.csp_valuation.specs.Valuations.{value_at};
 
 use crate::denial::{denies_each, denies_indexed};
 use crate::glance::{Glance, Glimpse, look};
-use crate::marks::{Mark, clear_listed, clear_within, forget_all, mark_within};
+use crate::marks::{
+    Mark, clear_below, clear_listed, clear_within, forget_all, mark_below, mark_within,
+};
 use crate::names::{
     Names, denied_names, mark_names, names_beside, narrowest_name, pop_name, push_name,
 };
-use crate::reach::{kind_end_of, near_of, reach_of};
+use crate::reach::{denied_below, kind_end_of, near_of, reach_of};
 use crate::standing::{Standing, standing_under};
 use crate::taken::Taken;
 use csp_atom::{Atom, follows_as};
@@ -35,11 +37,11 @@ use std::marker::Model;
 /// What the last literal decides is marked only once another is taken on top of it, so a literal that is
 /// taken and taken back at once costs nothing. In a list that ascends, as `place_formulas` makes it, a
 /// literal that decides no atom but its own is marked and cleared by a binary search. The denial that a path
-/// lies under a front takes binary searches and time linear in the atoms from the first file below the front,
-/// or else the first front below it, to the last front below it. The denial of a host or of a suffix of the
-/// list takes a binary search and time linear in the names that can hold with it, where `overlaps_of` lists
-/// them. Any other literal takes time linear in the atoms on the same part of a check, with no look at a name
-/// that isn't listed where one holds. In other lists each literal takes time linear in all atoms.
+/// lies under a front takes binary searches and time linear in the files and the fronts below it. The denial
+/// of a host or of a suffix of the list takes a binary search and time linear in the names that can hold with
+/// it, where `overlaps_of` lists them. Any other literal takes time linear in the atoms on the same part of a
+/// check, with no look at a name that isn't listed where one holds. In other lists each literal takes time
+/// linear in all atoms.
 #[derive(Debug, Drop)]
 pub struct Valuation<'a> {
     atoms: Vec<Atom>,
@@ -136,14 +138,14 @@ impl<'a> Valuation<'a> {
             self.waits = false;
             return Some(last);
         }
-        let by = self.path.len() + 1;
-        match denied_names(last, &self.overlaps, &self.atoms, self.ascending) {
-            Some(listed) => clear_listed(listed, &mut self.marks, by),
-            None => {
-                let reach = reach_of(last, &self.atoms, self.ascending);
-                clear_within(reach, &mut self.marks, by);
-            }
-        }
+        unmark(
+            last,
+            &self.path,
+            &mut self.marks,
+            &self.atoms,
+            self.ascending,
+            &self.overlaps,
+        );
         Some(last)
     }
 
@@ -307,11 +309,42 @@ fn settle(
             mark_names(names, marks, atoms, *last, by);
             return;
         }
+        if let Some(below) = denied_below(*last, atoms, ascending) {
+            mark_below(below, marks, atoms, *last, by);
+            return;
+        }
         let reach = reach_of(*last, atoms, ascending);
         let near = near_of(*last, reach, atoms, ascending);
         let kind_end = kind_end_of(*last, reach, atoms, ascending);
         mark_within(reach, near, kind_end, marks, atoms, *last, by);
     }
+}
+
+// Clears what a literal decided which was taken on top of this path.
+fn unmark(
+    last: Taken,
+    path: &[Taken],
+    marks: &mut [Mark],
+    atoms: &[Atom],
+    ascending: bool,
+    overlaps: &[Vec<usize>],
+)
+    requires marked { marks.old
+        ≡ map (mark 1 (literals_of path.now ++ literal_of last ∷ [])) atoms.now }
+    requires ascends { ascending ≡ true → Ascends atoms.now }
+    requires overlaps { AreOverlaps atoms.now overlaps.now }
+    ensures { marks.new ≡ map (mark 1 (literals_of path.now)) atoms.now }
+{
+    let by = path.len() + 1;
+    if let Some(listed) = denied_names(last, overlaps, atoms, ascending) {
+        clear_listed(listed, marks, by);
+        return;
+    }
+    if let Some(below) = denied_below(last, atoms, ascending) {
+        clear_below(below, marks, by);
+        return;
+    }
+    clear_within(reach_of(last, atoms, ascending), marks, by);
 }
 
 // What the last literal of a path says of an atom, if it waits.

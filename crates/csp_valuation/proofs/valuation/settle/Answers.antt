@@ -20,8 +20,17 @@ returns-in-Some-names_beside c =
     let marked = rw (c.if-not-waits.false, settled_before path before last joined) at c.requires.marked in
     marks_taken before path last (length before + 1) c.args.atoms.now c.args.marks.now c.mark_names.new.marks marked refl c.mark_names.ensures joined
 
-pub returns-in_default-names_beside : goal.returns-in_default-names_beside
-returns-in_default-names_beside c =
+pub returns-in-Some-denied_below : goal.returns-in-Some-denied_below
+returns-in-Some-denied_below c =
+    let path = c.args.path.now in
+    let before = c.in-Some.before.now in
+    let last = c.in-Some.last.now in
+    let joined = c.in-Some.ensures.cases.0 in
+    let marked = rw (c.if-not-waits.false, settled_before path before last joined) at c.requires.marked in
+    marks_taken before path last (length before + 1) c.args.atoms.now c.args.marks.now c.mark_below.new.marks marked refl c.mark_below.ensures joined
+
+pub returns-in_default-denied_below : goal.returns-in_default-denied_below
+returns-in_default-denied_below c =
     let path = c.args.path.now in
     let before = c.in-Some.before.now in
     let last = c.in-Some.last.now in
