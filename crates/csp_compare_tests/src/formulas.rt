@@ -282,7 +282,8 @@ const ALIKE: &str = "Content-Security-Policy: \
     style-src-attr 'sha256-47DEQpj8HBSa+/TImW+5JCeuQeRkm5NMpJWZG3hSuFU=' 'nonce-b' 'unsafe-hashes'; \
     script-src-attr 'unsafe-hashes' 'sha256-47DEQpj8HBSa-_TImW-5JCeuQeRkm5NMpJWZG3hSuFU='";
 
-// A policy whose formulas of different kinds of lists have no atom and are equal: none of them matches anything.
+// A policy whose formulas of different kinds of lists have no atom and are equal: none of them matches
+// anything.
 const BARE: &str =
     "Content-Security-Policy: default-src 'none'; img-src 'report-sample' 'unsafe-eval'; \
     font-src 'none'; media-src 'report-sample'; connect-src * 'report-sample'; form-action 'none'; \

@@ -223,8 +223,8 @@ fn step_of_open(
     })
 }
 
-// The leaf of a policy of the first list that surely allows nothing more, if there is one among those that the
-// last literal can have brought to it.
+// The leaf of a policy of the first list that surely allows nothing more, if there is one among those that
+// the last literal can have brought to it.
 fn blocking(
     question: Question,
     valuation: &Valuation,

@@ -22,8 +22,8 @@ const MANY_FACTS: usize = 16;
 pub struct Overview<'f> {
     atoms: &'f [Atom],
     ascending: bool,
-    // For each policy of the first list the places of a few facts of its formula, which isn't false while none of
-    // them is; or of no facts, where many would be needed.
+    // For each policy of the first list the places of a few facts of its formula, which isn't false while none
+    // of them is; or of no facts, where many would be needed.
     enough: Vec<Vec<usize>>,
     // The policies in whose formulas an atom stands, by its place. They rise.
     mentions: Vec<(usize, usize)>,

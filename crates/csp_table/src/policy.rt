@@ -76,8 +76,8 @@ impl PolicyFormulas {
     }
 }
 
-// The place of the formula of a shape. It is compiled where no question so far has an equal one. Questions are
-// compared whole before lists are gone through.
+// The place of the formula of a shape. It is compiled where no question so far has an equal one. Questions
+// are compared whole before lists are gone through.
 fn place_at(
     alloc: Global,
     policy: &Policy,

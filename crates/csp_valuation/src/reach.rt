@@ -26,8 +26,8 @@ pub(crate) fn reach_of(literal: Taken, atoms: &[Atom], ascending: bool) -> Reach
     }
 }
 
-// The places of the files and of the fronts outside of which the literal decides no atom, where it denies that
-// the path lies under a front.
+// The places of the files and of the fronts outside of which the literal decides no atom, where it denies
+// that the path lies under a front.
 pub(crate) fn denied_below(literal: Taken, atoms: &[Atom], ascending: bool) -> Option<Below>
     requires { ascending ≡ true → Ascends atoms.now }
     ensures { IfSome result (CoversBelow (literal_of literal.entry) atoms.now) }
