@@ -52,6 +52,8 @@ pub(crate) struct Hints<'f> {
     looks: Vec<(usize, Glance)>,
     // For each literal of the path.
     turns: Vec<Turn>,
+    // The places of the names of hosts of which the path says that they hold.
+    names: Vec<usize>,
     last: Last,
     suspects: Suspects,
 }
@@ -65,11 +67,12 @@ impl<'f> Hints<'f> {
     ) -> Result<Hints<'f>, Memory> {
         Ok(Hints {
             overview,
-            uses: Uses::new(alloc, formula, overview.atoms().len())?,
+            uses: Uses::new(alloc, formula, overview.atoms())?,
             second: Glance::default(),
             first: vec![in alloc; Glance::default(); overview.policies()]?,
             looks: Vec::new(alloc),
             turns: Vec::new(alloc),
+            names: Vec::new(alloc),
             last: Last::Anything,
             suspects: Suspects {
                 are_all: true,
@@ -138,7 +141,9 @@ impl<'f> Hints<'f> {
                 !self
                     .uses
                     .may_hold_with_wide(place, valuation, self.overview)
-                    && !self.uses.may_have_true_part(place, valuation)
+                    && !self
+                        .uses
+                        .may_have_true_part(place, self.names.last().copied(), valuation)
             }
             Last::Anything => false,
         }
@@ -151,6 +156,9 @@ impl<'f> Hints<'f> {
             second: self.second,
             looks: self.looks.len(),
         })?;
+        if self.overview.has_name_at(place) {
+            self.names.push(place)?;
+        }
         self.last = Last::OwnParts { place };
         self.suspects.are_all = true;
         Ok(())
@@ -164,6 +172,9 @@ impl<'f> Hints<'f> {
         };
         let (place, looks) = (turn.place, turn.looks);
         self.second = turn.second;
+        if self.overview.has_name_at(place) {
+            self.names.pop();
+        }
         self.last = if self.uses.is_negated(place) {
             Last::Anything
         } else {

@@ -4,7 +4,7 @@ ghost use Rattle.std.specs.Prelude.{◌≡◌, IfOk};
 use crate::uses::note_facts;
 use csp_atom::Atom;
 use csp_model::Memory;
-use csp_placed::{Below, PlacedFormula, PlacedFormulas, Reach, ascends, reach_below};
+use csp_placed::{Below, PlacedFormula, PlacedFormulas, Reach, ascends, is_name, reach_below};
 use csp_valuation::Valuation;
 use std::alloc::Global;
 use std::marker::Model;
@@ -72,6 +72,11 @@ impl<'f> Overview<'f> {
 
     pub(crate) fn atoms(&self) -> &[Atom] {
         self.atoms
+    }
+
+    // Whether the atom at a place is on the name of a host.
+    pub(crate) fn has_name_at(&self, place: usize) -> bool {
+        self.atoms.get(place).is_some_and(|atom| is_name(atom))
     }
 
     // How many policies the first list has.

@@ -2,7 +2,7 @@
 use crate::overview::Overview;
 use csp_atom::Atom;
 use csp_model::Memory;
-use csp_placed::PlacedFormula;
+use csp_placed::{PlacedFormula, is_name};
 use csp_valuation::Valuation;
 use std::alloc::Global;
 
@@ -19,25 +19,29 @@ pub(crate) struct Uses<'f> {
     // The parts of the formula, those of an or in it among them, by the places of the facts that stand in
     // them.
     parts: Vec<(usize, &'f PlacedFormula)>,
+    // Whether it stands in a part that speaks of no name of a host.
+    nameless: Vec<bool>,
 }
 
 impl<'f> Uses<'f> {
-    // Those in a formula over so many atoms, or in none.
+    // Those in a formula over these atoms, or in none.
     pub(crate) fn new(
         alloc: Global,
         formula: Option<&'f PlacedFormula>,
-        atoms: usize,
+        atoms: &[Atom],
     ) -> Result<Uses<'f>, Memory> {
         let mut uses = Uses {
-            weights: vec![in alloc; 0; atoms]?,
-            negated: vec![in alloc; false; atoms]?,
+            weights: vec![in alloc; 0; atoms.len()]?,
+            negated: vec![in alloc; false; atoms.len()]?,
             parts: Vec::new(alloc),
+            nameless: vec![in alloc; false; atoms.len()]?,
         };
         if let Some(formula) = formula {
             note(formula, false, &mut uses);
             note_parts(formula, &mut uses.parts)?;
             uses.parts.sort_by_key(|(place, _)| *place)?;
             uses.keep_most(parts_of(formula) / 2);
+            uses.note_nameless(atoms);
         }
         Ok(uses)
     }
@@ -59,11 +63,31 @@ impl<'f> Uses<'f> {
         }
     }
 
-    // Whether the path may make a part true in which the atom at a place stands. The part of an atom that
-    // stands in one alone is what a short look sees.
-    pub(crate) fn may_have_true_part(&self, place: usize, valuation: &Valuation) -> bool {
+    // Whether the path may make a part true in which the atom at a place stands, where this name is the last
+    // of which it says that it holds. The part of an atom that stands in one alone is what a short look sees.
+    // Of many parts those are asked that speak of a name which holds with this one.
+    pub(crate) fn may_have_true_part(
+        &self,
+        place: usize,
+        name: Option<usize>,
+        valuation: &Valuation,
+    ) -> bool {
         let parts = self.parts_at(place);
-        parts.len() > 1 && may_have_true(parts, valuation)
+        match name {
+            _ if parts.len() <= 1 => false,
+            Some(name) if parts.len() > MOST_PARTS && self.is_always_named(place) => {
+                may_have_true(self.parts_at(name), valuation)
+                    || self.may_hold_with_name(name, valuation)
+            }
+            _ => may_have_true(parts, valuation),
+        }
+    }
+
+    // Whether each part in which the atom at a place stands speaks of a name of a host.
+    fn is_always_named(&self, place: usize) -> bool {
+        self.nameless
+            .get(place)
+            .is_some_and(|is_nameless| !is_nameless)
     }
 
     // Whether the path may make a part true in which a suffix or a front stands that holds where the atom at
@@ -123,6 +147,16 @@ impl<'f> Uses<'f> {
         }
     }
 
+    fn note_nameless(&mut self, atoms: &[Atom]) {
+        for (place, part) in &self.parts {
+            if let Some(nameless) = self.nameless.get_mut(*place)
+                && !speaks_of_name(part, atoms)
+            {
+                *nameless = true;
+            }
+        }
+    }
+
     fn keep_most(&mut self, half: u32) {
         for (place, _) in &self.parts {
             if let Some(weight) = self.weights.get_mut(*place)
@@ -132,6 +166,26 @@ impl<'f> Uses<'f> {
             }
         }
     }
+}
+
+// Whether an and has a fact on the name of a host.
+fn speaks_of_name(part: &PlacedFormula, atoms: &[Atom]) -> bool {
+    match part {
+        PlacedFormula::Fact(place) => atoms.get(*place).is_some_and(|atom| is_name(atom)),
+        PlacedFormula::FactAnd { place, parts } => {
+            atoms.get(*place).is_some_and(|atom| is_name(atom)) || have_name_among(parts, atoms)
+        }
+        PlacedFormula::Every(parts) => have_name_among(parts, atoms),
+        _ => false,
+    }
+}
+
+// Whether one of the parts is a fact on the name of a host.
+fn have_name_among(parts: &[PlacedFormula], atoms: &[Atom]) -> bool {
+    parts.iter().any(|part| match part {
+        PlacedFormula::Fact(place) => atoms.get(*place).is_some_and(|atom| is_name(atom)),
+        _ => false,
+    })
 }
 
 // Whether the path may make one of the parts true. Of many parts each isn't asked.
