@@ -1,5 +1,5 @@
 -- A denied suffix or front that is no longer than another one does not lie below it, unless they are equal.
-use Rattle.std.proofs.Common.{◌≡◌, ◌∙◌, ◌+◌, ◌≤◌, ℕ, Bool, true, false, not, ◌&&◌, nat_le, List, [], ◌∷◌, ◌++◌, length, length-append, append-nil, filter, Some, None, All, refl, sym, ap, subst, arith}
+use Rattle.std.proofs.Common.{◌≡◌, ◌∙◌, ◌+◌, ◌≤◌, ℕ, Bool, true, false, not, List, [], ◌∷◌, ◌++◌, length, length-append, append-nil, filter, None, All, refl, sym, ap, subst, arith}
 use Rattle.std.proofs.lemmas.Bool.{false≢true}
 use Rattle.std.proofs.lemmas.Bool.Decides.{nat_tests}
 use Rattle.std.proofs.lemmas.List.Elements.{All-head, All-tail}
@@ -8,14 +8,14 @@ use Rattle.csp_model.specs.Ascii.{code}
 use Rattle.csp_model.specs.DecideEnds.{begins_with}
 use Rattle.csp_atom.specs.Follows.{lies_within, false_where, follows, decided}
 use Rattle.csp_atom.specs.declared.atom.Atom.{Atom}
-use Rattle.csp_atom.specs.declared.atom.Atom.TheVariants.{HostIs, HostUnder, HostDomain, PortIs, PathIs, PathUnder, SchemeIs, NonceIs, IntegrityHas, IntegrityOutside, DigestIs}
+use Rattle.csp_atom.specs.declared.atom.Atom.TheVariants.{HostUnder, PathUnder}
 use Rattle.csp_atom.specs.declared.atom.Literal.{Literal}
 use Rattle.csp_cell.specs.Cells.{is_answer, implies, is_no_longer, is_too_short, makes_needless, needed_beside}
 use Rattle.csp_cell.proofs.Taking.{all_none}
 
 -- What is left isn't equal
 
-unless : (test : Bool) → false_where test ≡ None → test ≡ false
+pub unless : (test : Bool) → false_where test ≡ None → test ≡ false
 unless true e = cc
 unless false e = refl
 
@@ -35,14 +35,16 @@ same_front inner outer rest e h =
     let none : rest ≡ [] = empty rest (omega arith) in
     e ∙ ap (λ (xs : List (List ℕ)). outer ++ xs) none ∙ append-nil outer
 
-under_denied : (inner outer : List ℕ) → length inner ≤ length outer → lies_within outer inner ≡ false → lies_within inner outer ≡ false
-under_denied inner outer h left = by_test (lies_within inner outer) refl
+-- a name that lies within another only if they are equal doesn't where the other one doesn't lie within it
+pub under_denied : (inner outer : List ℕ) → ((front : List ℕ) → code "." ∷ inner ≡ front ++ code "." ∷ outer → inner ≡ outer)
+    → lies_within outer inner ≡ false → lies_within inner outer ≡ false
+under_denied inner outer whole left = by_test (lies_within inner outer) refl
   where
     by_test : (t : Bool) → lies_within inner outer ≡ t → t ≡ false
     by_test false e = refl
     by_test true e =
         let (front, ends) = (subdomain_Decides (code "." ∷ inner) outer).0 e in
-        let same : inner ≡ outer = same_end inner outer front ends h in
+        let same : inner ≡ outer = whole front ends in
         let swapped : lies_within outer inner ≡ true = subst (λ (x : List ℕ). lies_within x inner ≡ true) same (subst (λ (x : List ℕ). lies_within inner x ≡ true) (sym same) e) in
         absurd (false≢true (sym left ∙ swapped))
 
@@ -57,16 +59,17 @@ beyond_denied inner outer h left = by_test (begins_with inner outer) refl
         let swapped : begins_with outer inner ≡ true = subst (λ (x : List (List ℕ)). begins_with x inner ≡ true) same (subst (λ (x : List (List ℕ)). begins_with inner x ≡ true) (sym same) e) in
         absurd (false≢true (sym left ∙ swapped))
 
-abbrev denied : Atom → Literal
+abbrev pub denied : Atom → Literal
 denied atom = record { atom = atom; positive = false }
 
-unless_implied : (test : Bool) → test ≡ false → is_answer false (false_where test) ≡ false
+pub unless_implied : (test : Bool) → test ≡ false → is_answer false (false_where test) ≡ false
 unless_implied true e = cc
 unless_implied false e = refl
 
-short_denied : (b a : Atom) → is_no_longer b a ≡ true → follows (denied b) a ≡ None → implies (denied a) (denied b) ≡ false
+pub short_denied : (b a : Atom) → is_no_longer b a ≡ true → follows (denied b) a ≡ None → implies (denied a) (denied b) ≡ false
 short_denied (HostUnder t) (HostUnder s) short left =
-    unless_implied (lies_within t s) (under_denied t s (grind (arith, nat_tests)) (unless (lies_within s t) left))
+    let no_longer : length t ≤ length s = grind (arith, nat_tests) in
+    unless_implied (lies_within t s) (under_denied t s (λ front e. same_end t s front e no_longer) (unless (lies_within s t) left))
 short_denied (PathUnder q) (PathUnder p) short left =
     unless_implied (begins_with q p) (beyond_denied q p (grind (arith, nat_tests)) (unless (begins_with p q) left))
 short_denied b a short left = absurd (false≢true short)

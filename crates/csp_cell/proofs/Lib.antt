@@ -12,3 +12,4 @@ pub mod Searching
 pub mod Splitting
 pub mod Taking
 pub mod Through
+pub mod Within

@@ -2,6 +2,7 @@
 use Rattle.std.specs.Prelude.{◌≡◌, true, false, List, ◌∷◌, ◌++◌, All}
 use Rattle.csp_atom.specs.declared.atom.Literal.{Literal}
 use Rattle.csp_cell.specs.Cells.{Region, IsCell, places}
+use Rattle.csp_cell.specs.Longest.{IsWithin}
 use Rattle.csp_cell.specs.Lookup.{Rises}
 use Rattle.csp_cell.specs.declared.cell.Cell.TheInside.{Inside}
 
@@ -19,6 +20,7 @@ pub record IsMade (a : Inside) : Type 0 where
   pub placing : All IsPlacing a.placing.items
   pub others : All IsOther a.others.items
   pub rises : Rises a.others.items
+  pub within : All (IsWithin a.longest) (a.placing.items ++ a.others.items)
 
 -- the literal stands somewhere among the old ones, in the part that is its own
 pub record Adds (placing others : List Literal) (literal : Literal)

@@ -1,3 +1,4 @@
 pub mod Cells
 pub mod Inside
+pub mod Longest
 pub mod Lookup

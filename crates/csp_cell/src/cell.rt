@@ -11,6 +11,7 @@ ghost use Rattle.csp_model.specs.declared.source.Hash.{Hash as HashValue};
 ghost use Rattle.csp_shape.specs.Shapes.{looks_at};
 
 use crate::implies::{first_decided, keep_needed};
+use crate::longest::Longest;
 use crate::lookup::{look_up, place_for};
 use csp_atom::{Atom, Literal};
 use csp_model::{Duplicate, Memory};
@@ -26,6 +27,7 @@ pub struct Cell {
     shape: Shape,
     placing: Vec<Literal>,
     others: Vec<Literal>,
+    longest: Longest,
 }
 
 impl Model for Cell {
@@ -49,6 +51,7 @@ impl Cell {
             shape,
             placing: Vec::new(alloc),
             others: Vec::new(alloc),
+            longest: Longest::new(),
         }
     }
 
@@ -113,8 +116,9 @@ impl Cell {
             atom: atom.copy(self.alloc)?,
             positive,
         };
-        keep_needed(&mut self.placing, &literal);
-        keep_needed(&mut self.others, &literal);
+        keep_needed(&mut self.placing, self.longest, &literal);
+        keep_needed(&mut self.others, self.longest, &literal);
+        self.longest = self.longest.with(&literal.atom);
         add(&mut self.placing, &mut self.others, literal)?;
         Ok(self)
     }
@@ -156,6 +160,7 @@ impl Cell {
             shape: self.shape,
             placing: copies(self.alloc, &self.placing)?,
             others: copies(self.alloc, &self.others)?,
+            longest: self.longest,
         })
     }
 }

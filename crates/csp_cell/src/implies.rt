@@ -1,8 +1,10 @@
 //! Which literals another one makes needless.
-ghost use Rattle.std.specs.Prelude.{◌≡◌, None};
+ghost use Rattle.std.specs.Prelude.{◌≡◌, All, None};
 ghost use Rattle.csp_atom.specs.Follows.{decided};
 ghost use Rattle.csp_cell.specs.Cells as spec;
+ghost use Rattle.csp_cell.specs.Longest.{IsWithin};
 
+use crate::longest::Longest;
 use csp_atom::{Atom, Literal, follows};
 
 // Whether what the literal says makes the other true. Then it decides all that the other decides.
@@ -16,11 +18,12 @@ pub(crate) fn implies(literal: &Literal, other: &Literal) -> bool
 }
 
 // Leaves the literals that this one, which they don't decide, doesn't make needless.
-pub(crate) fn keep_needed(literals: &mut Vec<Literal>, literal: &Literal)
-    requires { decided literals.old.items literal.now.atom ≡ None }
+pub(crate) fn keep_needed(literals: &mut Vec<Literal>, longest: Longest, literal: &Literal)
+    requires undecided { decided literals.old.items literal.now.atom ≡ None }
+    requires within { All (IsWithin longest) literals.old.items }
     ensures { literals.new.items ≡ spec.needed_beside literal.now literals.old.items }
 {
-    if !decides_alone(literal) {
+    if !decides_alone(literal) && !longest.leaves_all(literal) {
         literals.retain(|other| !makes_needless(literal, other));
     }
 }

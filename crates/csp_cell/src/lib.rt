@@ -4,6 +4,7 @@
 mod cell;
 mod implies;
 pub mod laws;
+mod longest;
 mod lookup;
 mod wanted;
 

@@ -3,19 +3,29 @@ use Rattle.csp_atom.specs.declared.atom.Literal.{Literal}
 use Rattle.csp_cell.specs.Cells.{needed_beside, IsCell, IsOf, Takes}
 use Rattle.csp_atom.specs.Follows.{decided}
 use Rattle.csp_cell.specs.Inside.{Adds}
+use Rattle.csp_cell.specs.Longest.{IsWithin}
 use Rattle.csp_cell.proofs.Inserting.{needed_rises}
-use Rattle.csp_cell.proofs.Making.{made_cell, made_placing, made_others, made_rises}
+use Rattle.csp_cell.proofs.Making.{made_cell, made_placing, made_others, made_rises, made_within}
 use Rattle.csp_cell.proofs.Parts.{both_open, takes_added}
 use Rattle.csp_cell.proofs.Splitting.{decides_with, meets_positive, meets_negative}
+use Rattle.csp_cell.proofs.Taking.{all_parts}
 use Rattle.csp_cell.proofs.cell.Cell.narrow.Goals as goal
 
-pub keep_needed-requires : goal.keep_needed-requires
-keep_needed-requires c =
+pub keep_needed-requires-clause-undecided : goal.keep_needed-requires-clause-undecided
+keep_needed-requires-clause-undecided c =
     rw c.in_ok-copy.ensures (both_open c.self.inside.placing.items c.self.inside.others.items c.args.atom.now (rw (← c.self.view_is) at c.requires.undecided)).0
 
-pub keep_needed-requires-2 : goal.keep_needed-requires-2
-keep_needed-requires-2 c =
+pub keep_needed-requires-clause-within : goal.keep_needed-requires-clause-within
+keep_needed-requires-clause-within c =
+    (all_parts (IsWithin c.self.inside.longest) c.self.inside.placing.items c.self.inside.others.items c.self.invariant.within).0
+
+pub keep_needed-requires-2-clause-undecided : goal.keep_needed-requires-2-clause-undecided
+keep_needed-requires-2-clause-undecided c =
     rw c.in_ok-copy.ensures (both_open c.self.inside.placing.items c.self.inside.others.items c.args.atom.now (rw (← c.self.view_is) at c.requires.undecided)).1
+
+pub keep_needed-requires-2-clause-within : goal.keep_needed-requires-2-clause-within
+keep_needed-requires-2-clause-within c =
+    (all_parts (IsWithin c.self.inside.longest) c.self.inside.placing.items c.self.inside.others.items c.self.invariant.within).1
 
 pub add-requires : goal.add-requires
 add-requires c =
@@ -44,6 +54,7 @@ invariant_of-self c =
       placing = made_placing c.self.inside.shape p o kept_p kept_o new_p new_o l first second adds undecided c.self.invariant.cell c.self.invariant.placing;
       others = made_others c.self.inside.shape p o kept_p kept_o new_p new_o l first second adds undecided c.self.invariant.cell c.self.invariant.others;
       rises = made_rises c.self.inside.shape p o kept_p kept_o new_p new_o l first second adds undecided c.self.invariant.cell c.self.invariant.rises;
+      within = rw (c.with-self-inside.ensures, c.in_ok-copy.ensures) (made_within c.self.inside.shape p o kept_p kept_o new_p new_o l first second adds undecided c.self.invariant.cell c.self.inside.longest c.self.invariant.within);
     }
 
 pub returns-clause-takes : goal.returns-clause-takes
