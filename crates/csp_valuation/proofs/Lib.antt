@@ -1,4 +1,5 @@
 pub mod Ascending
+pub mod Asides
 pub mod Changing
 pub mod Correcting
 pub mod Denying

@@ -79,17 +79,6 @@ pub length_literals : (path : List Taken) → length (literals_of path) ≡ leng
 length_literals [] = refl
 length_literals (x ∷ path) = ap suc (length_literals path)
 
-pub marks_taken : (path later : List Taken) (s : Taken) (n : ℕ) (atoms : List Atom) (before after : List (Option Decision)) → before ≡ map (mark 1 (literals_of path)) atoms → n ≡ length path + 1 →
-    after ≡ all_marked (literal_of s) n before atoms → later ≡ path ++ s ∷ [] → after ≡ map (mark 1 (literals_of later)) atoms
-marks_taken path later s n atoms before after b e a p =
-    a ∙ rw (b, p, literals_push path s) (all_taken (literals_of path) (literal_of s) n atoms (e ∙ ap (λ k. k + 1) (sym (length_literals path))))
-
-pub marks_taken_back : (path : List Taken) (s : Taken) (n : ℕ) (atoms : List Atom) (before after : List (Option Decision))
-    → before ≡ map (mark 1 (literals_of path ++ literal_of s ∷ [])) atoms → n ≡ length path + 1 →
-    after ≡ map (cleared n) before → after ≡ map (mark 1 (literals_of path)) atoms
-marks_taken_back path s n atoms before after b e a =
-    a ∙ rw b (all_taken_back (literals_of path) (literal_of s) n atoms (e ∙ ap (λ k. k + 1) (sym (length_literals path))))
-
 pub forget_one : (ms : List (Option Decision)) (i : ℕ) → i < length ms → take (i + 1) (set ms i None) ++ map forgotten (drop (i + 1) (set ms i None)) ≡ take i ms ++ map forgotten (drop i ms)
 forget_one ms i h = rw (take_more_set ms i None, drop-set-lt (i + 1) ms i None (omega arith), append_assoc, drop-cons ms i None, add-one) refl
 

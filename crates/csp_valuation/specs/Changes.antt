@@ -1,5 +1,6 @@
 -- What changes at places of a list of marks.
-use Rattle.std.specs.Prelude.{◌≡◌, ◌⊎◌, ℕ, zero, suc, ◌<◌, List, [], ◌∷◌, length, Option}
+use Rattle.std.specs.Prelude.{◌≡◌, ◌⊎◌, ℕ, zero, suc, ◌<◌, List, [], ◌∷◌, length, Option, None}
+use Rattle.csp_atom.specs.Follows.{follows}
 use Rattle.std.specs.List.{Contains, slice_index_or}
 use Rattle.csp_atom.specs.declared.atom.Atom.{Atom}
 use Rattle.csp_atom.specs.declared.atom.Literal.{Literal}
@@ -38,3 +39,9 @@ cleared_at_all by (place ∷ places) marks = cleared_at_all by places (cleared_a
 abbrev pub GaveOnly : ℕ → List (Option Decision) → List ℕ → Type 0
 GaveOnly by marks places = (place : ℕ) (d : Option Decision) → place < length marks
     → (cleared by (slice_index_or marks place d) ≡ slice_index_or marks place d) ⊎ Contains places place
+
+-- it gave none where the literal doesn't decide the atom
+abbrev pub GaveWhereDecided : Literal → ℕ → List (Option Decision) → List Atom → Type 0
+GaveWhereDecided literal by marks atoms = (place : ℕ) (d : Option Decision) (e : Atom) → place < length atoms
+    → follows literal (slice_index_or atoms place e) ≡ None
+    → cleared by (slice_index_or marks place d) ≡ slice_index_or marks place d

@@ -1,3 +1,4 @@
+pub mod Asides
 pub mod Changes
 pub mod Denials
 pub mod Glimpses
@@ -5,6 +6,7 @@ pub mod Marks
 pub mod Names
 pub mod Paths
 pub mod Reach
+pub mod Settled
 pub mod Standings
 pub mod Valuations
 pub mod Words

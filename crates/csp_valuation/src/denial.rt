@@ -112,5 +112,8 @@ pub(crate) fn denies_each(valuation: &Valuation, formulas: &[PlacedFormula]) -> 
 fn denies_part(valuation: &Valuation, formula: &PlacedFormula) -> bool
     ensures { result ≡ true → spec.IsFalse valuation.now formula.now }
 {
-    matches!(standing_under(valuation, formula), Standing::Decided(false))
+    match formula {
+        PlacedFormula::OneOf(parts) if valuation.denies_facts(parts) => true,
+        _ => matches!(standing_under(valuation, formula), Standing::Decided(false)),
+    }
 }

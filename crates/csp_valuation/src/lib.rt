@@ -4,11 +4,13 @@
 //! Once a valuation is made, no call takes memory.
 #![tactic(auto)]
 
+mod aside;
 mod denial;
 mod glance;
 mod marks;
 mod names;
 mod reach;
+mod settled;
 mod standing;
 mod taken;
 mod valuation;

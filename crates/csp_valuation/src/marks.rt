@@ -3,6 +3,7 @@ ghost use Rattle.std.specs.Prelude.{◌≡◌, ◌<◌, ◌≤◌, None, Some, f
 ghost use Rattle.std.specs.List.{AllWithin};
 ghost use Rattle.std.specs.Option.{is_some};
 ghost use Rattle.csp_atom.specs.Follows.{follows};
+ghost use Rattle.csp_valuation.specs.Asides.{is_of_first};
 ghost use Rattle.csp_valuation.specs.Changes.{GaveOnly, cleared_at, marked_at};
 ghost use Rattle.csp_valuation.specs.Marks.{all_marked, cleared, denied, forgotten, value_of};
 ghost use Rattle.csp_valuation.specs.Names.{Lists, corrected};
@@ -61,6 +62,13 @@ impl Mark {
         ensures { result ≡ value_of self }
     {
         if self.by == 0 { None } else { Some(self.value) }
+    }
+
+    // Whether one of so many first literals gave it.
+    pub(crate) fn is_of_first(self, count: usize) -> bool
+        ensures { result ≡ is_of_first count self }
+    {
+        self.by != 0 && self.by <= count
     }
 
     fn is_marked(self) -> bool

@@ -122,7 +122,7 @@ fn reach_by_kind(literal: Taken, atoms: &[Atom]) -> Reach
 }
 
 // Whether the literal of this atom and sign decides no other atom. Most positive ones decide a whole kind.
-fn decides_itself_alone(atom: &Atom, positive: bool) -> bool
+pub(crate) fn decides_itself_alone(atom: &Atom, positive: bool) -> bool
     ensures { result ≡ spec.decides_itself_alone atom.now positive }
 {
     match atom {

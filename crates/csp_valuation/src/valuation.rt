@@ -1,33 +1,26 @@
 //! The partial assignment that the literals of a path give.
-ghost use Rattle.std.specs.Prelude.{◌≡◌, ◌<◌, ◌++◌, [], ◌∷◌, ℕ, length, map, true};
-ghost use Rattle.std.specs.Prelude.{IfOk, IfSome, MatchOption, IsSome, None, Some, false};
+ghost use Rattle.std.specs.Prelude.{◌≡◌, ◌<◌, ◌≤◌, ◌++◌, [], ◌∷◌, length, true};
+ghost use Rattle.std.specs.Prelude.{All, IfOk, IfSome, MatchOption, Some, false};
 ghost use Rattle.csp_atom.specs.Follows.{decided};
 ghost use Rattle.csp_atom.specs.declared.atom.Atom.{Atom as AtomValue};
 ghost use Rattle.csp_formula.specs.Surely.{surely};
-ghost use Rattle.csp_valuation.specs.Denials.{AreDenied};
+ghost use Rattle.csp_valuation.specs.Denials.{AreDenied, IsFalse};
 ghost use Rattle.csp_valuation.specs.Glimpses.{Tells};
-ghost use Rattle.csp_valuation.specs.Marks.{mark};
-ghost use Rattle.csp_placed.specs.Overlaps.{AreOverlaps, ListsOverlaps, StandsAt, is_name};
+ghost use Rattle.csp_placed.specs.Overlaps.{ListsOverlaps, StandsAt, is_name};
 ghost use Rattle.csp_valuation.specs.Paths.{literal_of, literals_of, settled_part, waiting_part};
 ghost use Rattle.csp_placed.specs.Placed.{sentence_at};
-ghost use Rattle.csp_placed.specs.Facts.{Ascends};
 ghost use Rattle.csp_valuation.specs.Standings.{IsOpenAt, value_in};
 ghost use Rattle.csp_valuation.specs.Valuations.{value_at};
 
 use crate::denial::{denies_each, denies_indexed};
 use crate::glance::{Glance, Glimpse, look};
-use crate::marks::{
-    Mark, clear_below, clear_listed, clear_within, forget_all, mark_below, mark_within,
-};
-use crate::names::{
-    Names, denied_names, mark_names, names_beside, narrowest_name, pop_name, push_name,
-};
-use crate::reach::{denied_below, kind_end_of, near_of, reach_of};
+use crate::names::{Names, narrowest_name, pop_name, push_name};
+use crate::settled::Settled;
 use crate::standing::{Standing, standing_under};
 use crate::taken::Taken;
 use csp_atom::{Atom, follows_as};
 use csp_model::{List, Memory};
-use csp_placed::{IndexedFormula, PlacedFormula, ascends, overlaps_of};
+use csp_placed::{IndexedFormula, PlacedFormula};
 use std::alloc::Global;
 use std::marker::Model;
 
@@ -35,51 +28,47 @@ use std::marker::Model;
 /// an atom gives it its value. A literal's own atom needn't be in the list.
 ///
 /// What the last literal decides is marked only once another is taken on top of it, so a literal that is
-/// taken and taken back at once costs nothing. In a list that ascends, as `place_formulas` makes it, a
-/// literal that decides no atom but its own is marked and cleared by a binary search. The denial that a path
-/// lies under a front takes binary searches and time linear in the files and the fronts below it. The denial
-/// of a host or of a suffix of the list takes a binary search and time linear in the names that can hold with
-/// it, where `overlaps_of` lists them. Any other literal takes time linear in the atoms on the same part of a
-/// check, with no look at a name that isn't listed where one holds. In other lists each literal takes time
-/// linear in all atoms.
+/// taken and taken back at once costs nothing. Of the literals that hold, the first four of a path are set
+/// aside: they are taken and taken back at no cost, and an atom that no earlier literal decides is compared
+/// with each of them where its value is asked.
+///
+/// In a list that ascends, as `place_formulas` makes it, a literal that decides no atom but its own is marked
+/// and cleared by a binary search. The denial that a path lies under a front takes binary searches and time
+/// linear in the files and the fronts below it. The denial of a host or of a suffix of the list takes a
+/// binary search and time linear in the names that can hold with it, where `overlaps_of` lists them. Any
+/// other literal takes time linear in the atoms on the same part of a check, with no look at a name that
+/// isn't listed where one holds. In other lists each literal takes time linear in all atoms.
 #[derive(Debug, Drop)]
 pub struct Valuation<'a> {
-    atoms: Vec<Atom>,
-    marks: Vec<Mark>,
+    // What all literals decide, but for the last one where that waits.
+    settled: Settled<'a>,
     path: Vec<Taken<'a>>,
     // Those literals of the path that say of a name of a host that it holds.
     names: Vec<Taken<'a>>,
-    room: usize,
-    ascending: bool,
-    // For each place of a name of a host the places of the names that can hold with it.
-    overlaps: Vec<Vec<usize>>,
     // Whether the last literal of the path waits: what it decides isn't marked before another literal comes
     // after it.
     waits: bool,
 }
 
 impl<'a> Model for Valuation<'a> {
-    ghost use Rattle.std.specs.Prelude.{◌≡◌, ◌≤◌, filter, length, map, true, vec_capacity};
-    ghost use Rattle.csp_valuation.specs.Marks.{mark};
+    ghost use Rattle.std.specs.Prelude.{◌≡◌, ◌≤◌, filter, length, vec_capacity};
     ghost use Rattle.csp_valuation.specs.Names.{is_true_name};
-    ghost use Rattle.csp_placed.specs.Overlaps.{AreOverlaps};
     ghost use Rattle.csp_valuation.specs.Paths.{literals_of, settled_part};
-    ghost use Rattle.csp_placed.specs.Facts.{Ascends};
     ghost use Rattle.csp_valuation.specs.Valuations.{Assignment};
 
     ghost Value = { Assignment };
 
     ghost view = { λ v. record {
-      atoms = v.atoms.items;
+      atoms = v.settled.atoms;
       literals = literals_of v.path.items;
-      room = v.room;
+      room = v.settled.room;
     } };
 
     ghost invariant = { λ v.
-        (v.marks.items ≡ map (mark 1 (literals_of (settled_part v.waits v.path.items))) v.atoms.items)
-        × (length v.path.items ≤ v.room) × (v.room ≤ vec_capacity v.path)
-        × (v.ascending ≡ true → Ascends v.atoms.items) × AreOverlaps v.atoms.items v.overlaps.items
-        × (v.names.items ≡ filter is_true_name v.path.items) × (v.room ≤ vec_capacity v.names) };
+        (v.settled.literals ≡ literals_of (settled_part v.waits v.path.items))
+        × (length v.path.items ≤ v.settled.room) × (v.settled.room ≤ vec_capacity v.path)
+        × (v.names.items ≡ filter is_true_name v.path.items)
+        × (v.settled.room ≤ vec_capacity v.names) };
 }
 
 impl<'a> Valuation<'a> {
@@ -87,20 +76,10 @@ impl<'a> Valuation<'a> {
     pub fn new(alloc: Global, atoms: List<Atom>, room: usize) -> Result<Valuation<'a>, Memory>
         ensures { IfOk result (λ made. made ≡ record { atoms = atoms; literals = []; room = room }) }
     {
-        let atoms = atoms.into_vec();
-        let marks = vec![in alloc; Mark::none(); atoms.len()]?;
-        let path = Vec::with_capacity(alloc, room)?;
-        let names = Vec::with_capacity(alloc, room)?;
-        let ascending = ascends(&atoms);
-        let overlaps = overlaps_of(alloc, &atoms)?;
         Ok(Valuation {
-            atoms,
-            marks,
-            path,
-            names,
-            room,
-            ascending,
-            overlaps,
+            settled: Settled::new(alloc, atoms, room)?,
+            path: Vec::with_capacity(alloc, room)?,
+            names: Vec::with_capacity(alloc, room)?,
             waits: false,
         })
     }
@@ -111,14 +90,7 @@ impl<'a> Valuation<'a> {
         ensures { self.new
             ≡ record self.old { literals = self.old.literals ++ literal_of literal.entry ∷ [] } }
     {
-        settle(
-            self.waits,
-            &self.path,
-            &mut self.marks,
-            &self.atoms,
-            self.ascending,
-            &self.overlaps,
-        );
+        settle(self.waits, &self.path, &mut self.settled);
         push_name(&mut self.names, literal);
         self.path.push(literal).unwrap();
         self.waits = true;
@@ -138,14 +110,7 @@ impl<'a> Valuation<'a> {
             self.waits = false;
             return Some(last);
         }
-        unmark(
-            last,
-            &self.path,
-            &mut self.marks,
-            &self.atoms,
-            self.ascending,
-            &self.overlaps,
-        );
+        self.settled.take_back();
         Some(last)
     }
 
@@ -153,7 +118,7 @@ impl<'a> Valuation<'a> {
     pub fn clear(&mut self)
         ensures { self.new ≡ record self.old { literals = [] } }
     {
-        forget_all(&mut self.marks);
+        self.settled.clear();
         self.path.clear();
         self.names.clear();
         self.waits = false;
@@ -163,7 +128,7 @@ impl<'a> Valuation<'a> {
     pub fn atoms(&self) -> &[Atom]
         ensures { result.now ≡ self.now.atoms }
     {
-        self.atoms.as_slice()
+        self.settled.atoms()
     }
 
     /// The literals of the path, that of the root first.
@@ -177,11 +142,8 @@ impl<'a> Valuation<'a> {
     pub fn value(&self, place: usize) -> Option<bool>
         ensures { result ≡ value_at self.now place }
     {
-        let Some(mark) = self.marks.get(place) else {
-            return Some(false);
-        };
-        match mark.value() {
-            None => said_by_last(self.waits, &self.path, &self.atoms[place]),
+        match self.settled.value(place) {
+            None => said_by_last(self.waits, &self.path, &self.settled.atoms()[place]),
             known => known,
         }
     }
@@ -234,12 +196,28 @@ impl<'a> Valuation<'a> {
             && denies_each(self, parts.after)
     }
 
+    // Whether the formulas are facts, and marks tell of each that it is false. So an or of facts, as of nonces,
+    // is asked at each node.
+    pub(crate) fn denies_facts(&self, formulas: &[PlacedFormula]) -> bool
+        ensures { result ≡ true → All (IsFalse self.now) formulas.now }
+    {
+        for formula in formulas {
+            let PlacedFormula::Fact(place) = formula else {
+                return false;
+            };
+            let Some(false) = self.settled.value_by_mark(*place) else {
+                return false;
+            };
+        }
+        true
+    }
+
     // The names that the path denies, where it says of one that it holds: all but the listed ones.
     fn denied(&self) -> Option<Names<'_>>
         ensures { IfSome result (AreDenied self.now) }
     {
         let literal = narrowest_name(&self.names)?;
-        names_beside(literal, &self.overlaps, &self.atoms, self.ascending)
+        self.settled.names_beside(literal)
     }
 
     /// The places of the names of hosts that can hold with the one at this place, its own among them, where
@@ -249,102 +227,22 @@ impl<'a> Valuation<'a> {
             → StandsAt self.now.atoms place name → is_name name ≡ true
             → ListsOverlaps name self.now.atoms listed.now) }
     {
-        match self.overlaps.get(place) {
-            Some(listed) => Some(listed.as_slice()),
-            None => None,
-        }
-    }
-
-    /// The place of a fact of the formula that the path doesn't decide, nor any part of the formula that the
-    /// fact stands in. There is one exactly where the path doesn't decide the formula.
-    pub fn undecided_in(&self, formula: &PlacedFormula) -> Option<usize>
-        ensures { MatchOption result
-            (IsSome (surely self.now.literals (sentence_at self.now.atoms formula.now)))
-            (λ place. (surely self.now.literals (sentence_at self.now.atoms formula.now) ≡ None)
-            × (value_at self.now place ≡ None)) }
-    {
-        match standing_under(self, formula) {
-            Standing::Decided(_) => None,
-            Standing::Open { place } => Some(place),
-        }
-    }
-
-    /// The first place whose atom the path doesn't decide.
-    pub fn undecided(&self) -> Option<usize>
-        ensures { MatchOption result
-            ((place : ℕ) → IsSome (value_at self.now place))
-            (λ place. (place < length self.now.atoms)
-            × (value_at self.now place ≡ None)
-            × ((before : ℕ) → before < place → IsSome (value_at self.now before))) }
-    {
-        for place in 0..self.atoms.len() {
-            if self.value(place).is_none() {
-                return Some(place);
-            }
-        }
-        None
+        self.settled.overlapping(place)
     }
 }
 
-// Marks what the last literal of a path decides, if it waits.
-fn settle(
-    waits: bool,
-    path: &[Taken],
-    marks: &mut [Mark],
-    atoms: &[Atom],
-    ascending: bool,
-    overlaps: &[Vec<usize>],
-)
-    requires marked { marks.old ≡ map (mark 1 (literals_of (settled_part waits path.now))) atoms.now }
-    requires ascends { ascending ≡ true → Ascends atoms.now }
-    requires overlaps { AreOverlaps atoms.now overlaps.now }
-    ensures { marks.new ≡ map (mark 1 (literals_of path.now)) atoms.now }
+// Has the last literal of a path count, if it waits.
+fn settle<'a>(waits: bool, path: &[Taken<'a>], settled: &mut Settled<'a>)
+    requires settled { settled.old.literals ≡ literals_of (settled_part waits path.now) }
+    requires room { length path.now ≤ settled.old.room }
+    ensures { settled.new ≡ record settled.old { literals = literals_of path.now } }
 {
     if !waits {
         return;
     }
-    if let Some((last, before)) = path.split_last() {
-        let by = before.len() + 1;
-        if let Some(names) = names_beside(*last, overlaps, atoms, ascending) {
-            mark_names(names, marks, atoms, *last, by);
-            return;
-        }
-        if let Some(below) = denied_below(*last, atoms, ascending) {
-            mark_below(below, marks, atoms, *last, by);
-            return;
-        }
-        let reach = reach_of(*last, atoms, ascending);
-        let near = near_of(*last, reach, atoms, ascending);
-        let kind_end = kind_end_of(*last, reach, atoms, ascending);
-        mark_within(reach, near, kind_end, marks, atoms, *last, by);
+    if let Some(last) = path.last() {
+        settled.take(*last);
     }
-}
-
-// Clears what a literal decided which was taken on top of this path.
-fn unmark(
-    last: Taken,
-    path: &[Taken],
-    marks: &mut [Mark],
-    atoms: &[Atom],
-    ascending: bool,
-    overlaps: &[Vec<usize>],
-)
-    requires marked { marks.old
-        ≡ map (mark 1 (literals_of path.now ++ literal_of last ∷ [])) atoms.now }
-    requires ascends { ascending ≡ true → Ascends atoms.now }
-    requires overlaps { AreOverlaps atoms.now overlaps.now }
-    ensures { marks.new ≡ map (mark 1 (literals_of path.now)) atoms.now }
-{
-    let by = path.len() + 1;
-    if let Some(listed) = denied_names(last, overlaps, atoms, ascending) {
-        clear_listed(listed, marks, by);
-        return;
-    }
-    if let Some(below) = denied_below(last, atoms, ascending) {
-        clear_below(below, marks, by);
-        return;
-    }
-    clear_within(reach_of(last, atoms, ascending), marks, by);
 }
 
 // What the last literal of a path says of an atom, if it waits.

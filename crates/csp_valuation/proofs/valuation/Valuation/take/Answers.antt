@@ -7,5 +7,5 @@ use Rattle.csp_valuation.proofs.valuation.Valuation.take.Goals as goal
 pub push_name-requires : goal.push_name-requires
 push_name-requires c =
     let inside = c.self.inside in
-    let room : length (literals_of inside.path.items) < inside.room = rw (← c.self.view_is) at c.requires in
-    omega (arith, ap length c.self.invariant.5, few_names inside.path.items, c.self.invariant.6, room, length_literals inside.path.items)
+    let room : length (literals_of inside.path.items) < inside.settled.room = rw (← c.self.view_is) at c.requires in
+    omega (arith, ap length c.self.invariant.3, few_names inside.path.items, c.self.invariant.4, room, length_literals inside.path.items)
