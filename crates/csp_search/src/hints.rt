@@ -17,12 +17,15 @@ struct Turn {
     second: Glance,
     // How many looks at the first list there had been.
     looks: usize,
+    // How many policies of it were doubted, or whether all were.
+    doubted: usize,
+    are_all_doubted: bool,
 }
 
-// Which policies of the first list the last literal can have brought to block the branch.
+// Policies of the first list.
 #[derive(Debug, Drop)]
 struct Suspects {
-    // All of them may, and the list doesn't count.
+    // All of them, and the list doesn't count.
     are_all: bool,
     list: Vec<usize>,
 }
@@ -55,7 +58,11 @@ pub(crate) struct Hints<'f> {
     // The places of the names of hosts of which the path says that they hold.
     names: Vec<usize>,
     last: Last,
+    // The policies that the last literal can have brought to block the branch.
     suspects: Suspects,
+    // Those of which the path may have made a fact on the nonce, the integrity metadata or the digest false
+    // that kept them from it, so that a literal on the URL can bring them to do so. In the order of the path.
+    doubted: Suspects,
 }
 
 impl<'f> Hints<'f> {
@@ -76,6 +83,10 @@ impl<'f> Hints<'f> {
             last: Last::Anything,
             suspects: Suspects {
                 are_all: true,
+                list: Vec::new(alloc),
+            },
+            doubted: Suspects {
+                are_all: false,
                 list: Vec::new(alloc),
             },
         })
@@ -155,12 +166,17 @@ impl<'f> Hints<'f> {
             place,
             second: self.second,
             looks: self.looks.len(),
+            doubted: self.doubted.list.len(),
+            are_all_doubted: self.doubted.are_all,
         })?;
         if self.overview.has_name_at(place) {
             self.names.push(place)?;
         }
         self.last = Last::OwnParts { place };
-        self.suspects.are_all = true;
+        self.doubted.are_all = self.doubted.are_all || !self.overview.is_on_url_at(place);
+        let list = &mut self.suspects.list;
+        self.suspects.are_all = self.doubted.are_all
+            || !self.overview.suspects_on_url(&self.doubted.list, list)?;
         Ok(())
     }
 
@@ -172,6 +188,8 @@ impl<'f> Hints<'f> {
         };
         let (place, looks) = (turn.place, turn.looks);
         self.second = turn.second;
+        self.doubted.list.truncate(turn.doubted);
+        self.doubted.are_all = turn.are_all_doubted;
         if self.overview.has_name_at(place) {
             self.names.pop();
         }
@@ -183,6 +201,24 @@ impl<'f> Hints<'f> {
         self.undo_looks(looks);
         let list = &mut self.suspects.list;
         self.suspects.are_all = !self.overview.suspects(place, valuation, list)?;
+        self.doubt(place)
+    }
+
+    // Notes which policies the denial of the atom at this place, if it isn't on the URL, has brought to be
+    // doubted. They are among the suspects.
+    fn doubt(&mut self, place: usize) -> Result<(), Memory> {
+        if self.doubted.are_all || self.overview.is_on_url_at(place) {
+            return Ok(());
+        }
+        if self.suspects.are_all {
+            self.doubted.are_all = true;
+            return Ok(());
+        }
+        for policy in &self.suspects.list {
+            if self.overview.rests_on(*policy, place) {
+                self.doubted.list.push(*policy)?;
+            }
+        }
         Ok(())
     }
 

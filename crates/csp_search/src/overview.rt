@@ -25,6 +25,9 @@ pub struct Overview<'f> {
     // For each policy of the first list the places of a few facts of its formula, which isn't false while none
     // of them is; or of no facts, where many would be needed.
     enough: Vec<Vec<usize>>,
+    // The policies that have no such facts, or one that is on the URL: a literal on the URL can make them
+    // false, whatever else the path says. They rise.
+    on_url: Vec<usize>,
     // The policies in whose formulas an atom stands, by its place. They rise.
     mentions: Vec<(usize, usize)>,
     // The places of the fronts, and of the atom that the host is a domain, which hold where other atoms do.
@@ -51,9 +54,14 @@ impl<'f> Overview<'f> {
     {
         let atoms = formulas.atoms.as_slice();
         let mut enough = Vec::with_capacity(alloc, formulas.first.len())?;
+        let mut on_url = Vec::new(alloc);
         let mut mentions = Vec::new(alloc);
         for (policy, formula) in formulas.first.as_slice().iter().enumerate() {
-            enough.push(enough_for(alloc, formula.formula())?)?;
+            let places = enough_for(alloc, formula.formula())?;
+            if places.is_empty() || places.iter().any(|place| is_on_url(atoms, *place)) {
+                on_url.push(policy)?;
+            }
+            enough.push(places)?;
             note_facts(formula.formula(), policy, &mut mentions)?;
         }
         mentions.sort_unstable();
@@ -62,6 +70,7 @@ impl<'f> Overview<'f> {
             atoms,
             ascending: ascends(atoms),
             enough,
+            on_url,
             mentions,
             fronts: fronts_of(alloc, atoms)?,
             domain: atoms
@@ -79,6 +88,11 @@ impl<'f> Overview<'f> {
         self.atoms.get(place).is_some_and(|atom| is_name(atom))
     }
 
+    // Whether the atom at a place is on the URL of a check. Its literals then decide atoms on the URL alone.
+    pub(crate) fn is_on_url_at(&self, place: usize) -> bool {
+        is_on_url(self.atoms, place)
+    }
+
     // How many policies the first list has.
     pub(crate) fn policies(&self) -> usize {
         self.enough.len()
@@ -93,6 +107,13 @@ impl<'f> Overview<'f> {
             && places
                 .iter()
                 .all(|place| valuation.value(*place) != Some(false))
+    }
+
+    // Whether the atom at this place is one of the few facts that are asked of this policy.
+    pub(crate) fn rests_on(&self, policy: usize, place: usize) -> bool {
+        self.enough
+            .get(policy)
+            .is_some_and(|places| places.contains(&place))
     }
 
     pub(crate) fn fronts(&self) -> &[usize] {
@@ -130,6 +151,27 @@ impl<'f> Overview<'f> {
         Ok(is_told)
     }
 
+    // Has the list hold the policies whose formulas a literal on the URL can make false, these doubted ones
+    // among them, and tells so. Or tells that any policy's can be.
+    pub(crate) fn suspects_on_url(
+        &self,
+        doubted: &[usize],
+        found: &mut Vec<usize>,
+    ) -> Result<bool, Memory> {
+        found.clear();
+        let count = self.on_url.len().saturating_add(doubted.len());
+        if self.enough.len() <= FEW_POLICIES || count >= self.enough.len() {
+            return Ok(false);
+        }
+        found.extend_from_slice(&self.on_url)?;
+        if !doubted.is_empty() {
+            found.extend_from_slice(doubted)?;
+            found.sort_unstable();
+            found.dedup();
+        }
+        Ok(true)
+    }
+
     // Adds the policies that speak of these names, if they are listed and are few.
     fn add_names(&self, names: Option<&[usize]>, found: &mut Vec<usize>) -> Result<bool, Memory> {
         let Some(names) = names else {
@@ -158,6 +200,17 @@ impl<'f> Overview<'f> {
         }
         Ok(true)
     }
+}
+
+// Whether the atom at a place is on the URL of a check, and not on the nonce, the integrity metadata or the
+// digest.
+fn is_on_url(atoms: &[Atom], place: usize) -> bool {
+    !matches!(
+        atoms.get(place),
+        None | Some(
+            Atom::NonceIs(_) | Atom::IntegrityHas(_) | Atom::IntegrityOutside | Atom::DigestIs(_)
+        )
+    )
 }
 
 // The places of a few facts of a formula which isn't false while none of them is.
