@@ -1,19 +1,24 @@
 -- Literals that are set aside: a path with one more, and the value of an atom by its mark and by what they say.
-use Rattle.std.proofs.Common.{◌≡◌, ◌∙◌, refl, sym, ap, ℕ, suc, ◌+◌, ◌-◌, ◌≤◌, ◌<◌, nat_le, Bool, true, false, List, [], ◌∷◌, ◌++◌, length, length-append, map, take, slice_get, get_or, Option, Some, None, MatchOption, arith}
+use Rattle.std.proofs.Common.{◌≡◌, ◌∙◌, refl, sym, ap, ℕ, suc, ◌+◌, ◌-◌, ◌≤◌, ◌<◌, nat_le, Bool, true, false, List, [], ◌∷◌, ◌++◌, length, length-append, map, take, slice_get, get_or, Option, Some, None, MatchOption, IfSome, All, inl, inr, arith}
 use Rattle.std.proofs.lemmas.Bool.Decides.{nat_tests}
 use Rattle.std.proofs.lemmas.List.{get_or_default, length-map, map-append}
+use Rattle.std.proofs.lemmas.List.Elements.{All-append, All-cons, All-weaker}
 use Rattle.std.proofs.lemmas.Option.{same_Some, slice_get-map, slice_get_read, slice_get_within}
+use Rattle.std.specs.Global.{Vec}
+use Rattle.std.specs.List.{slice_index_or}
 use Rattle.std.specs.Option.{option_map}
 use Rattle.csp_atom.specs.Follows.{follows, decided, or_else}
 use Rattle.csp_atom.specs.declared.atom.Atom.{Atom}
 use Rattle.csp_atom.specs.declared.atom.Atom.TheVariants.{HostDomain}
 use Rattle.csp_atom.specs.declared.atom.Literal.{Literal}
-use Rattle.csp_valuation.specs.Asides.{literals_taken, literals_marked, asides, is_of_first, found}
+use Rattle.csp_placed.specs.Overlaps.{AreOverlaps}
+use Rattle.csp_valuation.specs.Asides.{IsPlaced, IsPlaceOf, Tells, literals_taken, literals_marked, asides, is_of_first, found}
 use Rattle.csp_valuation.specs.Marks.{Decision, answered, mark, value_of}
 use Rattle.csp_valuation.specs.Paths.{literal_of}
 use Rattle.csp_valuation.specs.Valuations.{value_of_atom}
 use Rattle.csp_valuation.specs.declared.aside.Aside.{Aside}
 use Rattle.csp_valuation.specs.declared.settled.Step.{Step}
+use Rattle.csp_valuation.specs.declared.taken.Taken.{Taken}
 use Rattle.csp_valuation.proofs.Written.{written}
 
 -- One more literal
@@ -54,11 +59,11 @@ module _ (s : Step) where
       by_side true is rest = rw is rest
       by_side false is rest = rw is (ap (λ (ls : List Literal). literal_of x.literal ∷ ls) rest)
 
-  abbrev last_aside : ℕ → Aside
-  last_aside n = record { literal = s.literal; before = n }
+  abbrev last_aside : ℕ → Taken × ℕ
+  last_aside n = (s.literal, n)
 
   asides_with : s.is_aside ≡ true → (n : ℕ) (steps : List Step)
-      → asides n (steps ++ s ∷ []) ≡ asides n steps ++ record { literal = s.literal; before = n + length (literals_marked steps) } ∷ []
+      → asides n (steps ++ s ∷ []) ≡ asides n steps ++ (s.literal, n + length (literals_marked steps)) ∷ []
   asides_with e n [] = let same : n + 0 ≡ n = omega arith in rw (e, same) refl
   asides_with e n (x ∷ steps) = by_side x.is_aside refl (asides_with e n steps) (asides_with e (suc n) steps)
     where
@@ -69,13 +74,13 @@ module _ (s : Step) where
           → asides n (steps ++ s ∷ []) ≡ asides n steps ++ last_aside (n + length (literals_marked steps)) ∷ []
           → asides (suc n) (steps ++ s ∷ []) ≡ asides (suc n) steps ++ last_aside (suc n + length (literals_marked steps)) ∷ []
           → asides n (x ∷ steps ++ s ∷ []) ≡ asides n (x ∷ steps) ++ last_aside (n + length (literals_marked (x ∷ steps))) ∷ []
-      by_side true is here next = rw is (ap (λ (us : List Aside). record { literal = x.literal; before = n } ∷ us) here)
+      by_side true is here next = rw is (ap (λ (us : List (Taken × ℕ)). (x.literal, n) ∷ us) here)
       by_side false is here next = rw is (rw later at next)
 
-  pub all_asides_with : s.is_aside ≡ true → (steps : List Step) → asides 0 (steps ++ s ∷ []) ≡ asides 0 steps ++ record { literal = s.literal; before = length (literals_marked steps) } ∷ []
+  pub all_asides_with : s.is_aside ≡ true → (steps : List Step) → asides 0 (steps ++ s ∷ []) ≡ asides 0 steps ++ (s.literal, length (literals_marked steps)) ∷ []
   all_asides_with e steps = let same : 0 + length (literals_marked steps) ≡ length (literals_marked steps) = omega arith in rw same at (asides_with e 0 steps)
 
-  pub aside_back : s.is_aside ≡ true → (steps : List Step) (us new : List Aside) (n : ℕ) → us ≡ asides 0 (steps ++ s ∷ []) → n ≡ length us
+  pub aside_back : s.is_aside ≡ true → (steps : List Step) (us new : List (Taken × ℕ)) (n : ℕ) → us ≡ asides 0 (steps ++ s ∷ []) → n ≡ length us
       → new ≡ take (n - 1) us → new ≡ asides 0 steps
   aside_back e steps us new n is long back =
       let one = last_aside (length (literals_marked steps)) in
@@ -88,7 +93,7 @@ module _ (s : Step) where
     where
       by_side : (t : Bool) → x.is_aside ≡ t → asides n (steps ++ s ∷ []) ≡ asides n steps → asides (suc n) (steps ++ s ∷ []) ≡ asides (suc n) steps
           → asides n (x ∷ steps ++ s ∷ []) ≡ asides n (x ∷ steps)
-      by_side true is here next = rw is (ap (λ (us : List Aside). record { literal = x.literal; before = n } ∷ us) here)
+      by_side true is here next = rw is (ap (λ (us : List (Taken × ℕ)). (x.literal, n) ∷ us) here)
       by_side false is here next = rw is next
 
 pub few_marked : (steps : List Step) → length (literals_marked steps) ≤ length steps
@@ -143,11 +148,11 @@ found_is n (x ∷ steps) a = by_side x.is_aside refl (found_is n steps a) (found
     by_side false is here next = rw is (by_answer (follows l a) refl next)
 
 -- where the mark is that of a literal before all that are set aside, or none are, it counts
-pub counts_first : (m : Option Decision) (us : List Aside) (u : Aside) (a : Atom) → slice_get us 0 ≡ Some u → is_of_first u.before m ≡ true → value_of m ≡ found m us a
+pub counts_first : (m : Option Decision) (us : List (Taken × ℕ)) (u : Taken × ℕ) (a : Atom) → slice_get us 0 ≡ Some u → is_of_first u.1 m ≡ true → value_of m ≡ found m us a
 counts_first m [] u a at first = cc
 counts_first m (x ∷ us) u a at first = let same : x ≡ u = same_Some x u at in rw (same, first) refl
 
-pub counts_alone : (m : Option Decision) (us : List Aside) (a : Atom) → slice_get us 0 ≡ None → value_of m ≡ found m us a
+pub counts_alone : (m : Option Decision) (us : List (Taken × ℕ)) (a : Atom) → slice_get us 0 ≡ None → value_of m ≡ found m us a
 counts_alone m [] a none = refl
 counts_alone m (x ∷ us) a none = cc
 
@@ -170,14 +175,14 @@ module _ (steps : List Step) (atoms : List Atom) (marks : List (Option Decision)
       let low : place < length marks = omega (arith, h, ap length is, length-map atoms (mark 1 (literals_marked steps))) in
       sym (slice_get_read marks (length marks) place m refl low at)
 
-  pub value_found : (us : List Aside) (place : ℕ) (m : Option Decision) (a : Atom) → us ≡ asides 0 steps → Some m ≡ slice_get marks place → a ≡ get_or atoms place a
+  pub value_found : (us : List (Taken × ℕ)) (place : ℕ) (m : Option Decision) (a : Atom) → us ≡ asides 0 steps → Some m ≡ slice_get marks place → a ≡ get_or atoms place a
       → found m us a ≡ value_of_atom (literals_taken steps) (slice_get atoms place)
   value_found us place m a aside at here =
       let stands : slice_get atoms place ≡ Some a = slice_get_read atoms (length atoms) place a refl (within place m at) here in
       let marked : m ≡ mark 1 (literals_marked steps) a = same_Some _ _ (at ∙ gets place ∙ ap (option_map (mark 1 (literals_marked steps))) stands) in
       rw (marked, aside, stands) (found_is 0 steps a)
 
-  pub value_counted : (us : List Aside) (place : ℕ) (m : Option Decision) → us ≡ asides 0 steps → Some m ≡ slice_get marks place → ((a : Atom) → value_of m ≡ found m us a)
+  pub value_counted : (us : List (Taken × ℕ)) (place : ℕ) (m : Option Decision) → us ≡ asides 0 steps → Some m ≡ slice_get marks place → ((a : Atom) → value_of m ≡ found m us a)
       → value_of m ≡ value_of_atom (literals_taken steps) (slice_get atoms place)
   value_counted us place m aside at counts =
       let a = get_or atoms place HostDomain in
@@ -189,3 +194,30 @@ module _ (steps : List Step) (atoms : List Atom) (marks : List (Option Decision)
       by_get : (o : Option Atom) → option_map (mark 1 (literals_marked steps)) o ≡ None → Some false ≡ value_of_atom (literals_taken steps) o
       by_get None e = refl
       by_get (Some a) e = cc
+
+-- What is placed
+
+pub none_placed : (atoms : List Atom) → All (IsPlaced atoms) []
+none_placed atoms k d h = absurd (omega arith)
+
+pub placed_with : (atoms : List Atom) (us : List Aside) (u : Aside) → All (IsPlaced atoms) us → u.literal.positive ≡ true → IfSome u.place (IsPlaceOf atoms u.literal.atom.now)
+    → All (IsPlaced atoms) (us ++ u ∷ [])
+placed_with atoms us u placed on own =
+    let here : IsPlaced atoms u = record {
+      holds = on;
+      place = λ place is. rw is at own;
+    } in
+    All-append (IsPlaced atoms) us (u ∷ []) placed (All-cons (IsPlaced atoms) u [] here (none_placed atoms))
+
+pub tells_all : (atoms : List Atom) (overlaps : List (Vec ℕ)) (us : List Aside) (place : ℕ) (a : Atom) → AreOverlaps atoms overlaps → place < length atoms → a ≡ get_or atoms place a
+    → All (IsPlaced atoms) us → All (Tells overlaps place a) us
+tells_all atoms overlaps us place a lists low at placed = All-weaker (IsPlaced atoms) (Tells overlaps place a) (λ u is. record {
+  holds = is.holds;
+  lists = λ own list here got name.
+      let (stands, named) = is.place own here in
+      let same : slice_index_or atoms place a ≡ a = sym at in
+      elim (lists own u.literal.atom.now list stands named got place a low (rw same name)) [
+        | inl excludes ↦ inl (rw same at excludes)
+        | inr has ↦ inr has
+      ];
+}) us placed

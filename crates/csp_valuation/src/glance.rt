@@ -61,7 +61,11 @@ pub(crate) fn look(
             both(first, look_at_all(valuation, parts, weights, from), weights)
         }
         PlacedFormula::Fact(place) => glimpse_at(valuation, *place),
-        _ => glimpse_of(standing_under(valuation, formula)),
+        _ => match standing_under(valuation, formula) {
+            Standing::Decided(true) => Glimpse::Holds,
+            Standing::Decided(false) => Glimpse::Nothing,
+            Standing::Open { place } => Glimpse::Open { place },
+        },
     }
 }
 
@@ -111,7 +115,7 @@ fn look_at_all(
 }
 
 // What is seen of the and of two formulas of which this is seen. Of two open places it is the one with the
-// greater weight, and the first where their weights are equal.
+// greater weight, and the first where their weights are equal. A place without a weight has 0.
 fn both(one: Glimpse, other: Glimpse, weights: &[u32]) -> Glimpse
     ensures { (valuation : Assignment) → (x y : Sentence) → Tells valuation x one → Tells valuation y other
         → Tells valuation (Both x y) result }
@@ -120,18 +124,14 @@ fn both(one: Glimpse, other: Glimpse, weights: &[u32]) -> Glimpse
         (Glimpse::Nothing, _) | (_, Glimpse::Holds) => one,
         (Glimpse::Holds, _) | (_, Glimpse::Nothing) => other,
         (Glimpse::Open { place: first }, Glimpse::Open { place: second }) => {
-            if weight(weights, first) < weight(weights, second) {
+            let weight = |place: usize| weights.get(place).copied().unwrap_or(0);
+            if weight(first) < weight(second) {
                 other
             } else {
                 one
             }
         }
     }
-}
-
-// A place without a weight has 0.
-fn weight(weights: &[u32], place: usize) -> u32 {
-    weights.get(place).copied().unwrap_or(0)
 }
 
 fn glimpse_at(valuation: &Valuation, place: usize) -> Glimpse
@@ -141,16 +141,5 @@ fn glimpse_at(valuation: &Valuation, place: usize) -> Glimpse
         Some(true) => Glimpse::Holds,
         Some(false) => Glimpse::Nothing,
         None => Glimpse::Open { place },
-    }
-}
-
-fn glimpse_of(standing: Standing) -> Glimpse
-    ensures { (valuation : Assignment) → (x : Sentence) → value_in standing ≡ surely valuation.literals x
-        → IsOpenAt valuation standing → Tells valuation x result }
-{
-    match standing {
-        Standing::Decided(true) => Glimpse::Holds,
-        Standing::Decided(false) => Glimpse::Nothing,
-        Standing::Open { place } => Glimpse::Open { place },
     }
 }

@@ -10,7 +10,7 @@ ghost use Rattle.csp_valuation.specs.Names.{AreNames, IsNew};
 ghost use Rattle.csp_valuation.specs.Paths.{literal_of};
 ghost use Rattle.csp_valuation.specs.Valuations.{value_at};
 
-use crate::aside::{Aside, MOST_ASIDE, known};
+use crate::aside::{Aside, MOST_ASIDE, known, place_of};
 use crate::marks::{
     Mark, clear_below, clear_listed, clear_within, forget_all, mark_below, mark_within,
 };
@@ -96,8 +96,12 @@ impl<'a> Settled<'a> {
             && self.aside.len() < MOST_ASIDE
             && !decides_itself_alone(literal.atom, literal.positive)
         {
-            let before = self.marked;
-            self.aside.push(Aside { literal, before }).unwrap();
+            let aside = Aside {
+                literal,
+                before: self.marked,
+                place: place_of(literal.atom, &self.atoms),
+            };
+            self.aside.push(aside).unwrap();
             let is_aside = true;
             self.steps.push(Step { literal, is_aside }).unwrap();
             return;
@@ -160,7 +164,13 @@ impl<'a> Settled<'a> {
         ensures { result ≡ value_at self.now place }
     {
         match self.value_by_mark(place) {
-            None => known(self.marks[place], &self.aside, &self.atoms[place]),
+            None => known(
+                self.marks[place],
+                &self.aside,
+                place,
+                &self.atoms[place],
+                &self.overlaps,
+            ),
             known => known,
         }
     }

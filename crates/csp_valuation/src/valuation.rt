@@ -196,8 +196,8 @@ impl<'a> Valuation<'a> {
             && denies_each(self, parts.after)
     }
 
-    // Whether the formulas are facts, and marks tell of each that it is false. So an or of facts, as of nonces,
-    // is asked at each node.
+    // Whether the formulas are facts, and marks tell of each that it is false. So an or of facts, as of
+    // nonces, is asked at each node.
     pub(crate) fn denies_facts(&self, formulas: &[PlacedFormula]) -> bool
         ensures { result ≡ true → All (IsFalse self.now) formulas.now }
     {

@@ -1,4 +1,5 @@
 use Rattle.std.proofs.Common.{arith, refl, rules, ◌∙◌}
+use Rattle.csp_valuation.proofs.Asides.{none_placed}
 use Rattle.csp_valuation.proofs.Marking.{none_marked}
 use Rattle.csp_valuation.proofs.settled.Settled.new.Goals as goal
 
@@ -10,6 +11,7 @@ invariant_of-result c =
     record {
       marks = rw c.in_ok-steps.ensures.items (equal (λ y r. search rules) ∙ rw c.none.ensures none);
       aside = rw (c.in_ok-steps.ensures.items, c.in_ok-aside.ensures.items) refl;
+      placed = rw c.in_ok-aside.ensures.items (none_placed atoms.items);
       marked = rw c.in_ok-steps.ensures.items refl;
       few = rw c.in_ok-steps.ensures.items (omega arith);
       room = omega (arith, c.in_ok-steps.ensures.exact);

@@ -1,8 +1,10 @@
-use Rattle.std.proofs.Common.{arith, ◌≡◌, ◌∙◌, ◌<◌, ◌+◌, refl, length, length-append, drop, [], ◌∷◌, true, false}
-use Rattle.csp_valuation.specs.Asides.{literals_marked, literals_taken}
+use Rattle.std.proofs.Common.{arith, ◌≡◌, ◌∙◌, ◌++◌, ap, sym, ◌<◌, ◌+◌, refl, length, length-append, drop, [], ◌∷◌, true, false}
+use Rattle.std.proofs.lemmas.List.{map-append}
+use Rattle.csp_valuation.specs.Asides.{asides, bare, literals_marked, literals_taken}
 use Rattle.csp_valuation.specs.Paths.{literal_of}
+use Rattle.csp_valuation.specs.declared.aside.Aside.{Aside}
 use Rattle.csp_valuation.specs.declared.settled.Step.{Step}
-use Rattle.csp_valuation.proofs.Asides.{all_asides_with, asides_beside, few_marked, length_taken, marked_beside, marked_with}
+use Rattle.csp_valuation.proofs.Asides.{all_asides_with, asides_beside, few_marked, length_taken, placed_with, marked_beside, marked_with}
 use Rattle.csp_valuation.proofs.Kept.{all_kept}
 use Rattle.csp_valuation.proofs.Marking.{all_taken}
 use Rattle.csp_valuation.proofs.Written.{written}
@@ -14,12 +16,15 @@ invariant_of-self c =
     let steps = inside.steps.items in
     let was = c.self.invariant in
     let step : Step = record { literal = c.args.literal; is_aside = true } in
+    let one : Aside = record { literal = c.args.literal; before = inside.marked; place = c.place_of.result } in
     let room : length (literals_taken steps) < inside.room = rw (← c.self.view_is) at c.requires in
     let aside = rw c.unwrap.ensures at c.push.ensures.items in
     let taken = rw c.unwrap-then-not-decides_itself_alone.ensures at c.push-then-not-decides_itself_alone.ensures.items in
     record {
       marks = rw (taken, marked_beside step refl steps) was.marks;
-      aside = rw (aside, taken, was.aside, was.marked, all_asides_with step refl steps) refl;
+      aside = rw (aside, taken) (map-append bare inside.aside.items (one ∷ [])
+          ∙ ap (λ us. us ++ bare one ∷ []) was.aside ∙ ap (λ n. asides 0 steps ++ (c.args.literal, n) ∷ []) was.marked ∙ sym (all_asides_with step refl steps));
+      placed = rw aside (placed_with inside.atoms.items inside.aside.items one was.placed c.if-literal.true (rw c.deref.ensures.value at c.place_of.ensures));
       marked = rw (taken, marked_beside step refl steps) was.marked;
       few = omega (arith, c.push-then-not-decides_itself_alone.ensures.upper_bound, c.push-then-not-decides_itself_alone.new.self.ok.0, inside.steps.ok.0, room, length_taken steps);
       room = omega (arith, c.push-then-not-decides_itself_alone.ensures.capacity, was.room);
@@ -52,12 +57,13 @@ invariant_of-self-2 c =
     let room : length (literals_taken steps) < inside.room = rw (← c.self.view_is) at c.requires in
     let all : inside.marks.len ≡ length c.mark_decided.new.marks = omega arith in
     let taken = rw c.unwrap-2.ensures at c.push-2.ensures.items in
-    let done = rw (c.deref_mut.ensures.value, c.deref.ensures.value, was.marks) at c.mark_decided.ensures in
+    let done = rw (c.deref_mut.ensures.value, c.deref-2.ensures.value, was.marks) at c.mark_decided.ensures in
     let longer = marked_with step refl steps in
     record {
       marks = rw (written inside.marks.len c.mark_decided.new.marks (drop (length c.mark_decided.new.marks) inside.marks.items) all, taken, longer)
           (done ∙ all_taken ls l (inside.marked + 1) inside.atoms.items (omega (arith, was.marked)));
       aside = rw (taken, asides_beside step refl 0 steps) was.aside;
+      placed = was.placed;
       marked = rw (taken, longer) (omega (arith, was.marked, length-append ls (l ∷ [])));
       few = omega (arith, c.push-2.ensures.upper_bound, c.push-2.new.self.ok.0, inside.steps.ok.0, room, length_taken steps);
       room = omega (arith, c.push-2.ensures.capacity, was.room);

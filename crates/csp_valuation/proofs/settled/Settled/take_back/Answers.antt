@@ -1,5 +1,7 @@
-use Rattle.std.proofs.Common.{arith, ◌≡◌, ◌∙◌, length, drop}
-use Rattle.csp_valuation.specs.Asides.{literals_marked}
+use Rattle.std.proofs.Common.{arith, ◌≡◌, ◌∙◌, ◌-◌, ap, sym, length, map, drop}
+use Rattle.std.proofs.lemmas.List.{length-map, take-map}
+use Rattle.std.proofs.lemmas.List.Elements.{All-take}
+use Rattle.csp_valuation.specs.Asides.{IsPlaced, bare, literals_marked}
 use Rattle.csp_valuation.specs.Paths.{literal_of}
 use Rattle.csp_valuation.proofs.Asides.{aside_back, asides_beside, fewer_by, marked_beside, marked_with}
 use Rattle.csp_valuation.proofs.Kept.{gave_where}
@@ -17,7 +19,9 @@ invariant_of-self-then-last c =
     let joined = c.in-Some.ensures.items in
     record {
       marks = rw (joined, fewer) at was.marks;
-      aside = aside_back last c.if-last.true steps inside.aside.items _ inside.aside.len (rw joined at was.aside) (omega (arith, inside.aside.ok.0)) c.pop-then-last.ensures.rest;
+      aside = aside_back last c.if-last.true steps (map bare inside.aside.items) _ inside.aside.len (rw joined at was.aside) (omega (arith, inside.aside.ok.0, length-map inside.aside.items bare))
+          (ap (map bare) c.pop-then-last.ensures.rest ∙ sym (take-map bare (inside.aside.len - 1) inside.aside.items));
+      placed = rw c.pop-then-last.ensures.rest (All-take (IsPlaced inside.atoms.items) (inside.aside.len - 1) inside.aside.items was.placed);
       marked = rw (joined, fewer) at was.marked;
       few = omega (arith, c.pop.ensures.len, c.pop.new.self.ok.0, inside.steps.ok.0, was.few);
       room = omega (arith, c.pop.ensures.capacity, was.room);
@@ -55,6 +59,7 @@ invariant_of-self-2 c =
       marks = rw (written inside.marks.len c.clear_decided.new.marks (drop (length c.clear_decided.new.marks) inside.marks.items) all)
           (done ∙ all_taken_back (literals_marked steps) (literal_of last.literal) inside.marked inside.atoms.items number);
       aside = rw (joined, asides_beside last c.if-last.false 0 steps) at was.aside;
+      placed = was.placed;
       marked = omega (arith, number);
       few = omega (arith, c.pop.ensures.len, c.pop.new.self.ok.0, inside.steps.ok.0, was.few);
       room = omega (arith, c.pop.ensures.capacity, was.room);
