@@ -6,10 +6,14 @@ ghost use Rattle.csp_proof.specs.Accepts as accepts;
 ghost use Rattle.csp_placed.specs.Placed.{sentence_at};
 ghost use Rattle.csp_checker.specs.Leaves as spec;
 
+use crate::hint::go_to_name;
 use csp_model::{Disposition, List, PolicyList};
 use csp_placed::{IndexedFormula, PlacedFormula, PlacedFormulas};
 use csp_proof::Node;
-use csp_valuation::{Glance, Glimpse, Valuation};
+use csp_valuation::{Glance, Glimpse, Scope, Valuation};
+
+// At how many parts of ors a short look looks.
+const FEW: usize = 16;
 
 // What the leaves of a tree are judged by: both lists with their formulas at the tree's shape, and the
 // number of its policy of the second list.
@@ -70,7 +74,7 @@ fn says_false(
 // Whether it is enforced, and its formula is surely true.
 fn says_true(
     list: &PolicyList,
-    formulas: &List<PlacedFormula>,
+    formulas: &List<IndexedFormula>,
     number: u32,
     valuation: &Valuation,
     from: &mut Glance,
@@ -102,28 +106,47 @@ fn is_surely_false(formula: &IndexedFormula, valuation: &Valuation) -> bool
     ensures { result ≡ accepts.is_surely false
         (surely valuation.now.literals (sentence_at valuation.now.atoms formula.now)) }
 {
-    if valuation.denies(formula) {
+    if let Some(true) = valuation.denies(formula, &mut Glance::default()) {
         return true;
     }
     is_surely(false, valuation.value_of(formula.formula()))
 }
 
 // Whether the formula is surely true.
-fn is_surely_true(formula: &PlacedFormula, valuation: &Valuation, from: &mut Glance) -> bool
+fn is_surely_true(formula: &IndexedFormula, valuation: &Valuation, from: &mut Glance) -> bool
     ensures { result ≡ accepts.is_surely true
         (surely valuation.now.literals (sentence_at valuation.now.atoms formula.now)) }
 {
-    if holds_at_a_glance(formula, valuation, from) {
+    let whole = formula.formula();
+    if holds_at_a_glance(whole, valuation, FEW, from) {
         return true;
     }
-    is_surely(true, valuation.value_of(formula))
+    go_to_name(formula, valuation, from);
+    // A look at all parts that finds nothing ends at the first one.
+    if holds_at_a_glance(whole, valuation, usize::MAX, from)
+        || holds_at_a_glance(whole, valuation, usize::MAX, from)
+    {
+        return true;
+    }
+    is_surely(true, valuation.value_of(whole))
 }
 
-fn holds_at_a_glance(formula: &PlacedFormula, valuation: &Valuation, from: &mut Glance) -> bool
+fn holds_at_a_glance(
+    formula: &PlacedFormula,
+    valuation: &Valuation,
+    most: usize,
+    from: &mut Glance,
+) -> bool
     ensures { result ≡ true
         → surely valuation.now.literals (sentence_at valuation.now.atoms formula.now) ≡ Some true }
 {
-    match valuation.glance(formula, &[], from) {
+    let scope = Scope {
+        most,
+        weights: &[],
+        skips_denials: false,
+        seeks_true: true,
+    };
+    match valuation.glance(formula, scope, from) {
         Glimpse::Holds => true,
         Glimpse::Open { .. } | Glimpse::Nothing => false,
     }

@@ -6,6 +6,7 @@
 mod asked;
 mod before;
 mod checker;
+mod hint;
 mod leaf;
 mod making;
 mod trees;

@@ -40,6 +40,8 @@ impl Model for IndexedFormula {
 /// The parts of an or. Some of them are indexed; the parts of an or among them may stand for it.
 #[derive(Clone, Copy, Debug)]
 pub struct Parts<'f> {
+    /// The number of the part whose parts are indexed in place of its own, if there is one. Else all parts are.
+    pub inner: Option<usize>,
     pub before: &'f [PlacedFormula],
     pub indexed: &'f [PlacedFormula],
     pub after: &'f [PlacedFormula],
@@ -102,6 +104,7 @@ fn parts_over<'f>(
     let parts = or_parts(formula)?;
     let Some(number) = inner else {
         return Some(Parts {
+            inner,
             before: &[],
             indexed: parts,
             after: &[],
@@ -111,6 +114,7 @@ fn parts_over<'f>(
     };
     let indexed = or_parts(parts.get(number)?)?;
     Some(Parts {
+        inner,
         before: &parts[..number],
         indexed,
         after: &parts[number + 1..],

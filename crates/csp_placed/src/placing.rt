@@ -23,7 +23,7 @@ pub struct PlacedFormulas {
     /// The atoms of the formulas. Atoms on the same part of a check stand together.
     pub atoms: List<Atom>,
     pub first: List<IndexedFormula>,
-    pub second: List<PlacedFormula>,
+    pub second: List<IndexedFormula>,
 }
 
 /// Gives the formulas of two lists places in one list of their atoms, which rise, so that each stands once.
@@ -52,10 +52,11 @@ pub fn place_formulas(
     let placed_first = place_referred(alloc, first, &mut places)?;
     let placed_second = place_referred(alloc, second, &mut places)?;
     let first = index_all(alloc, placed_first)?;
+    let second = index_all(alloc, placed_second)?;
     Ok(PlacedFormulas {
         atoms,
         first,
-        second: List::from_vec(placed_second),
+        second,
     })
 }
 

@@ -85,14 +85,14 @@ fresh_push before (m ∷ ls) l f e =
 found : (atoms : List Atom) (place : ℕ) (a : Atom) → slice_get atoms place ≡ Some a → Contains atoms a
 found atoms place a at = subst (Contains atoms) (get_or_from_slice_get atoms place a a at) (Contains-get_or atoms place a (slice_get_within atoms place a at))
 
-branch_with : (atoms : List Atom) (ls : List Literal) (place : ℕ) (a : Atom) (sign : Bool) → IsBranch atoms ls → slice_get atoms place ≡ Some a → decided ls a ≡ None → IsBranch atoms (with ls a sign)
+pub branch_with : (atoms : List Atom) (ls : List Literal) (place : ℕ) (a : Atom) (sign : Bool) → IsBranch atoms ls → slice_get atoms place ≡ Some a → decided ls a ≡ None → IsBranch atoms (with ls a sign)
 branch_with atoms ls place a sign b at e = record {
   fresh = fresh_push [] ls (literal a sign) b.fresh e;
   among = All-push (λ (l : Literal). Contains atoms l.atom) ls (literal a sign) b.among (found atoms place a at);
   room = omega (arith, b.room, open_fewer ls atoms place a sign at e, length-append ls (literal a sign ∷ []));
 }
 
-root : (atoms : List Atom) → IsBranch atoms []
+pub root : (atoms : List Atom) → IsBranch atoms []
 root atoms = record {
   fresh = tt;
   among = All-nil (λ (l : Literal). Contains atoms l.atom);

@@ -1,13 +1,16 @@
 //! What a search keeps from node to node, so that it needn't look at whole formulas. No answer stands on it:
 //! hints that mislead cost time alone.
+ghost use Rattle.std.specs.Prelude.{◌≡◌, IfOk, IfSome, Some, false, true};
+ghost use Rattle.csp_formula.specs.Surely.{surely};
 ghost use Rattle.csp_valuation.specs.Glimpses.{Tells};
 ghost use Rattle.csp_placed.specs.Placed.{sentence_at};
 
+use crate::leaf::FEW;
 use crate::overview::Overview;
 use crate::uses::Uses;
 use csp_model::Memory;
-use csp_placed::PlacedFormula;
-use csp_valuation::{Glance, Glimpse, Valuation};
+use csp_placed::{IndexedFormula, PlacedFormula};
+use csp_valuation::{Glance, Glimpse, Scope, Valuation};
 use std::alloc::Global;
 
 // What was known where the path splits by the atom at this place.
@@ -57,7 +60,11 @@ pub(crate) struct Hints<'f> {
     turns: Vec<Turn>,
     // The places of the names of hosts of which the path says that they hold.
     names: Vec<usize>,
+    // Those of the pairs of integrity metadata of which it says so.
+    integrity: Vec<usize>,
     last: Last,
+    // How long the path was when it made the formula of the policy of the second list false, if it did.
+    refused: Option<usize>,
     // The policies that the last literal can have brought to block the branch.
     suspects: Suspects,
     // Those of which the path may have made a fact on the nonce, the integrity metadata or the digest false
@@ -69,7 +76,7 @@ impl<'f> Hints<'f> {
     // At the root, for a formula of the second list.
     pub(crate) fn new(
         alloc: Global,
-        formula: Option<&'f PlacedFormula>,
+        formula: Option<&'f IndexedFormula>,
         overview: &'f Overview<'f>,
     ) -> Result<Hints<'f>, Memory> {
         Ok(Hints {
@@ -80,7 +87,9 @@ impl<'f> Hints<'f> {
             looks: Vec::new(alloc),
             turns: Vec::new(alloc),
             names: Vec::new(alloc),
+            integrity: Vec::new(alloc),
             last: Last::Anything,
+            refused: None,
             suspects: Suspects {
                 are_all: true,
                 list: Vec::new(alloc),
@@ -110,20 +119,58 @@ impl<'f> Hints<'f> {
         }
     }
 
-    // A short look at the formula of the policy of the second list.
-    pub(crate) fn look(&mut self, valuation: &Valuation, formula: &PlacedFormula) -> Glimpse
+    // A look at so many parts of the formula of the policy of the second list.
+    pub(crate) fn look(
+        &mut self,
+        valuation: &Valuation,
+        formula: &PlacedFormula,
+        most: usize,
+    ) -> Glimpse
         ensures { Tells valuation.now (sentence_at valuation.now.atoms formula.now) result }
     {
-        valuation.glance(formula, self.uses.weights(), &mut self.second)
+        let scope = Scope {
+            most,
+            weights: self.uses.weights(),
+            skips_denials: false,
+            seeks_true: false,
+        };
+        valuation.glance(formula, scope, &mut self.second)
     }
 
-    // Looks on at that formula, which is open, until a look sees it.
-    pub(crate) fn look_on(&mut self, valuation: &Valuation, formula: &PlacedFormula) {
-        for _ in 0..self.uses.count() {
-            if !matches!(self.look(valuation, formula), Glimpse::Nothing) {
-                return;
-            }
+    // Whether an earlier step has found that the path makes that formula false.
+    pub(crate) fn is_refused(&self, valuation: &Valuation) -> bool {
+        match self.refused {
+            Some(length) => length <= valuation.path().len(),
+            None => false,
         }
+    }
+
+    // The path makes that formula false.
+    pub(crate) fn note_refusal(&mut self, valuation: &Valuation) {
+        self.refused = Some(valuation.path().len());
+    }
+
+    // Has the next look at that formula begin at a part that speaks of the name that the path says holds, if it
+    // has one that isn't false.
+    pub(crate) fn go_to_name(&mut self, valuation: &Valuation) {
+        if let Some(name) = self.names.last()
+            && let Some(numbers) = self.uses.open_part_with_name(*name, valuation)
+        {
+            self.second.parts = numbers;
+        }
+    }
+
+    // Whether the path makes the formula of this policy of the first list false, where its index tells.
+    pub(crate) fn denies(
+        &mut self,
+        valuation: &Valuation,
+        policy: usize,
+        formula: &IndexedFormula,
+    ) -> Option<bool>
+        ensures { IfSome result (λ known. known ≡ true
+            → surely valuation.now.literals (sentence_at valuation.now.atoms formula.now) ≡ Some false) }
+    {
+        valuation.denies(formula, self.first.get_mut(policy)?)
     }
 
     // Whether a short look at the formula of this policy of the first list tells that it may hold.
@@ -136,11 +183,51 @@ impl<'f> Hints<'f> {
         if self.overview.may_hold(policy, valuation) {
             return Ok(true);
         }
+        let seen = self.look_at_first(valuation, policy, formula, FEW)?;
+        Ok(!matches!(seen, Glimpse::Nothing))
+    }
+
+    // Whether a look tells that the formula of this policy of the first list holds, which isn't the only one.
+    pub(crate) fn is_met(
+        &self,
+        valuation: &Valuation,
+        policy: usize,
+        formula: &PlacedFormula,
+    ) -> bool {
+        let scope = Scope {
+            most: usize::MAX,
+            weights: &[],
+            skips_denials: !self.overview.denies_any(policy, &self.integrity),
+            seeks_true: true,
+        };
+        self.first.len() > 1
+            && matches!(
+                valuation.glance(formula, scope, &mut Glance::default()),
+                Glimpse::Holds
+            )
+    }
+
+    // A look at so many parts of the formula of this policy of the first list.
+    pub(crate) fn look_at_first(
+        &mut self,
+        valuation: &Valuation,
+        policy: usize,
+        formula: &PlacedFormula,
+        most: usize,
+    ) -> Result<Glimpse, Memory>
+        ensures { IfOk result (Tells valuation.now (sentence_at valuation.now.atoms formula.now)) }
+    {
+        let scope = Scope {
+            most,
+            weights: &[],
+            skips_denials: !self.overview.denies_any(policy, &self.integrity),
+            seeks_true: false,
+        };
         let Some(from) = self.first.get_mut(policy) else {
-            return Ok(false);
+            return Ok(Glimpse::Nothing);
         };
         self.looks.push((policy, *from))?;
-        Ok(!matches!(valuation.glance(formula, &[], from), Glimpse::Nothing))
+        Ok(valuation.glance(formula, scope, from))
     }
 
     // Whether a short look at the formula of the policy of the second list has seen each part that the last
@@ -172,6 +259,9 @@ impl<'f> Hints<'f> {
         if self.overview.has_name_at(place) {
             self.names.push(place)?;
         }
+        if self.overview.has_integrity_at(place) {
+            self.integrity.push(place)?;
+        }
         self.last = Last::OwnParts { place };
         self.doubted.are_all = self.doubted.are_all || !self.overview.is_on_url_at(place);
         let list = &mut self.suspects.list;
@@ -187,11 +277,19 @@ impl<'f> Hints<'f> {
             return Ok(());
         };
         let (place, looks) = (turn.place, turn.looks);
+        if let Some(length) = self.refused
+            && length >= valuation.path().len()
+        {
+            self.refused = None;
+        }
         self.second = turn.second;
         self.doubted.list.truncate(turn.doubted);
         self.doubted.are_all = turn.are_all_doubted;
         if self.overview.has_name_at(place) {
             self.names.pop();
+        }
+        if self.overview.has_integrity_at(place) {
+            self.integrity.pop();
         }
         self.last = if self.uses.is_negated(place) {
             Last::Anything

@@ -12,9 +12,12 @@ ghost use Rattle.csp_valuation.specs.Valuations.{value_at};
 use crate::hints::Hints;
 use crate::searching::Question;
 use csp_model::{Disposition, Memory, Policy};
-use csp_placed::{IndexedFormula, PlacedFormula};
+use csp_placed::IndexedFormula;
 use csp_proof::Node;
-use csp_valuation::{Glimpse, Standing, Valuation};
+use csp_valuation::{Glance, Glimpse, Standing, Valuation};
+
+// At how many parts of ors a short look looks.
+pub(crate) const FEW: usize = 16;
 
 // The formula of the policy at a place, where there is one and it is enforced.
 fn enforced_formula<'f, F>(policies: &[Policy], formulas: &'f [F], place: usize) -> Option<&'f F>
@@ -39,7 +42,7 @@ fn first_formula<'f>(question: Question<'f>, place: usize) -> Option<&'f Indexed
 }
 
 // That of the policy of the second list that the question is about.
-pub(crate) fn second_formula<'f>(question: Question<'f>) -> Option<&'f PlacedFormula>
+pub(crate) fn second_formula<'f>(question: Question<'f>) -> Option<&'f IndexedFormula>
     ensures { option_copied result
         ≡ spec.enforced_at question.entry.second.now.policies question.entry.formulas.now.second
         question.entry.policy }
@@ -72,14 +75,14 @@ fn standing_by_index(formula: &IndexedFormula, valuation: &Valuation) -> Standin
         ≡ surely valuation.now.literals (sentence_at valuation.now.atoms formula.now) }
     ensures open { IsOpenAt valuation.now result }
 {
-    if valuation.denies(formula) {
+    if let Some(true) = valuation.denies(formula, &mut Glance::default()) {
         return Standing::Decided(false);
     }
     valuation.standing_of(formula.formula())
 }
 
 // Where a formula of the second list stands. Where there is none, a branch isn't met.
-fn standing_of_second(formula: Option<&PlacedFormula>, valuation: &Valuation) -> Standing
+fn standing_of_second(formula: Option<&IndexedFormula>, valuation: &Valuation) -> Standing
     ensures value { is_surely true (value_in result) ≡ spec.is_surely_at
         valuation.now.literals valuation.now.atoms true (option_copied formula.entry) }
     ensures waits { MatchOption (value_in result) ⊤
@@ -87,7 +90,7 @@ fn standing_of_second(formula: Option<&PlacedFormula>, valuation: &Valuation) ->
     ensures open { IsOpenAt valuation.now result }
 {
     match formula {
-        Some(formula) => valuation.standing_of(formula),
+        Some(formula) => valuation.standing_of(formula.formula()),
         None => Standing::Decided(false),
     }
 }
@@ -121,6 +124,7 @@ fn second_standing(question: Question, valuation: &Valuation) -> Standing
 }
 
 // How a search goes on from a branch.
+#[derive(Drop)]
 pub(crate) enum Step {
     // A leaf ends the branch.
     Close { leaf: Node },
@@ -142,7 +146,10 @@ pub(crate) fn next_step(
     ensures { IfOk result (spec.IsStep
         (lists_of question.entry) (pair_of question.entry) valuation.now) }
 {
-    match glimpse(question, valuation, hints) {
+    if hints.is_refused(valuation) {
+        return step_of_refused(question, valuation, hints);
+    }
+    match glimpse(question, valuation, FEW, hints) {
         Glimpse::Holds => Ok(Step::Close { leaf: Node::Met }),
         Glimpse::Open { place } => {
             if hints.has_seen_all(valuation) {
@@ -153,26 +160,52 @@ pub(crate) fn next_step(
         }
         Glimpse::Nothing => match blocking(question, valuation, hints)? {
             Some(leaf) => Ok(Step::Close { leaf }),
-            None => step_of_whole(question, valuation, None, hints),
+            None => step_of_rest(question, valuation, hints),
         },
     }
 }
 
-// What a short look tells of the policy of the second list.
-fn glimpse(question: Question, valuation: &Valuation, hints: &mut Hints) -> Glimpse
+// What a look at so many parts tells of the policy of the second list.
+fn glimpse(question: Question, valuation: &Valuation, most: usize, hints: &mut Hints) -> Glimpse
     requires posed { IsPosed question }
     requires atoms { valuation.now.atoms ≡ question.formulas.now.atoms }
     ensures { spec.IsGlimpse
         (lists_of question.entry) (pair_of question.entry) valuation.now result }
 {
     match second_formula(question) {
-        Some(formula) => hints.look(valuation, formula),
+        Some(formula) => hints.look(valuation, formula.formula(), most),
         None => Glimpse::Nothing,
     }
 }
 
-// What a branch calls for, by the whole formula of the policy of the second list. A place where a short look
-// found it open goes before others.
+// What a branch calls for that no policy of the first list blocks, where a short look told nothing: as a look
+// at all other parts tells it.
+fn step_of_rest(
+    question: Question,
+    valuation: &Valuation,
+    hints: &mut Hints,
+) -> Result<Step, Memory>
+    requires posed { IsPosed question }
+    requires atoms { valuation.now.atoms ≡ question.formulas.now.atoms }
+    ensures { IfOk result (spec.IsStep
+        (lists_of question.entry) (pair_of question.entry) valuation.now) }
+{
+    hints.go_to_name(valuation);
+    match glimpse(question, valuation, usize::MAX, hints) {
+        Glimpse::Holds => Ok(Step::Close { leaf: Node::Met }),
+        Glimpse::Open { place } => {
+            if hints.has_seen_all(valuation) {
+                Ok(Step::Split { place })
+            } else {
+                step_of_whole(question, valuation, Some(place), hints)
+            }
+        }
+        Glimpse::Nothing => step_of_whole(question, valuation, None, hints),
+    }
+}
+
+// What a branch calls for, by the whole formula of the policy of the second list. A place where a look found
+// it open goes before others.
 fn step_of_whole(
     question: Question,
     valuation: &Valuation,
@@ -187,20 +220,16 @@ fn step_of_whole(
 {
     match second_standing(question, valuation) {
         Standing::Decided(true) => Ok(Step::Close { leaf: Node::Met }),
-        Standing::Decided(false) => Ok(step_of_first(question, valuation)),
-        Standing::Open { place } => {
-            if seen.is_none() {
-                look_on(question, valuation, hints);
+        Standing::Decided(false) => {
+            hints.note_refusal(valuation);
+            match open_place(question, valuation, hints)? {
+                Some(place) => step_of_open(question, valuation, place, hints),
+                None => Ok(step_of_first(question, valuation)),
             }
+        }
+        Standing::Open { place } => {
             step_of_open(question, valuation, seen.unwrap_or(place), hints)
         }
-    }
-}
-
-// Has the next short looks begin where the policy of the second list is open.
-fn look_on(question: Question, valuation: &Valuation, hints: &mut Hints) {
-    if let Some(formula) = second_formula(question) {
-        hints.look_on(valuation, formula);
     }
 }
 
@@ -244,12 +273,41 @@ fn blocking(
         {
             continue;
         }
-        if let Standing::Decided(false) = first_standing(question, valuation, policy) {
+        if blocks(question, valuation, policy, hints) {
             let policy = policy as u32;
             return Ok(Some(Node::Blocked { policy }));
         }
     }
     Ok(None)
+}
+
+// Whether a policy of the first list surely allows nothing more. Its whole formula is evaluated only where
+// its index doesn't tell.
+fn blocks(question: Question, valuation: &Valuation, policy: usize, hints: &mut Hints) -> bool
+    requires posed { IsPosed question }
+    requires atoms { valuation.now.atoms ≡ question.formulas.now.atoms }
+    ensures { result ≡ true → rules.blocks
+        (lists_of question.entry) (pair_of question.entry) valuation.now.literals policy ≡ true }
+{
+    is_denied(first_formula(question, policy), valuation, policy, hints)
+}
+
+fn is_denied(
+    formula: Option<&IndexedFormula>,
+    valuation: &Valuation,
+    policy: usize,
+    hints: &mut Hints,
+) -> bool
+    ensures { result ≡ true → spec.is_surely_at
+        valuation.now.literals valuation.now.atoms false (option_copied formula.entry) ≡ true }
+{
+    let Some(formula) = formula else {
+        return false;
+    };
+    match hints.denies(valuation, policy, formula) {
+        Some(known) => known,
+        None => valuation.value_of(formula.formula()) == Some(false),
+    }
 }
 
 // Whether a short look tells that a policy of the first list may allow something.
@@ -262,6 +320,64 @@ fn may_hold(
     match question.formulas.first.get(policy) {
         Some(formula) => hints.may_hold(valuation, policy, formula.formula()),
         None => Ok(false),
+    }
+}
+
+// What a branch calls for below one that the policy of the second list refuses.
+fn step_of_refused(
+    question: Question,
+    valuation: &Valuation,
+    hints: &mut Hints,
+) -> Result<Step, Memory>
+    requires posed { IsPosed question }
+    requires atoms { valuation.now.atoms ≡ question.formulas.now.atoms }
+    ensures { IfOk result (spec.IsStep
+        (lists_of question.entry) (pair_of question.entry) valuation.now) }
+{
+    if let Some(leaf) = blocking(question, valuation, hints)? {
+        return Ok(Step::Close { leaf });
+    }
+    match open_place(question, valuation, hints)? {
+        Some(place) => Ok(Step::Split { place }),
+        None => step_of_whole(question, valuation, None, hints),
+    }
+}
+
+// A place that a policy of the first list waits on, as looks at their formulas tell it.
+fn open_place(
+    question: Question,
+    valuation: &Valuation,
+    hints: &mut Hints,
+) -> Result<Option<usize>, Memory>
+    ensures { IfOk result (λ found. IfSome found (λ place. value_at valuation.now place ≡ None)) }
+{
+    for policy in 0..question.first.policies.len() {
+        let Some(formula) = first_formula(question, policy) else {
+            continue;
+        };
+        let formula = formula.formula();
+        if hints.is_met(valuation, policy, formula) {
+            continue;
+        }
+        let seen = hints.look_at_first(valuation, policy, formula, usize::MAX)?;
+        if let Glimpse::Open { place } = seen {
+            return Ok(Some(place));
+        }
+    }
+    Ok(None)
+}
+
+// Whether the policy of the second list surely refuses what is left, and each of the first list surely allows
+// it.
+pub(crate) fn is_open(question: Question, valuation: &Valuation) -> bool
+    requires posed { IsPosed question }
+    requires atoms { valuation.now.atoms ≡ question.formulas.now.atoms }
+    ensures { result ≡ true → spec.IsOpen
+        (lists_of question.entry) (pair_of question.entry) valuation.now.literals }
+{
+    match second_standing(question, valuation) {
+        Standing::Decided(false) => matches!(step_of_first(question, valuation), Step::Leave),
+        _ => false,
     }
 }
 

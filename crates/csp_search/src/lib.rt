@@ -5,6 +5,7 @@
 mod hints;
 mod leaf;
 mod open;
+mod order;
 mod overview;
 mod searching;
 mod tree;

@@ -30,6 +30,8 @@ pub struct Overview<'f> {
     on_url: Vec<usize>,
     // The policies in whose formulas an atom stands, by its place. They rise.
     mentions: Vec<(usize, usize)>,
+    // The policies in whose formulas the denial of an atom stands, by its place. They rise.
+    denied: Vec<(usize, usize)>,
     // The places of the fronts, and of the atom that the host is a domain, which hold where other atoms do.
     fronts: Vec<usize>,
     domain: Option<usize>,
@@ -56,6 +58,7 @@ impl<'f> Overview<'f> {
         let mut enough = Vec::with_capacity(alloc, formulas.first.len())?;
         let mut on_url = Vec::new(alloc);
         let mut mentions = Vec::new(alloc);
+        let mut denied = Vec::new(alloc);
         for (policy, formula) in formulas.first.as_slice().iter().enumerate() {
             let places = enough_for(alloc, formula.formula())?;
             if places.is_empty() || places.iter().any(|place| is_on_url(atoms, *place)) {
@@ -63,15 +66,18 @@ impl<'f> Overview<'f> {
             }
             enough.push(places)?;
             note_facts(formula.formula(), policy, &mut mentions)?;
+            note_denied(formula.formula(), policy, &mut denied)?;
         }
         mentions.sort_unstable();
         mentions.dedup();
+        denied.sort_unstable();
         Ok(Overview {
             atoms,
             ascending: ascends(atoms),
             enough,
             on_url,
             mentions,
+            denied,
             fronts: fronts_of(alloc, atoms)?,
             domain: atoms
                 .iter()
@@ -86,6 +92,23 @@ impl<'f> Overview<'f> {
     // Whether the atom at a place is on the name of a host.
     pub(crate) fn has_name_at(&self, place: usize) -> bool {
         self.atoms.get(place).is_some_and(|atom| is_name(atom))
+    }
+
+    // Whether the atom at a place is on the integrity metadata.
+    pub(crate) fn has_integrity_at(&self, place: usize) -> bool {
+        matches!(
+            self.atoms.get(place),
+            Some(Atom::IntegrityHas(_) | Atom::IntegrityOutside)
+        )
+    }
+
+    // Whether the denial of an atom at one of these places stands in the formula of this policy.
+    pub(crate) fn denies_any(&self, policy: usize, places: &[usize]) -> bool {
+        places.iter().any(|place| {
+            let looked_for = (*place, policy);
+            let number = self.denied.partition_point(|entry| *entry < looked_for);
+            self.denied.get(number) == Some(&looked_for)
+        })
     }
 
     // Whether the atom at a place is on the URL of a check. Its literals then decide atoms on the URL alone.
@@ -200,6 +223,34 @@ impl<'f> Overview<'f> {
         }
         Ok(true)
     }
+}
+
+// Adds each place of a fact whose denial stands in this formula, with its policy.
+#[cycle(note_denied)]
+fn note_denied(
+    formula: &PlacedFormula,
+    policy: usize,
+    found: &mut Vec<(usize, usize)>,
+) -> Result<(), Memory> {
+    match formula {
+        PlacedFormula::Constant(_) | PlacedFormula::Fact(_) => Ok(()),
+        PlacedFormula::Not(inner) => note_facts(inner, policy, found),
+        PlacedFormula::FactAnd { parts, .. }
+        | PlacedFormula::Every(parts)
+        | PlacedFormula::OneOf(parts) => note_denied_in_each(parts, policy, found),
+    }
+}
+
+#[cycle(note_denied)]
+fn note_denied_in_each(
+    formulas: &[PlacedFormula],
+    policy: usize,
+    found: &mut Vec<(usize, usize)>,
+) -> Result<(), Memory> {
+    for formula in formulas {
+        note_denied(formula, policy, found)?;
+    }
+    Ok(())
 }
 
 // Whether the atom at a place is on the URL of a check, and not on the nonce, the integrity metadata or the

@@ -10,6 +10,7 @@ ghost use Rattle.csp_shape.specs.Shapes.{is_shape};
 ghost use Rattle.csp_table.specs.Tables.{AreAt};
 
 use crate::open::open_check;
+use crate::order::order_branch;
 use crate::overview::Overview;
 use crate::tree::find_tree;
 use csp_atom::Vocabulary;
@@ -72,8 +73,11 @@ pub fn search<'a>(
     each_token_has_one_source();
     match find_tree(alloc, question, valuation)? {
         Some(nodes) => Ok(Found::Nodes { nodes }),
-        None => Ok(Found::Check {
-            check: open_check(alloc, question, valuation)?,
-        }),
+        None => {
+            order_branch(alloc, question, valuation)?;
+            Ok(Found::Check {
+                check: open_check(alloc, question, valuation)?,
+            })
+        }
     }
 }

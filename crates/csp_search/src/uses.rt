@@ -2,12 +2,20 @@
 use crate::overview::Overview;
 use csp_atom::Atom;
 use csp_model::Memory;
-use csp_placed::{PlacedFormula, is_name};
+use csp_placed::{IndexedFormula, PlacedFormula, is_name};
 use csp_valuation::Valuation;
 use std::alloc::Global;
 
 // In how many parts an atom may stand of which each is looked at.
 const MOST_PARTS: usize = 16;
+
+// A part of an or, or of an or in one.
+#[derive(Clone, Copy, Debug)]
+pub(crate) struct Part<'f> {
+    formula: &'f PlacedFormula,
+    // Its number, and where it stands in an or in that part, its number there, and so on.
+    numbers: [usize; 3],
+}
 
 // How the atom of each place stands in a formula.
 #[derive(Debug, Drop)]
@@ -18,7 +26,7 @@ pub(crate) struct Uses<'f> {
     negated: Vec<bool>,
     // The parts of the formula, those of an or in it among them, by the places of the facts that stand in
     // them.
-    parts: Vec<(usize, &'f PlacedFormula)>,
+    parts: Vec<(usize, Part<'f>)>,
     // Whether it stands in a part that speaks of no name of a host.
     nameless: Vec<bool>,
 }
@@ -27,7 +35,7 @@ impl<'f> Uses<'f> {
     // Those in a formula over these atoms, or in none.
     pub(crate) fn new(
         alloc: Global,
-        formula: Option<&'f PlacedFormula>,
+        formula: Option<&'f IndexedFormula>,
         atoms: &[Atom],
     ) -> Result<Uses<'f>, Memory> {
         let mut uses = Uses {
@@ -37,8 +45,9 @@ impl<'f> Uses<'f> {
             nameless: vec![in alloc; false; atoms.len()]?,
         };
         if let Some(formula) = formula {
+            let formula = formula.formula();
             note(formula, false, &mut uses);
-            note_parts(formula, &mut uses.parts)?;
+            note_parts(formula, [0; 3], 0, &mut uses.parts)?;
             uses.parts.sort_by_key(|(place, _)| *place)?;
             uses.keep_most(parts_of(formula) / 2);
             uses.note_nameless(atoms);
@@ -48,11 +57,6 @@ impl<'f> Uses<'f> {
 
     pub(crate) fn weights(&self) -> &[u32] {
         &self.weights
-    }
-
-    // How often facts stand in the formula, which is at least the number of its open parts.
-    pub(crate) fn count(&self) -> usize {
-        self.parts.len()
     }
 
     // Whether the denial of the atom at a place can make a part of the formula true.
@@ -110,8 +114,36 @@ impl<'f> Uses<'f> {
         }
     }
 
+    // The numbers of a part of the formula that the path doesn't make false, if there is one among the parts
+    // that speak of a name which holds with the one at this place. Where these are many, they aren't asked.
+    pub(crate) fn open_part_with_name(
+        &self,
+        place: usize,
+        valuation: &Valuation,
+    ) -> Option<[usize; 3]> {
+        let names = valuation.overlapping(place)?;
+        if names.len() > MOST_PARTS {
+            return None;
+        }
+        names
+            .iter()
+            .find_map(|name| self.open_part_at(*name, valuation))
+    }
+
+    // The same among the parts in which the atom at this place stands.
+    fn open_part_at(&self, place: usize, valuation: &Valuation) -> Option<[usize; 3]> {
+        let parts = self.parts_at(place);
+        if parts.len() > MOST_PARTS {
+            return None;
+        }
+        parts
+            .iter()
+            .find(|(_, part)| valuation.value_of(part.formula) != Some(false))
+            .map(|(_, part)| part.numbers)
+    }
+
     // The parts in which the atom at a place stands.
-    fn parts_at(&self, place: usize) -> &[(usize, &'f PlacedFormula)] {
+    fn parts_at(&self, place: usize) -> &[(usize, Part<'f>)] {
         let start = self.parts.partition_point(|(other, _)| *other < place);
         let rest = &self.parts[start..];
         &rest[..rest.partition_point(|(other, _)| *other <= place)]
@@ -150,7 +182,7 @@ impl<'f> Uses<'f> {
     fn note_nameless(&mut self, atoms: &[Atom]) {
         for (place, part) in &self.parts {
             if let Some(nameless) = self.nameless.get_mut(*place)
-                && !speaks_of_name(part, atoms)
+                && !speaks_of_name(part.formula, atoms)
             {
                 *nameless = true;
             }
@@ -189,11 +221,11 @@ fn have_name_among(parts: &[PlacedFormula], atoms: &[Atom]) -> bool {
 }
 
 // Whether the path may make one of the parts true. Of many parts each isn't asked.
-fn may_have_true(parts: &[(usize, &PlacedFormula)], valuation: &Valuation) -> bool {
+fn may_have_true(parts: &[(usize, Part<'_>)], valuation: &Valuation) -> bool {
     parts.len() > MOST_PARTS
         || parts
             .iter()
-            .any(|(_, part)| valuation.value_of(part) == Some(true))
+            .any(|(_, part)| valuation.value_of(part.formula) == Some(true))
 }
 
 #[cycle(note)]
@@ -223,13 +255,19 @@ fn note_all(parts: &[PlacedFormula], is_negated: bool, uses: &mut Uses<'_>) {
 #[cycle(note_parts)]
 fn note_parts<'f>(
     formula: &'f PlacedFormula,
-    found: &mut Vec<(usize, &'f PlacedFormula)>,
+    numbers: [usize; 3],
+    depth: usize,
+    found: &mut Vec<(usize, Part<'f>)>,
 ) -> Result<(), Memory> {
     let PlacedFormula::OneOf(parts) = formula else {
-        return note_facts(formula, formula, found);
+        return note_facts(formula, Part { formula, numbers }, found);
     };
-    for part in parts {
-        note_parts(part, found)?;
+    let mut numbers = numbers;
+    for (number, part) in parts.iter().enumerate() {
+        if let Some(own) = numbers.get_mut(depth) {
+            *own = number;
+        }
+        note_parts(part, numbers, depth.saturating_add(1), found)?;
     }
     Ok(())
 }

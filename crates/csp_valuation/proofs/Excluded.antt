@@ -1,5 +1,5 @@
 -- Of the names that stand in a list of atoms a path denies those that the narrowest name on it excludes.
-use Rattle.std.proofs.Common.{◌≡◌, refl, sym, subst, ℕ, zero, suc, ◌<◌, ◌⊎◌, inl, inr, Bool, true, false, ◌&&◌, List, [], ◌∷◌, length, Option, Some, None, IfSome, MatchOption, All, slice_get, arith}
+use Rattle.std.proofs.Common.{◌≡◌, refl, sym, subst, ℕ, zero, suc, ◌<◌, ◌⊎◌, inl, inr, Bool, true, false, ◌&&◌, List, [], ◌∷◌, length, Option, Some, None, All, slice_get, arith}
 use Rattle.std.proofs.lemmas.List.Elements.{All-head, All-tail, Contains-get_or}
 use Rattle.std.proofs.lemmas.Option.{same_Some, slice_get-get_or, slice_get_read}
 use Rattle.std.specs.List.{Contains, slice_index_or}
@@ -80,7 +80,7 @@ module _ (best : Taken) (a : Atom) (name : is_name a ≡ true) (excluded : follo
 
 -- What stands where names do
 
-names_denied : (path : List Taken) (best : Taken) (atoms : List Atom) (names : Names) → IsNarrowest path best → AreNames best.atom.now atoms names
+pub names_denied : (path : List Taken) (best : Taken) (atoms : List Atom) (names : Names) → IsNarrowest path best → AreNames best.atom.now atoms names
     → (place : ℕ) → place < names.end → (value_of_atom (literals_of path) (slice_get atoms place) ≡ Some false) ⊎ Contains names.listed.now place
 names_denied path best atoms names narrowest are place low =
     let inside : place < length atoms = omega (arith, are.inside) in
@@ -89,10 +89,3 @@ names_denied path best atoms names narrowest are place low =
       | inl none ↦ inl (rw (slice_get-get_or atoms place HostDomain inside) (excluded_denied best (slice_index_or atoms place HostDomain) name none path narrowest))
       | inr has ↦ inr has
     ]
-
-pub all_denied : (path : List Taken) (best : Taken) (atoms : List Atom) (found : Option Names) → IsNarrowest path best
-    → MatchOption found (Unit {0}) (AreNames best.atom.now atoms)
-    → IfSome found (λ names. (place : ℕ) → place < names.end
-    → (value_of_atom (literals_of path) (slice_get atoms place) ≡ Some false) ⊎ Contains names.listed.now place)
-all_denied path best atoms None narrowest are = tt
-all_denied path best atoms (Some names) narrowest are = names_denied path best atoms names narrowest are

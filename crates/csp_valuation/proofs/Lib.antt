@@ -1,3 +1,4 @@
+pub mod Ands
 pub mod Ascending
 pub mod Asides
 pub mod Changing

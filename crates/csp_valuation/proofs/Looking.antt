@@ -6,7 +6,7 @@ use Rattle.csp_atom.specs.declared.atom.Literal.{Literal}
 use Rattle.csp_formula.proofs.Maybe.{maybe_and_assoc}
 use Rattle.csp_formula.specs.Sentences.{Sentence, Both, all_of, any_of}
 use Rattle.csp_formula.specs.Surely.{surely, maybe_and, maybe_or}
-use Rattle.csp_valuation.specs.Glimpses.{Tells}
+use Rattle.csp_valuation.specs.Glimpses.{IsOpenIn, Tells}
 use Rattle.csp_placed.specs.Placed.{sentence_at}
 use Rattle.csp_valuation.specs.Valuations.{Assignment}
 use Rattle.csp_valuation.specs.declared.glance.Glimpse.{Glimpse}
@@ -41,6 +41,12 @@ told_alike : (v : Assignment) (x y : Sentence) (g : Glimpse) → surely v.litera
 told_alike v x y glimpse.Holds e t = e ∙ t
 told_alike v x y (glimpse.Open place) e t = t
 told_alike v x y glimpse.Nothing e t = t
+
+-- what is told of a sentence tells of a place that it isn't decided
+pub open_of_told : (v : Assignment) (x : Sentence) (g : Glimpse) → Tells v x g → IsOpenIn v g
+open_of_told v x glimpse.Holds t = tt
+open_of_told v x (glimpse.Open place) t = t
+open_of_told v x glimpse.Nothing t = tt
 
 -- what is told of a part of an or is told of the or
 pub told_of_one : (v : Assignment) (parts : List PlacedFormula) (i : ℕ) (part : PlacedFormula) (g : Glimpse)

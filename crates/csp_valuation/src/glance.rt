@@ -1,34 +1,41 @@
 //! Short looks at formulas.
-ghost use Rattle.std.specs.Prelude.{◌≡◌, map, slice_get};
+ghost use Rattle.std.specs.Prelude.{◌≡◌, IfSome, None, map, slice_get};
 ghost use Rattle.csp_formula.specs.Sentences.{Sentence, Both, all_of, any_of};
 ghost use Rattle.csp_formula.specs.Surely.{surely};
-ghost use Rattle.csp_valuation.specs.Glimpses.{Tells};
+ghost use Rattle.csp_valuation.specs.Glimpses.{IsOpenIn, Tells};
 ghost use Rattle.csp_placed.specs.Placed.{fact, sentence_at};
 ghost use Rattle.csp_valuation.specs.Standings.{IsOpenAt, value_in};
-ghost use Rattle.csp_valuation.specs.Valuations.{Assignment};
+ghost use Rattle.csp_valuation.specs.Valuations.{Assignment, value_at};
 
 use crate::standing::{Standing, standing_under};
 use crate::valuation::Valuation;
 use csp_placed::PlacedFormula;
 
-// At how many parts of an or one look looks.
-const FEW: usize = 16;
-
 /// Where a look at a formula begins: by default at the first part of each or. It changes which answer comes,
 /// and how soon, but none makes an answer wrong.
 #[derive(Clone, Copy, Debug, Default)]
 pub struct Glance {
-    // The part of an or to begin with, of one that stands in that part, and of one in that.
-    parts: [usize; 3],
+    /// The number of the part of an or to begin with, of that of an or in this part, and of one in that.
+    pub parts: [usize; 3],
+    // The indexed part that was last seen not to be false.
+    pub(crate) indexed: usize,
 }
 
-impl Glance {
-    pub(crate) fn parts(&mut self) -> &mut [usize] {
-        &mut self.parts
-    }
+/// How a look at a formula is taken.
+#[derive(Clone, Copy, Debug)]
+pub struct Scope<'w> {
+    /// At how many parts of ors it looks at most.
+    pub most: usize,
+    /// Of the places that an and waits on, it tells the one with the greatest weight, and the first of
+    /// several. A place without a weight has 0.
+    pub weights: &'w [u32],
+    /// Whether it takes the denials in an and to be true, as long as something else in the and isn't.
+    pub skips_denials: bool,
+    /// Whether it passes over the parts of ors that the path doesn't decide.
+    pub seeks_true: bool,
 }
 
-/// What a short look tells of a formula.
+/// What a look tells of a formula.
 #[derive(Clone, Copy, Debug)]
 pub enum Glimpse {
     /// The path surely makes the formula true.
@@ -39,26 +46,51 @@ pub enum Glimpse {
     Nothing,
 }
 
-// Looks at a formula: in an or at the part where the last look ended, or the first after that isn't false.
+// Looks at a formula: in an or at the part where the last look ended, or the first after that isn't false. So
+// many parts of ors are left to be looked at.
 #[cycle(look)]
 pub(crate) fn look(
     valuation: &Valuation,
     formula: &PlacedFormula,
-    weights: &[u32],
+    scope: Scope<'_>,
     from: &mut [usize],
+    left: &mut usize,
 ) -> Glimpse
     ensures { Tells valuation.now (sentence_at valuation.now.atoms formula.now) result }
 {
     match formula {
-        PlacedFormula::OneOf(parts) => look_at_one(valuation, parts, weights, from),
-        PlacedFormula::Every(parts) => look_at_all(valuation, parts, weights, from),
+        PlacedFormula::OneOf(parts) => look_at_one(valuation, parts, scope, from, left),
+        PlacedFormula::Every(parts) => {
+            let beside = if scope.skips_denials {
+                look_past_denials(valuation, parts, scope, from, left)
+            } else {
+                Glimpse::Holds
+            };
+            if let Glimpse::Nothing = beside {
+                return beside;
+            }
+            let denial = look_at_denials(valuation, parts, from);
+            if matches!(denial, Glimpse::Nothing)
+                || (scope.skips_denials && !matches!(denial, Glimpse::Holds))
+            {
+                return denial;
+            }
+            if !matches!(beside, Glimpse::Holds) {
+                return beside;
+            }
+            look_at_all(valuation, parts, scope, from, left)
+        }
         PlacedFormula::FactAnd { place, parts } => {
             let first = glimpse_at(valuation, *place);
             // Most parts are false by their first fact.
             if let Glimpse::Nothing = first {
                 return first;
             }
-            both(first, look_at_all(valuation, parts, weights, from), weights)
+            both(
+                first,
+                look_at_all(valuation, parts, scope, from, left),
+                scope.weights,
+            )
         }
         PlacedFormula::Fact(place) => glimpse_at(valuation, *place),
         _ => match standing_under(valuation, formula) {
@@ -69,28 +101,46 @@ pub(crate) fn look(
     }
 }
 
-// Looks at the parts of an or.
+// Looks at the parts of an or. The next look begins where this one ends: in the part that was seen, or where
+// none is left to be looked at.
 #[cycle(look)]
 fn look_at_one(
     valuation: &Valuation,
     parts: &[PlacedFormula],
-    weights: &[u32],
+    scope: Scope<'_>,
     from: &mut [usize],
+    left: &mut usize,
 ) -> Glimpse
     ensures { Tells valuation.now (any_of (map (sentence_at valuation.now.atoms) parts.now)) result }
 {
     let Some((first, below)) = from.split_first_mut() else {
         return Glimpse::Nothing;
     };
-    let end = parts.len().min(first.saturating_add(FEW));
-    'one: for place in *first..end {
-        let seen = look(valuation, &parts[place], weights, below);
-        if !matches!(seen, Glimpse::Nothing) {
-            *first = place;
+    'one: for place in *first..parts.len() {
+        *first = place;
+        if *left == 0 {
+            return Glimpse::Nothing;
+        }
+        *left -= 1;
+        let part = &parts[place];
+        if let PlacedFormula::Constant(false) = part {
+            continue;
+        }
+        let seen = look(valuation, part, scope, below, left);
+        let is_wanted = match seen {
+            Glimpse::Holds => true,
+            Glimpse::Open { .. } => !scope.seeks_true,
+            Glimpse::Nothing => false,
+        };
+        let next_below = below.first().copied().unwrap_or(0);
+        if is_wanted || (*left == 0 && next_below > 0) {
             return seen;
         }
+        if let Some(next) = below.first_mut() {
+            *next = 0;
+        }
     }
-    *first = if end < parts.len() { end } else { 0 };
+    *first = 0;
     Glimpse::Nothing
 }
 
@@ -99,14 +149,19 @@ fn look_at_one(
 fn look_at_all(
     valuation: &Valuation,
     parts: &[PlacedFormula],
-    weights: &[u32],
+    scope: Scope<'_>,
     from: &mut [usize],
+    left: &mut usize,
 ) -> Glimpse
     ensures { Tells valuation.now (all_of (map (sentence_at valuation.now.atoms) parts.now)) result }
 {
     let mut so_far = Glimpse::Holds;
     'every: for part in parts {
-        so_far = both(so_far, look(valuation, part, weights, from), weights);
+        so_far = both(
+            so_far,
+            look(valuation, part, scope, from, left),
+            scope.weights,
+        );
         if let Glimpse::Nothing = so_far {
             return so_far;
         }
@@ -114,10 +169,61 @@ fn look_at_all(
     so_far
 }
 
+// Looks at the parts of an and but for the denials among them.
+#[cycle(look)]
+fn look_past_denials(
+    valuation: &Valuation,
+    parts: &[PlacedFormula],
+    scope: Scope<'_>,
+    from: &mut [usize],
+    left: &mut usize,
+) -> Glimpse
+    ensures { IsOpenIn valuation.now result }
+{
+    let mut so_far = Glimpse::Holds;
+    'wanted: for part in parts {
+        if let PlacedFormula::Not(_) = part {
+            continue;
+        }
+        so_far = both(
+            so_far,
+            look(valuation, part, scope, from, left),
+            scope.weights,
+        );
+        if let Glimpse::Nothing = so_far {
+            return so_far;
+        }
+    }
+    so_far
+}
+
+// Looks at the denials among the parts of an and, from the one on that was last seen not to hold.
+fn look_at_denials(valuation: &Valuation, parts: &[PlacedFormula], from: &mut [usize]) -> Glimpse
+    ensures { IsOpenIn valuation.now result }
+{
+    let Some(first) = from.last_mut() else {
+        return Glimpse::Holds;
+    };
+    for number in *first..parts.len() {
+        if let PlacedFormula::Not(part) = &parts[number] {
+            *first = number;
+            match standing_under(valuation, part) {
+                Standing::Decided(true) => return Glimpse::Nothing,
+                Standing::Open { place } => return Glimpse::Open { place },
+                Standing::Decided(false) => {}
+            }
+        }
+    }
+    *first = parts.len();
+    Glimpse::Holds
+}
+
 // What is seen of the and of two formulas of which this is seen. Of two open places it is the one with the
 // greater weight, and the first where their weights are equal. A place without a weight has 0.
 fn both(one: Glimpse, other: Glimpse, weights: &[u32]) -> Glimpse
-    ensures { (valuation : Assignment) → (x y : Sentence) → Tells valuation x one → Tells valuation y other
+    ensures open { (valuation : Assignment) → IsOpenIn valuation one → IsOpenIn valuation other
+        → IsOpenIn valuation result }
+    ensures told { (valuation : Assignment) → (x y : Sentence) → Tells valuation x one → Tells valuation y other
         → Tells valuation (Both x y) result }
 {
     match (one, other) {

@@ -15,7 +15,7 @@ mod standing;
 mod taken;
 mod valuation;
 
-pub use glance::{Glance, Glimpse};
+pub use glance::{Glance, Glimpse, Scope};
 pub use standing::Standing;
 pub use taken::Taken;
 pub use valuation::Valuation;

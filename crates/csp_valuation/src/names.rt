@@ -15,7 +15,7 @@ use csp_atom::{Atom, follows_as};
 use csp_placed::{Reach, is_name, overlapping};
 
 // Of how many names the narrowest is looked for.
-const MOST: usize = 16;
+const MOST: usize = 64;
 
 // The places of the names among atoms, which are those before `end`. Listed are those that can hold with one
 // of the names.

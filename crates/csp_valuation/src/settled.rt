@@ -23,6 +23,9 @@ use csp_placed::{ascends, overlaps_of};
 use std::alloc::Global;
 use std::marker::Model;
 
+// A literal that decides at most so many atoms is marked, whatever its sign.
+const FEW_ATOMS: usize = 128;
+
 // A literal of a path.
 #[derive(Clone, Copy, Debug)]
 pub(crate) struct Step<'a> {
@@ -86,14 +89,16 @@ impl<'a> Settled<'a> {
         })
     }
 
-    // Takes a literal. It is set aside if it holds and decides other atoms, and few are.
+    // Takes a literal. It is set aside if it holds and decides many other atoms, and few literals are.
     pub(crate) fn take(&mut self, literal: Taken<'a>)
         requires { length self.old.literals < self.old.room }
         ensures { self.new
             ≡ record self.old { literals = self.old.literals ++ literal_of literal.entry ∷ [] } }
     {
+        let reach = reach_of(literal, &self.atoms, self.ascending);
         if literal.positive
             && self.aside.len() < MOST_ASIDE
+            && reach.end.saturating_sub(reach.start) > FEW_ATOMS
             && !decides_itself_alone(literal.atom, literal.positive)
         {
             let aside = Aside {

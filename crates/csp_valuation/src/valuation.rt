@@ -13,7 +13,7 @@ ghost use Rattle.csp_valuation.specs.Standings.{IsOpenAt, value_in};
 ghost use Rattle.csp_valuation.specs.Valuations.{value_at};
 
 use crate::denial::{denies_each, denies_indexed};
-use crate::glance::{Glance, Glimpse, look};
+use crate::glance::{Glance, Glimpse, Scope, look};
 use crate::names::{Names, narrowest_name, pop_name, push_name};
 use crate::settled::Settled;
 use crate::standing::{Standing, standing_under};
@@ -27,10 +27,10 @@ use std::marker::Model;
 /// What the literals of a path decide of each atom of a list: the first of them, from the root, that decides
 /// an atom gives it its value. A literal's own atom needn't be in the list.
 ///
-/// What the last literal decides is marked only once another is taken on top of it, so a literal that is
-/// taken and taken back at once costs nothing. Of the literals that hold, the first four of a path are set
-/// aside: they are taken and taken back at no cost, and an atom that no earlier literal decides is compared
-/// with each of them where its value is asked.
+/// What a literal that holds decides is marked only once another is taken on top of it, so one that is taken
+/// and taken back at once costs next to nothing. Of the literals that hold and decide many atoms, the first
+/// four of a path are set aside: they are taken by a binary search and taken back at no cost, and an atom
+/// that no earlier literal decides is compared with each of them where its value is asked.
 ///
 /// In a list that ascends, as `place_formulas` makes it, a literal that decides no atom but its own is marked
 /// and cleared by a binary search. The denial that a path lies under a front takes binary searches and time
@@ -93,7 +93,10 @@ impl<'a> Valuation<'a> {
         settle(self.waits, &self.path, &mut self.settled);
         push_name(&mut self.names, literal);
         self.path.push(literal).unwrap();
-        self.waits = true;
+        self.waits = literal.positive;
+        if !literal.positive {
+            self.settled.take(literal);
+        }
     }
 
     /// Takes the last literal back, if there is one: all is as before it was taken.
@@ -158,14 +161,13 @@ impl<'a> Valuation<'a> {
         }
     }
 
-    /// A short look at the formula: in each or at a few parts, from the one on that was not surely false when
-    /// the last look ended there. Of the places that an and waits on, it tells the one with the greatest
-    /// weight, and the first of several; a place without a weight has 0. `Nothing` doesn't mean that the
-    /// formula is false, but that no part was seen that isn't.
-    pub fn glance(&self, formula: &PlacedFormula, weights: &[u32], from: &mut Glance) -> Glimpse
+    /// A look at the formula: in its ors from the part on that was not surely false when the last look ended
+    /// there. `Nothing` doesn't mean that the formula is false, but that no part was seen that isn't.
+    pub fn glance(&self, formula: &PlacedFormula, scope: Scope<'_>, from: &mut Glance) -> Glimpse
         ensures { Tells self.now (sentence_at self.now.atoms formula.now) result }
     {
-        look(self, formula, weights, from.parts())
+        let mut left = scope.most;
+        look(self, formula, scope, &mut from.parts, &mut left)
     }
 
     /// The value of the formula, where the path decides it. Else the place of a fact that the path doesn't
@@ -178,46 +180,34 @@ impl<'a> Valuation<'a> {
         standing_under(self, formula)
     }
 
-    /// Whether the path surely makes the formula false, as far as its index tells soon: where the path says
-    /// which host it is, the parts that begin with another one aren't looked at. Where this is false, the
-    /// formula may be false all the same.
-    pub fn denies(&self, formula: &IndexedFormula) -> bool
-        ensures { result ≡ true
-            → surely self.now.literals (sentence_at self.now.atoms formula.now) ≡ Some false }
+    /// Whether the path surely makes the formula false, by its index: where the path says which host it is, the
+    /// parts that begin with another one aren't looked at. The part is looked at early that the last such look
+    /// saw not to be false. A no means that one was seen now. There is an answer where the formula is an or.
+    pub fn denies(&self, formula: &IndexedFormula, from: &mut Glance) -> Option<bool>
+        ensures { IfSome result (λ known. known ≡ true
+            → surely self.now.literals (sentence_at self.now.atoms formula.now) ≡ Some false) }
     {
-        let Some(parts) = formula.parts() else {
-            return false;
-        };
-        let Some(names) = self.denied() else {
-            return false;
-        };
-        denies_indexed(self, parts, names)
-            && denies_each(self, parts.before)
-            && denies_each(self, parts.after)
+        let parts = formula.parts()?;
+        Some(
+            denies_indexed(self, parts, self.denied(), &mut from.indexed)
+                && denies_each(self, parts.before, from.parts[2])
+                && denies_each(self, parts.after, from.parts[2]),
+        )
     }
 
-    // Whether the formulas are facts, and marks tell of each that it is false. So an or of facts, as of
-    // nonces, is asked at each node.
-    pub(crate) fn denies_facts(&self, formulas: &[PlacedFormula]) -> bool
-        ensures { result ≡ true → All (IsFalse self.now) formulas.now }
+    // Names that the path denies: where it says of one that it holds, all but the listed ones.
+    fn denied(&self) -> Names<'_>
+        ensures { AreDenied self.now result }
     {
-        for formula in formulas {
-            let PlacedFormula::Fact(place) = formula else {
-                return false;
-            };
-            let Some(false) = self.settled.value_by_mark(*place) else {
-                return false;
-            };
+        if let Some(literal) = narrowest_name(&self.names)
+            && let Some(names) = self.settled.names_beside(literal)
+        {
+            return names;
         }
-        true
-    }
-
-    // The names that the path denies, where it says of one that it holds: all but the listed ones.
-    fn denied(&self) -> Option<Names<'_>>
-        ensures { IfSome result (AreDenied self.now) }
-    {
-        let literal = narrowest_name(&self.names)?;
-        self.settled.names_beside(literal)
+        Names {
+            end: 0,
+            listed: &[],
+        }
     }
 
     /// The places of the names of hosts that can hold with the one at this place, its own among them, where

@@ -5,7 +5,7 @@ use Rattle.csp_search.specs.Answers.{IsFound}
 use Rattle.csp_compare.specs.Drafts.{at_shape, IsAdded}
 use Rattle.csp_compare.proofs.Refuting.{refutes}
 use Rattle.csp_compare.specs.Tasks.{lists_of}
-use Rattle.csp_compare.proofs.Adding.{IsSoFar, so_far_room, so_far_added, so_far_more}
+use Rattle.csp_compare.proofs.Adding.{IsSoFar, so_far_all, so_far_room, so_far_added, so_far_more}
 use Rattle.csp_compare.proofs.EnforcedPolicies.{enforced_in}
 use Rattle.csp_compare.proofs.trees.search_shape.Goals as goal
 
@@ -47,3 +47,8 @@ loop-policy-preserved c =
       c.search.ensures.atoms ∙ so.1,
       omega (arith, atoms, rooms, had),
     )
+
+pub returns : goal.returns
+returns c =
+    let all = so_far_all (lists_of c.args.task) c.args.shape c.args.draft.now c.loop-policy.draft c.args.task.policies.now c.loop-policy.numbers.items c.loop-policy.policy-index (omega arith) c.loop-policy.invariant.0 in
+    (all.adds, all.shown)

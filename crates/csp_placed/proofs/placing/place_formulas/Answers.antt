@@ -36,7 +36,7 @@ returns-clause-first c = ap (map (sentence_at c.in_ok-atoms.field-0.atoms)) c.in
 pub returns-clause-second : goal.returns-clause-second
 returns-clause-second c =
     let placed = c.in_ok-placed_second.ensures c.in_ok-atoms.field-0.atoms (split c).back [] ((placed_first c).0 ∙ sym (append-nil (split c).back)) (split c).second in
-    ap (map (sentence_at c.in_ok-atoms.field-0.atoms)) c.from_vec.ensures ∙ placed.1 ∙ said c.args.second.now
+    ap (map (sentence_at c.in_ok-atoms.field-0.atoms)) c.in_ok-second.ensures ∙ placed.1 ∙ said c.args.second.now
 
 pub returns-clause-once : goal.returns-clause-once
 returns-clause-once c = apart_rising c.in_ok-atoms.field-0.atoms c.in_ok-atoms.ensures.rises

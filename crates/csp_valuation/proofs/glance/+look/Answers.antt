@@ -3,7 +3,7 @@ use Rattle.std.proofs.lemmas.List.{take_all}
 use Rattle.csp_formula.specs.Sentences.{all_of}
 use Rattle.csp_placed.specs.Placed.{fact, sentence_at}
 use Rattle.csp_placed.proofs.Layers.{placed_FactAnd}
-use Rattle.csp_valuation.proofs.Looking.{told_of_one, told_of_more}
+use Rattle.csp_valuation.proofs.Looking.{open_of_told, told_of_one, told_of_more}
 use Rattle.csp_valuation.proofs.glance.+look.Goals as goal
 
 pub look-returns-in_default-first : goal.look-returns-in_default-first
@@ -11,7 +11,7 @@ look-returns-in_default-first t c =
     let valuation = c.args.valuation.now in
     let place = c.in-FactAnd.place in
     let rest = all_of (map (sentence_at valuation.atoms) c.deref-in-FactAnd.result.now) in
-    let told = c.both.ensures valuation (fact (slice_get valuation.atoms place)) rest
+    let told = c.both.ensures.told valuation (fact (slice_get valuation.atoms place)) rest
     c.glimpse_at-first.ensures c.look_at_all-in-FactAnd.ensures in
     rw (c.in-FactAnd.is, placed_FactAnd valuation.atoms place c.in-FactAnd.parts)
     (rw c.deref-in-FactAnd.ensures.value at told)
@@ -25,12 +25,18 @@ look_at_all-every-preserved t c =
     let valuation = c.args.valuation.now in
     let part = c.part-item.result in
     let first = all_of (map (sentence_at valuation.atoms) (take c.every.part-index c.args.parts.now)) in
-    let told = c.both-so_far.ensures valuation first (sentence_at valuation.atoms part)
+    let told = c.both-so_far.ensures.told valuation first (sentence_at valuation.atoms part)
     c.every.invariant c.look.ensures in
     told_of_more valuation c.args.parts.now c.every.part-index part c.both-so_far.result
     c.every-test.true c.part-item.is told
 
-pub look_at_one-returns-then-not-matches : goal.look_at_one-returns-then-not-matches
-look_at_one-returns-then-not-matches t c =
+pub look_at_one-returns-then-is_wanted : goal.look_at_one-returns-then-is_wanted
+look_at_one-returns-then-is_wanted t c =
     told_of_one c.args.valuation.now c.args.parts.now c.one.place c.index-parts-place.result c.look-seen.result
     (omega arith) c.index-parts-place.is c.look-seen.ensures
+
+pub look_past_denials-wanted-preserved : goal.look_past_denials-wanted-preserved
+look_past_denials-wanted-preserved t c =
+    let valuation = c.args.valuation.now in
+    c.both-so_far.ensures.open valuation c.wanted.invariant
+    (open_of_told valuation (sentence_at valuation.atoms c.part-item.result) c.look.result c.look.ensures)

@@ -24,7 +24,7 @@ invariant_of-self c =
       marks = rw (taken, marked_beside step refl steps) was.marks;
       aside = rw (aside, taken) (map-append bare inside.aside.items (one ∷ [])
           ∙ ap (λ us. us ++ bare one ∷ []) was.aside ∙ ap (λ n. asides 0 steps ++ (c.args.literal, n) ∷ []) was.marked ∙ sym (all_asides_with step refl steps));
-      placed = rw aside (placed_with inside.atoms.items inside.aside.items one was.placed c.if-literal.true (rw c.deref.ensures.value at c.place_of.ensures));
+      placed = rw aside (placed_with inside.atoms.items inside.aside.items one was.placed c.if-literal.true (rw c.deref-then-not-decides_itself_alone.ensures.value at c.place_of.ensures));
       marked = rw (taken, marked_beside step refl steps) was.marked;
       few = omega (arith, c.push-then-not-decides_itself_alone.ensures.upper_bound, c.push-then-not-decides_itself_alone.new.self.ok.0, inside.steps.ok.0, room, length_taken steps);
       room = omega (arith, c.push-then-not-decides_itself_alone.ensures.capacity, was.room);
