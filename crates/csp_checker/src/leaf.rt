@@ -143,7 +143,7 @@ fn holds_at_a_glance(
     let scope = Scope {
         most,
         weights: &[],
-        skips_denials: false,
+        refuses_denials: false,
         seeks_true: true,
     };
     match valuation.glance(formula, scope, from) {

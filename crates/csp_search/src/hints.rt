@@ -5,6 +5,7 @@ ghost use Rattle.csp_formula.specs.Surely.{surely};
 ghost use Rattle.csp_valuation.specs.Glimpses.{Tells};
 ghost use Rattle.csp_placed.specs.Placed.{sentence_at};
 
+use crate::beginning::beginning;
 use crate::leaf::FEW;
 use crate::overview::Overview;
 use crate::uses::Uses;
@@ -41,6 +42,8 @@ enum Last {
     // The parts in which its own atom stands, which is at this place, and those of the wide ones that it lies
     // in.
     OwnParts { place: usize },
+    // The parts in which the denial of the atom at this place stands.
+    Denied { place: usize },
     // Any part.
     Anything,
 }
@@ -60,7 +63,7 @@ pub(crate) struct Hints<'f> {
     turns: Vec<Turn>,
     // The places of the names of hosts of which the path says that they hold.
     names: Vec<usize>,
-    // Those of the pairs of integrity metadata of which it says so.
+    // Those of the integrity metadata of which it says so.
     integrity: Vec<usize>,
     last: Last,
     // How long the path was when it made the formula of the policy of the second list false, if it did.
@@ -79,11 +82,18 @@ impl<'f> Hints<'f> {
         formula: Option<&'f IndexedFormula>,
         overview: &'f Overview<'f>,
     ) -> Result<Hints<'f>, Memory> {
+        let mut first = Vec::new(alloc);
+        first.extend_from_slice(&overview.beginnings)?;
+        let uses = Uses::new(alloc, formula, overview.atoms())?;
+        let second = match formula {
+            Some(formula) => beginning(formula.formula(), &uses.weights),
+            None => Glance::default(),
+        };
         Ok(Hints {
             overview,
-            uses: Uses::new(alloc, formula, overview.atoms())?,
-            second: Glance::default(),
-            first: vec![in alloc; Glance::default(); overview.policies()]?,
+            uses,
+            second,
+            first,
             looks: Vec::new(alloc),
             turns: Vec::new(alloc),
             names: Vec::new(alloc),
@@ -128,10 +138,11 @@ impl<'f> Hints<'f> {
     ) -> Glimpse
         ensures { Tells valuation.now (sentence_at valuation.now.atoms formula.now) result }
     {
+        let uses = &self.uses;
         let scope = Scope {
             most,
-            weights: self.uses.weights(),
-            skips_denials: false,
+            weights: &uses.weights,
+            refuses_denials: self.integrity.iter().any(|place| uses.is_negated(*place)),
             seeks_true: false,
         };
         valuation.glance(formula, scope, &mut self.second)
@@ -170,7 +181,14 @@ impl<'f> Hints<'f> {
         ensures { IfSome result (λ known. known ≡ true
             → surely valuation.now.literals (sentence_at valuation.now.atoms formula.now) ≡ Some false) }
     {
-        valuation.denies(formula, self.first.get_mut(policy)?)
+        let from = self.first.get_mut(policy)?;
+        let seen = from.parts[2];
+        if let Some(number) = self.overview.denial(policy, &self.integrity) {
+            from.parts[2] = number;
+        }
+        let known = valuation.denies(formula, from);
+        from.parts[2] = seen;
+        known
     }
 
     // Whether a short look at the formula of this policy of the first list tells that it may hold.
@@ -197,7 +215,7 @@ impl<'f> Hints<'f> {
         let scope = Scope {
             most: usize::MAX,
             weights: &[],
-            skips_denials: !self.overview.denies_any(policy, &self.integrity),
+            refuses_denials: self.overview.denial(policy, &self.integrity).is_some(),
             seeks_true: true,
         };
         self.first.len() > 1
@@ -220,7 +238,7 @@ impl<'f> Hints<'f> {
         let scope = Scope {
             most,
             weights: &[],
-            skips_denials: !self.overview.denies_any(policy, &self.integrity),
+            refuses_denials: self.overview.denial(policy, &self.integrity).is_some(),
             seeks_true: false,
         };
         let Some(from) = self.first.get_mut(policy) else {
@@ -243,6 +261,7 @@ impl<'f> Hints<'f> {
                         .uses
                         .may_have_true_part(place, self.names.last().copied(), valuation)
             }
+            Last::Denied { place } => self.uses.stands_at(place, self.second.parts[0]),
             Last::Anything => false,
         }
     }
@@ -292,7 +311,7 @@ impl<'f> Hints<'f> {
             self.integrity.pop();
         }
         self.last = if self.uses.is_negated(place) {
-            Last::Anything
+            Last::Denied { place }
         } else {
             Last::Nothing
         };

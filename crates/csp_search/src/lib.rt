@@ -2,6 +2,7 @@
 //! there is none.
 #![tactic(auto)]
 
+mod beginning;
 mod hints;
 mod leaf;
 mod open;

@@ -1,11 +1,12 @@
 //! Which policies of the first list speak of each atom. Hints are drawn from it, and no answer stands on it.
 ghost use Rattle.std.specs.Prelude.{◌≡◌, IfOk};
 
+use crate::beginning::beginning;
 use crate::uses::note_facts;
 use csp_atom::Atom;
 use csp_model::Memory;
 use csp_placed::{Below, PlacedFormula, PlacedFormulas, Reach, ascends, is_name, reach_below};
-use csp_valuation::Valuation;
+use csp_valuation::{Glance, Valuation};
 use std::alloc::Global;
 use std::marker::Model;
 
@@ -25,13 +26,16 @@ pub struct Overview<'f> {
     // For each policy of the first list the places of a few facts of its formula, which isn't false while none
     // of them is; or of no facts, where many would be needed.
     enough: Vec<Vec<usize>>,
+    // For each, where looks at its formula begin.
+    pub(crate) beginnings: Vec<Glance>,
     // The policies that have no such facts, or one that is on the URL: a literal on the URL can make them
     // false, whatever else the path says. They rise.
     on_url: Vec<usize>,
     // The policies in whose formulas an atom stands, by its place. They rise.
     mentions: Vec<(usize, usize)>,
-    // The policies in whose formulas the denial of an atom stands, by its place. They rise.
-    denied: Vec<(usize, usize)>,
+    // The policies in whose formulas the denial of an atom stands, by its place, and its number in an and. They
+    // rise.
+    denied: Vec<(usize, (usize, usize))>,
     // The places of the fronts, and of the atom that the host is a domain, which hold where other atoms do.
     fronts: Vec<usize>,
     domain: Option<usize>,
@@ -56,6 +60,7 @@ impl<'f> Overview<'f> {
     {
         let atoms = formulas.atoms.as_slice();
         let mut enough = Vec::with_capacity(alloc, formulas.first.len())?;
+        let mut beginnings = Vec::with_capacity(alloc, formulas.first.len())?;
         let mut on_url = Vec::new(alloc);
         let mut mentions = Vec::new(alloc);
         let mut denied = Vec::new(alloc);
@@ -65,8 +70,9 @@ impl<'f> Overview<'f> {
                 on_url.push(policy)?;
             }
             enough.push(places)?;
+            beginnings.push(beginning(formula.formula(), &[]))?;
             note_facts(formula.formula(), policy, &mut mentions)?;
-            note_denied(formula.formula(), policy, &mut denied)?;
+            note_denied(formula.formula(), policy, 0, &mut denied)?;
         }
         mentions.sort_unstable();
         mentions.dedup();
@@ -75,6 +81,7 @@ impl<'f> Overview<'f> {
             atoms,
             ascending: ascends(atoms),
             enough,
+            beginnings,
             on_url,
             mentions,
             denied,
@@ -102,12 +109,18 @@ impl<'f> Overview<'f> {
         )
     }
 
-    // Whether the denial of an atom at one of these places stands in the formula of this policy.
-    pub(crate) fn denies_any(&self, policy: usize, places: &[usize]) -> bool {
-        places.iter().any(|place| {
-            let looked_for = (*place, policy);
-            let number = self.denied.partition_point(|entry| *entry < looked_for);
-            self.denied.get(number) == Some(&looked_for)
+    // The number in an and of the denial of an atom at one of these places, if one stands in the formula of this
+    // policy.
+    pub(crate) fn denial(&self, policy: usize, places: &[usize]) -> Option<usize> {
+        places.iter().find_map(|place| {
+            let looked_for = (*place, (policy, 0));
+            let start = self.denied.partition_point(|entry| *entry < looked_for);
+            match self.denied.get(start) {
+                Some((found, (owner, number))) if found == place && *owner == policy => Some(
+                    *number,
+                ),
+                _ => None,
+            }
         })
     }
 
@@ -225,16 +238,17 @@ impl<'f> Overview<'f> {
     }
 }
 
-// Adds each place of a fact whose denial stands in this formula, with its policy.
+// Adds each place of a fact whose denial stands in this formula, with its policy and its number in an and.
 #[cycle(note_denied)]
 fn note_denied(
     formula: &PlacedFormula,
     policy: usize,
-    found: &mut Vec<(usize, usize)>,
+    number: usize,
+    found: &mut Vec<(usize, (usize, usize))>,
 ) -> Result<(), Memory> {
     match formula {
         PlacedFormula::Constant(_) | PlacedFormula::Fact(_) => Ok(()),
-        PlacedFormula::Not(inner) => note_facts(inner, policy, found),
+        PlacedFormula::Not(inner) => note_facts(inner, (policy, number), found),
         PlacedFormula::FactAnd { parts, .. }
         | PlacedFormula::Every(parts)
         | PlacedFormula::OneOf(parts) => note_denied_in_each(parts, policy, found),
@@ -245,10 +259,10 @@ fn note_denied(
 fn note_denied_in_each(
     formulas: &[PlacedFormula],
     policy: usize,
-    found: &mut Vec<(usize, usize)>,
+    found: &mut Vec<(usize, (usize, usize))>,
 ) -> Result<(), Memory> {
-    for formula in formulas {
-        note_denied(formula, policy, found)?;
+    for (number, formula) in formulas.iter().enumerate() {
+        note_denied(formula, policy, number, found)?;
     }
     Ok(())
 }

@@ -15,13 +15,15 @@ pub(crate) struct Part<'f> {
     formula: &'f PlacedFormula,
     // Its number, and where it stands in an or in that part, its number there, and so on.
     numbers: [usize; 3],
+    // How many parts the or has in which it stands, but for those that are the constant false.
+    among: usize,
 }
 
 // How the atom of each place stands in a formula.
 #[derive(Debug, Drop)]
 pub(crate) struct Uses<'f> {
-    // How often, where more than half of the parts of the formula speak of it; else 0.
-    weights: Vec<u32>,
+    // How often, where more than half of the parts of an or speak of it; else 0.
+    pub(crate) weights: Vec<u32>,
     // Whether below a not, so that its denial can make a part of the formula true.
     negated: Vec<bool>,
     // The parts of the formula, those of an or in it among them, by the places of the facts that stand in
@@ -47,16 +49,12 @@ impl<'f> Uses<'f> {
         if let Some(formula) = formula {
             let formula = formula.formula();
             note(formula, false, &mut uses);
-            note_parts(formula, [0; 3], 0, &mut uses.parts)?;
+            note_parts(formula, [0; 3], 1, 0, &mut uses.parts)?;
             uses.parts.sort_by_key(|(place, _)| *place)?;
-            uses.keep_most(parts_of(formula) / 2);
+            uses.keep_most();
             uses.note_nameless(atoms);
         }
         Ok(uses)
-    }
-
-    pub(crate) fn weights(&self) -> &[u32] {
-        &self.weights
     }
 
     // Whether the denial of the atom at a place can make a part of the formula true.
@@ -85,6 +83,13 @@ impl<'f> Uses<'f> {
             }
             _ => may_have_true(parts, valuation),
         }
+    }
+
+    // Whether the atom at a place stands in the part of this number alone.
+    pub(crate) fn stands_at(&self, place: usize, number: usize) -> bool {
+        self.parts_at(place)
+            .iter()
+            .all(|(_, part)| part.numbers[0] == number)
     }
 
     // Whether each part in which the atom at a place stands speaks of a name of a host.
@@ -189,10 +194,10 @@ impl<'f> Uses<'f> {
         }
     }
 
-    fn keep_most(&mut self, half: u32) {
-        for (place, _) in &self.parts {
+    fn keep_most(&mut self) {
+        for (place, part) in &self.parts {
             if let Some(weight) = self.weights.get_mut(*place)
-                && *weight <= half
+                && (*weight as usize) <= part.among / 2
             {
                 *weight = 0;
             }
@@ -251,23 +256,34 @@ fn note_all(parts: &[PlacedFormula], is_negated: bool, uses: &mut Uses<'_>) {
     }
 }
 
-// Adds the parts of an or, each with the places of its facts.
+// Adds a formula, which stands among so many others in an or, or if it is an or its parts, each with the places
+// of its facts.
 #[cycle(note_parts)]
 fn note_parts<'f>(
     formula: &'f PlacedFormula,
     numbers: [usize; 3],
+    among: usize,
     depth: usize,
     found: &mut Vec<(usize, Part<'f>)>,
 ) -> Result<(), Memory> {
     let PlacedFormula::OneOf(parts) = formula else {
-        return note_facts(formula, Part { formula, numbers }, found);
+        let part = Part {
+            formula,
+            numbers,
+            among,
+        };
+        return note_facts(formula, part, found);
     };
     let mut numbers = numbers;
+    let among = parts
+        .iter()
+        .filter(|part| !matches!(part, PlacedFormula::Constant(false)))
+        .count();
     for (number, part) in parts.iter().enumerate() {
         if let Some(own) = numbers.get_mut(depth) {
             *own = number;
         }
-        note_parts(part, numbers, depth.saturating_add(1), found)?;
+        note_parts(part, numbers, among, depth.saturating_add(1), found)?;
     }
     Ok(())
 }
@@ -303,16 +319,4 @@ fn note_facts_of_all<T: Copy>(
         note_facts(formula, part, found)?;
     }
     Ok(())
-}
-
-// How many parts an or has, where those of an or in it count as its own. What is no or is one part.
-fn parts_of(formula: &PlacedFormula) -> u32 {
-    let PlacedFormula::OneOf(parts) = formula else {
-        return 1;
-    };
-    let mut count: u32 = 0;
-    for part in parts {
-        count = count.saturating_add(parts_of(part));
-    }
-    count
 }

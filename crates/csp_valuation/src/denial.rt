@@ -150,6 +150,7 @@ fn denies_part(valuation: &Valuation, formula: &PlacedFormula, number: usize) ->
     ensures { result ≡ true → spec.IsFalse valuation.now formula.now }
 {
     match formula {
+        PlacedFormula::Fact(place) => matches!(valuation.value(*place), Some(false)),
         PlacedFormula::OneOf(parts) => denies_each(valuation, parts, number),
         PlacedFormula::Every(parts)
             if let Some(part) = parts.get(number) && denies_part(valuation, part, number) => {
@@ -158,6 +159,8 @@ fn denies_part(valuation: &Valuation, formula: &PlacedFormula, number: usize) ->
         // Many end with an or that is false.
         PlacedFormula::Every(parts)
             if let Some(part) = parts.last() && denies_part(valuation, part, number) => { true }
+        PlacedFormula::FactAnd { parts, .. }
+            if let Some(part) = parts.first() && denies_part(valuation, part, number) => { true }
         _ => matches!(standing_under(valuation, formula), Standing::Decided(false)),
     }
 }

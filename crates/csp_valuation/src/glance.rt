@@ -15,7 +15,8 @@ use csp_placed::PlacedFormula;
 /// and how soon, but none makes an answer wrong.
 #[derive(Clone, Copy, Debug, Default)]
 pub struct Glance {
-    /// The number of the part of an or to begin with, of that of an or in this part, and of one in that.
+    /// The number of the part of an or to begin with, of that of an or in this part, and of one in that. The last
+    /// is also that of the denial in an and that was last seen not to hold.
     pub parts: [usize; 3],
     // The indexed part that was last seen not to be false.
     pub(crate) indexed: usize,
@@ -29,8 +30,8 @@ pub struct Scope<'w> {
     /// Of the places that an and waits on, it tells the one with the greatest weight, and the first of
     /// several. A place without a weight has 0.
     pub weights: &'w [u32],
-    /// Whether it takes the denials in an and to be true, as long as something else in the and isn't.
-    pub skips_denials: bool,
+    /// Whether it passes over the ands that begin with a denial, since the path makes one of the denials false.
+    pub refuses_denials: bool,
     /// Whether it passes over the parts of ors that the path doesn't decide.
     pub seeks_true: bool,
 }
@@ -61,24 +62,13 @@ pub(crate) fn look(
     match formula {
         PlacedFormula::OneOf(parts) => look_at_one(valuation, parts, scope, from, left),
         PlacedFormula::Every(parts) => {
-            let beside = if scope.skips_denials {
-                look_past_denials(valuation, parts, scope, from, left)
-            } else {
-                Glimpse::Holds
+            let Some((denied, from)) = from.split_last_mut() else {
+                return Glimpse::Nothing;
             };
-            if let Glimpse::Nothing = beside {
-                return beside;
+            match look_at_every(valuation, parts, scope, from, denied, left) {
+                Glimpse::Holds => look_at_all(valuation, parts, scope, from, left),
+                seen => seen,
             }
-            let denial = look_at_denials(valuation, parts, from);
-            if matches!(denial, Glimpse::Nothing)
-                || (scope.skips_denials && !matches!(denial, Glimpse::Holds))
-            {
-                return denial;
-            }
-            if !matches!(beside, Glimpse::Holds) {
-                return beside;
-            }
-            look_at_all(valuation, parts, scope, from, left)
         }
         PlacedFormula::FactAnd { place, parts } => {
             let first = glimpse_at(valuation, *place);
@@ -86,11 +76,8 @@ pub(crate) fn look(
             if let Glimpse::Nothing = first {
                 return first;
             }
-            both(
-                first,
-                look_at_all(valuation, parts, scope, from, left),
-                scope.weights,
-            )
+            let rest = look_at_all(valuation, parts, scope, from, left);
+            both(first, rest, scope.weights)
         }
         PlacedFormula::Fact(place) => glimpse_at(valuation, *place),
         _ => match standing_under(valuation, formula) {
@@ -99,6 +86,35 @@ pub(crate) fn look(
             Standing::Open { place } => Glimpse::Open { place },
         },
     }
+}
+
+// What a look sees first of an and: of what is after the denials that it begins with, and of these from the one
+// on that was last seen not to hold.
+#[cycle(look)]
+fn look_at_every(
+    valuation: &Valuation,
+    parts: &[PlacedFormula],
+    scope: Scope<'_>,
+    from: &mut [usize],
+    denied: &mut usize,
+    left: &mut usize,
+) -> Glimpse
+    ensures { IsOpenIn valuation.now result }
+{
+    let begun = parts.partition_point(|part| matches!(part, PlacedFormula::Not(_)));
+    if begun > 0 && scope.refuses_denials {
+        return Glimpse::Nothing;
+    }
+    let mut beside = Glimpse::Holds;
+    'wanted: for part in &parts[begun..] {
+        let seen = look(valuation, part, scope, from, left);
+        beside = both(beside, seen, scope.weights);
+        if let Glimpse::Nothing = beside {
+            return beside;
+        }
+    }
+    let denial = look_at_denials(valuation, parts, denied);
+    both(denial, beside, scope.weights)
 }
 
 // Looks at the parts of an or. The next look begins where this one ends: in the part that was seen, or where
@@ -169,41 +185,10 @@ fn look_at_all(
     so_far
 }
 
-// Looks at the parts of an and but for the denials among them.
-#[cycle(look)]
-fn look_past_denials(
-    valuation: &Valuation,
-    parts: &[PlacedFormula],
-    scope: Scope<'_>,
-    from: &mut [usize],
-    left: &mut usize,
-) -> Glimpse
-    ensures { IsOpenIn valuation.now result }
-{
-    let mut so_far = Glimpse::Holds;
-    'wanted: for part in parts {
-        if let PlacedFormula::Not(_) = part {
-            continue;
-        }
-        so_far = both(
-            so_far,
-            look(valuation, part, scope, from, left),
-            scope.weights,
-        );
-        if let Glimpse::Nothing = so_far {
-            return so_far;
-        }
-    }
-    so_far
-}
-
 // Looks at the denials among the parts of an and, from the one on that was last seen not to hold.
-fn look_at_denials(valuation: &Valuation, parts: &[PlacedFormula], from: &mut [usize]) -> Glimpse
+fn look_at_denials(valuation: &Valuation, parts: &[PlacedFormula], first: &mut usize) -> Glimpse
     ensures { IsOpenIn valuation.now result }
 {
-    let Some(first) = from.last_mut() else {
-        return Glimpse::Holds;
-    };
     for number in *first..parts.len() {
         if let PlacedFormula::Not(part) = &parts[number] {
             *first = number;

@@ -72,7 +72,7 @@ fn standing_of_all(valuation: &Valuation, known: Standing, parts: &[PlacedFormul
     so_far
 }
 
-// What it decides of a part, with no further call for a fact, as most are.
+// What it decides of a part, with no further call for a fact or its denial, as most are.
 #[cycle(standing_under)]
 #[tactic(auto, using(crate::proofs::Values::values))]
 fn standing_of_part(valuation: &Valuation, formula: &PlacedFormula) -> Standing
@@ -82,6 +82,7 @@ fn standing_of_part(valuation: &Valuation, formula: &PlacedFormula) -> Standing
 {
     match formula {
         PlacedFormula::Fact(place) => standing_at(valuation, *place),
+        PlacedFormula::Not(part) => denied(standing_of_part(valuation, part)),
         _ => standing_under(valuation, formula),
     }
 }

@@ -12,7 +12,7 @@ look-returns-in_default-first t c =
     let place = c.in-FactAnd.place in
     let rest = all_of (map (sentence_at valuation.atoms) c.deref-in-FactAnd.result.now) in
     let told = c.both.ensures.told valuation (fact (slice_get valuation.atoms place)) rest
-    c.glimpse_at-first.ensures c.look_at_all-in-FactAnd.ensures in
+    c.glimpse_at-first.ensures c.look_at_all-rest.ensures in
     rw (c.in-FactAnd.is, placed_FactAnd valuation.atoms place c.in-FactAnd.parts)
     (rw c.deref-in-FactAnd.ensures.value at told)
 
@@ -35,8 +35,12 @@ look_at_one-returns-then-is_wanted t c =
     told_of_one c.args.valuation.now c.args.parts.now c.one.place c.index-parts-place.result c.look-seen.result
     (omega arith) c.index-parts-place.is c.look-seen.ensures
 
-pub look_past_denials-wanted-preserved : goal.look_past_denials-wanted-preserved
-look_past_denials-wanted-preserved t c =
+pub look_at_every-wanted-preserved : goal.look_at_every-wanted-preserved
+look_at_every-wanted-preserved t c =
     let valuation = c.args.valuation.now in
-    c.both-so_far.ensures.open valuation c.wanted.invariant
-    (open_of_told valuation (sentence_at valuation.atoms c.part-item.result) c.look.result c.look.ensures)
+    c.both-beside.ensures.open valuation c.wanted.invariant
+    (open_of_told valuation (sentence_at valuation.atoms c.part-item.result) c.look-seen.result c.look-seen.ensures)
+
+pub look_at_every-returns : goal.look_at_every-returns
+look_at_every-returns t c =
+    c.both.ensures.open c.args.valuation.now c.look_at_denials-denial.ensures c.wanted.invariant

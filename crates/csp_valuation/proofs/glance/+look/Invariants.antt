@@ -8,5 +8,5 @@ abbrev pub invariant-look_at_all-every : goal.invariant-look_at_all-every
 invariant-look_at_all-every l =
     Tells l.valuation (all_of (map (sentence_at l.valuation.atoms) (take l.part-index l.parts))) l.so_far
 
-abbrev pub invariant-look_past_denials-wanted : goal.invariant-look_past_denials-wanted
-invariant-look_past_denials-wanted l = IsOpenIn l.valuation l.so_far
+abbrev pub invariant-look_at_every-wanted : goal.invariant-look_at_every-wanted
+invariant-look_at_every-wanted l = IsOpenIn l.valuation l.beside
