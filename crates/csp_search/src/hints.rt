@@ -61,13 +61,17 @@ pub(crate) struct Hints<'f> {
     looks: Vec<(usize, Glance)>,
     // For each literal of the path.
     turns: Vec<Turn>,
-    // The places of the names of hosts of which the path says that they hold.
+    // The places of the atoms of which the path says that they hold.
+    held: Vec<usize>,
+    // Those of the names of hosts among them.
     names: Vec<usize>,
-    // Those of the integrity metadata of which it says so.
+    // Those of the integrity metadata among them.
     integrity: Vec<usize>,
     last: Last,
     // How long the path was when it made the formula of the policy of the second list false, if it did.
     refused: Option<usize>,
+    // The policies of the first list that it made true, and how long it was when a look found that.
+    met: Vec<(usize, usize)>,
     // The policies that the last literal can have brought to block the branch.
     suspects: Suspects,
     // Those of which the path may have made a fact on the nonce, the integrity metadata or the digest false
@@ -84,7 +88,7 @@ impl<'f> Hints<'f> {
     ) -> Result<Hints<'f>, Memory> {
         let mut first = Vec::new(alloc);
         first.extend_from_slice(&overview.beginnings)?;
-        let uses = Uses::new(alloc, formula, overview.atoms())?;
+        let uses = Uses::new(alloc, formula, overview.atoms)?;
         let second = match formula {
             Some(formula) => beginning(formula.formula(), &uses.weights),
             None => Glance::default(),
@@ -96,10 +100,12 @@ impl<'f> Hints<'f> {
             first,
             looks: Vec::new(alloc),
             turns: Vec::new(alloc),
+            held: Vec::new(alloc),
             names: Vec::new(alloc),
             integrity: Vec::new(alloc),
             last: Last::Anything,
             refused: None,
+            met: Vec::new(alloc),
             suspects: Suspects {
                 are_all: true,
                 list: Vec::new(alloc),
@@ -161,8 +167,8 @@ impl<'f> Hints<'f> {
         self.refused = Some(valuation.path().len());
     }
 
-    // Has the next look at that formula begin at a part that speaks of the name that the path says holds, if it
-    // has one that isn't false.
+    // Has the next look at that formula begin at a part that speaks of the name that the path says holds, if
+    // it has one that isn't false.
     pub(crate) fn go_to_name(&mut self, valuation: &Valuation) {
         if let Some(name) = self.names.last()
             && let Some(numbers) = self.uses.open_part_with_name(*name, valuation)
@@ -198,7 +204,7 @@ impl<'f> Hints<'f> {
         policy: usize,
         formula: &PlacedFormula,
     ) -> Result<bool, Memory> {
-        if self.overview.may_hold(policy, valuation) {
+        if self.is_noted_met(policy) || self.overview.may_hold(policy, valuation) {
             return Ok(true);
         }
         let seen = self.look_at_first(valuation, policy, formula, FEW)?;
@@ -207,22 +213,35 @@ impl<'f> Hints<'f> {
 
     // Whether a look tells that the formula of this policy of the first list holds, which isn't the only one.
     pub(crate) fn is_met(
-        &self,
+        &mut self,
         valuation: &Valuation,
         policy: usize,
         formula: &PlacedFormula,
-    ) -> bool {
+    ) -> Result<bool, Memory> {
+        if self.is_noted_met(policy) {
+            return Ok(true);
+        }
         let scope = Scope {
             most: usize::MAX,
             weights: &[],
             refuses_denials: self.overview.denial(policy, &self.integrity).is_some(),
             seeks_true: true,
         };
-        self.first.len() > 1
+        let is_met = self.first.len() > 1
+            && self.overview.may_be_met(policy, &self.held)
             && matches!(
                 valuation.glance(formula, scope, &mut Glance::default()),
                 Glimpse::Holds
-            )
+            );
+        if is_met {
+            self.met.push((policy, valuation.path().len()))?;
+        }
+        Ok(is_met)
+    }
+
+    // Whether an earlier look has found so.
+    fn is_noted_met(&self, policy: usize) -> bool {
+        self.met.iter().any(|(noted, _)| *noted == policy)
     }
 
     // A look at so many parts of the formula of this policy of the first list.
@@ -275,6 +294,7 @@ impl<'f> Hints<'f> {
             doubted: self.doubted.list.len(),
             are_all_doubted: self.doubted.are_all,
         })?;
+        self.held.push(place)?;
         if self.overview.has_name_at(place) {
             self.names.push(place)?;
         }
@@ -291,19 +311,21 @@ impl<'f> Hints<'f> {
 
     // After the last literal of the path was turned.
     pub(crate) fn turn(&mut self, valuation: &Valuation) -> Result<(), Memory> {
-        self.turns.truncate(valuation.path().len());
+        let length = valuation.path().len();
+        self.turns.truncate(length);
         let Some(turn) = self.turns.last() else {
             return Ok(());
         };
         let (place, looks) = (turn.place, turn.looks);
-        if let Some(length) = self.refused
-            && length >= valuation.path().len()
-        {
+        if self.refused.is_some_and(|noted| noted >= length) {
             self.refused = None;
         }
+        let met = self.met.partition_point(|(_, noted)| *noted < length);
+        self.met.truncate(met);
         self.second = turn.second;
         self.doubted.list.truncate(turn.doubted);
         self.doubted.are_all = turn.are_all_doubted;
+        self.held.pop();
         if self.overview.has_name_at(place) {
             self.names.pop();
         }

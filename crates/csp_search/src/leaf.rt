@@ -356,7 +356,7 @@ fn open_place(
             continue;
         };
         let formula = formula.formula();
-        if hints.is_met(valuation, policy, formula) {
+        if hints.is_met(valuation, policy, formula)? {
             continue;
         }
         let seen = hints.look_at_first(valuation, policy, formula, usize::MAX)?;

@@ -21,10 +21,10 @@ const MANY_FACTS: usize = 16;
 /// answer wrong; it costs time alone.
 #[derive(Debug, Drop)]
 pub struct Overview<'f> {
-    atoms: &'f [Atom],
+    pub(crate) atoms: &'f [Atom],
     ascending: bool,
-    // For each policy of the first list the places of a few facts of its formula, which isn't false while none
-    // of them is; or of no facts, where many would be needed.
+    // For each policy of the first list the places of a few facts of its formula, which isn't false while
+    // none of them is; or of no facts, where many would be needed.
     enough: Vec<Vec<usize>>,
     // For each, where looks at its formula begin.
     pub(crate) beginnings: Vec<Glance>,
@@ -33,9 +33,12 @@ pub struct Overview<'f> {
     on_url: Vec<usize>,
     // The policies in whose formulas an atom stands, by its place. They rise.
     mentions: Vec<(usize, usize)>,
-    // The policies in whose formulas the denial of an atom stands, by its place, and its number in an and. They
-    // rise.
+    // The policies in whose formulas the denial of an atom stands, by its place, and its number in an and.
+    // They rise.
     denied: Vec<(usize, (usize, usize))>,
+    // Of each policy whether it speaks of an atom that holds where others do: of a wide host, a front, or
+    // that the host is a domain.
+    are_wide: Vec<bool>,
     // The places of the fronts, and of the atom that the host is a domain, which hold where other atoms do.
     fronts: Vec<usize>,
     domain: Option<usize>,
@@ -74,6 +77,7 @@ impl<'f> Overview<'f> {
             note_facts(formula.formula(), policy, &mut mentions)?;
             note_denied(formula.formula(), policy, 0, &mut denied)?;
         }
+        let are_wide = are_wide(alloc, atoms, formulas.first.len(), &mentions)?;
         mentions.sort_unstable();
         mentions.dedup();
         denied.sort_unstable();
@@ -85,15 +89,12 @@ impl<'f> Overview<'f> {
             on_url,
             mentions,
             denied,
+            are_wide,
             fronts: fronts_of(alloc, atoms)?,
             domain: atoms
                 .iter()
                 .position(|atom| matches!(atom, Atom::HostDomain)),
         })
-    }
-
-    pub(crate) fn atoms(&self) -> &[Atom] {
-        self.atoms
     }
 
     // Whether the atom at a place is on the name of a host.
@@ -109,8 +110,8 @@ impl<'f> Overview<'f> {
         )
     }
 
-    // The number in an and of the denial of an atom at one of these places, if one stands in the formula of this
-    // policy.
+    // The number in an and of the denial of an atom at one of these places, if one stands in the formula of
+    // this policy.
     pub(crate) fn denial(&self, policy: usize, places: &[usize]) -> Option<usize> {
         places.iter().find_map(|place| {
             let looked_for = (*place, (policy, 0));
@@ -124,14 +125,19 @@ impl<'f> Overview<'f> {
         })
     }
 
+    // Whether the formula of this policy can hold where the path says of the atoms at these places alone that
+    // they do. Each that is no constant needs one that stands in it and isn't denied there, or a wide one.
+    pub(crate) fn may_be_met(&self, policy: usize, held: &[usize]) -> bool {
+        self.are_wide.get(policy) != Some(&false)
+            || held.iter().any(|place| {
+                self.mentions.binary_search(&(*place, policy)).is_ok()
+                    && self.denial(policy, &[*place]).is_none()
+            })
+    }
+
     // Whether the atom at a place is on the URL of a check. Its literals then decide atoms on the URL alone.
     pub(crate) fn is_on_url_at(&self, place: usize) -> bool {
         is_on_url(self.atoms, place)
-    }
-
-    // How many policies the first list has.
-    pub(crate) fn policies(&self) -> usize {
-        self.enough.len()
     }
 
     // Whether the formula of this policy isn't false, as far as a few of its facts tell.
@@ -265,6 +271,25 @@ fn note_denied_in_each(
         note_denied(formula, policy, number, found)?;
     }
     Ok(())
+}
+
+// Of so many policies, whether each mentions an atom that holds where others do.
+fn are_wide(
+    alloc: Global,
+    atoms: &[Atom],
+    policies: usize,
+    mentions: &[(usize, usize)],
+) -> Result<Vec<bool>, Memory> {
+    let mut are_wide = vec![in alloc; false; policies]?;
+    for (place, policy) in mentions {
+        let atom = atoms.get(*place);
+        if let Some(Atom::HostUnder(_) | Atom::HostDomain | Atom::PathUnder(_)) = atom
+            && let Some(is_wide) = are_wide.get_mut(*policy)
+        {
+            *is_wide = true;
+        }
+    }
+    Ok(are_wide)
 }
 
 // Whether the atom at a place is on the URL of a check, and not on the nonce, the integrity metadata or the

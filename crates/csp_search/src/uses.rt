@@ -75,9 +75,10 @@ impl<'f> Uses<'f> {
         valuation: &Valuation,
     ) -> bool {
         let parts = self.parts_at(place);
+        let is_always_named = self.nameless.get(place) == Some(&false);
         match name {
             _ if parts.len() <= 1 => false,
-            Some(name) if parts.len() > MOST_PARTS && self.is_always_named(place) => {
+            Some(name) if parts.len() > MOST_PARTS && is_always_named => {
                 may_have_true(self.parts_at(name), valuation)
                     || self.may_hold_with_name(name, valuation)
             }
@@ -90,13 +91,6 @@ impl<'f> Uses<'f> {
         self.parts_at(place)
             .iter()
             .all(|(_, part)| part.numbers[0] == number)
-    }
-
-    // Whether each part in which the atom at a place stands speaks of a name of a host.
-    fn is_always_named(&self, place: usize) -> bool {
-        self.nameless
-            .get(place)
-            .is_some_and(|is_nameless| !is_nameless)
     }
 
     // Whether the path may make a part true in which a suffix or a front stands that holds where the atom at
@@ -256,8 +250,8 @@ fn note_all(parts: &[PlacedFormula], is_negated: bool, uses: &mut Uses<'_>) {
     }
 }
 
-// Adds a formula, which stands among so many others in an or, or if it is an or its parts, each with the places
-// of its facts.
+// Adds a formula, which stands among so many others in an or, or if it is an or its parts, each with the
+// places of its facts.
 #[cycle(note_parts)]
 fn note_parts<'f>(
     formula: &'f PlacedFormula,

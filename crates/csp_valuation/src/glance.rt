@@ -15,8 +15,8 @@ use csp_placed::PlacedFormula;
 /// and how soon, but none makes an answer wrong.
 #[derive(Clone, Copy, Debug, Default)]
 pub struct Glance {
-    /// The number of the part of an or to begin with, of that of an or in this part, and of one in that. The last
-    /// is also that of the denial in an and that was last seen not to hold.
+    /// The number of the part of an or to begin with, of that of an or in this part, and of one in that. The
+    /// last is also that of the denial in an and that was last seen not to hold.
     pub parts: [usize; 3],
     // The indexed part that was last seen not to be false.
     pub(crate) indexed: usize,
@@ -30,7 +30,7 @@ pub struct Scope<'w> {
     /// Of the places that an and waits on, it tells the one with the greatest weight, and the first of
     /// several. A place without a weight has 0.
     pub weights: &'w [u32],
-    /// Whether it passes over the ands that begin with a denial, since the path makes one of the denials false.
+    /// Whether it passes over the ands that begin with a denial, since the path makes one of these false.
     pub refuses_denials: bool,
     /// Whether it passes over the parts of ors that the path doesn't decide.
     pub seeks_true: bool,
@@ -88,8 +88,8 @@ pub(crate) fn look(
     }
 }
 
-// What a look sees first of an and: of what is after the denials that it begins with, and of these from the one
-// on that was last seen not to hold.
+// What a look sees first of an and: of what is after the denials that it begins with, and of these from the
+// one on that was last seen not to hold.
 #[cycle(look)]
 fn look_at_every(
     valuation: &Valuation,
@@ -208,8 +208,8 @@ fn look_at_denials(valuation: &Valuation, parts: &[PlacedFormula], first: &mut u
 fn both(one: Glimpse, other: Glimpse, weights: &[u32]) -> Glimpse
     ensures open { (valuation : Assignment) → IsOpenIn valuation one → IsOpenIn valuation other
         → IsOpenIn valuation result }
-    ensures told { (valuation : Assignment) → (x y : Sentence) → Tells valuation x one → Tells valuation y other
-        → Tells valuation (Both x y) result }
+    ensures told { (valuation : Assignment) → (x y : Sentence)
+        → Tells valuation x one → Tells valuation y other → Tells valuation (Both x y) result }
 {
     match (one, other) {
         (Glimpse::Nothing, _) | (_, Glimpse::Holds) => one,

@@ -151,8 +151,8 @@ pub(crate) fn push_name<'a>(names: &mut Vec<Taken<'a>>, literal: Taken<'a>)
 
 // Takes back the path's last literal, if it is one of these.
 pub(crate) fn pop_name<'a>(names: &mut Vec<Taken<'a>>, last: Taken<'a>)
-    ensures items { (front : List TakenValue) → names.old.items ≡ front ++ filter spec.is_true_name (last.entry ∷ [])
-        → names.new.items ≡ front }
+    ensures items { (front : List TakenValue)
+        → names.old.items ≡ front ++ filter spec.is_true_name (last.entry ∷ []) → names.new.items ≡ front }
     ensures capacity { vec_capacity names.new ≡ vec_capacity names.old }
 {
     if is_true_name(last) {

@@ -180,9 +180,10 @@ impl<'a> Valuation<'a> {
         standing_under(self, formula)
     }
 
-    /// Whether the path surely makes the formula false, by its index: where the path says which host it is, the
-    /// parts that begin with another one aren't looked at. The part is looked at early that the last such look
-    /// saw not to be false. A no means that one was seen now. There is an answer where the formula is an or.
+    /// Whether the path surely makes the formula false, by its index: where the path says which host it is,
+    /// the parts that begin with another one aren't looked at. The part is looked at early that the last
+    /// such look saw not to be false. A no means that one was seen now. There is an answer where the formula
+    /// is an or.
     pub fn denies(&self, formula: &IndexedFormula, from: &mut Glance) -> Option<bool>
         ensures { IfSome result (λ known. known ≡ true
             → surely self.now.literals (sentence_at self.now.atoms formula.now) ≡ Some false) }

@@ -5,6 +5,7 @@ use Rattle.csp_search.specs.Branches.{pending}
 use Rattle.csp_search.specs.Questions.{lists_of, pair_of}
 use Rattle.csp_search.proofs.Lists.{all_at}
 use Rattle.csp_search.proofs.Opens.{open_fewer, less_leaf, less_split, work}
+use Rattle.csp_search.proofs.Saying.{leaves_open}
 use Rattle.csp_search.proofs.Steps.{taken_true}
 use Rattle.csp_search.proofs.Trees.{Keeps, keeps_start, keeps_leaf, keeps_split, ends, open_here, open_within}
 use Rattle.csp_search.proofs.tree.find_tree.Goals as goal
@@ -94,3 +95,9 @@ steps-preserved c =
       keeps = rw (c.take.ensures, taken_true ls a)
           (keeps_split (lists_of q) (pair_of q) atoms c.steps.nodes c.push-in-Split.new.self ls (pending [] ls) c.in-Split.place a c.steps.invariant.keeps there.0 there.1 valid pushed);
     }
+
+pub returns-in-Leave-clause-open : goal.returns-in-Leave-clause-open
+returns-in-Leave-clause-open c =
+    let q = c.args.question in
+    let left = rw c.in-Leave.is at c.in_ok-leaf.ensures in
+    leaves_open (lists_of q) (pair_of q) c.steps.valuation.literals left.0 left.1
