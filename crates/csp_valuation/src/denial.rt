@@ -159,8 +159,6 @@ fn denies_part(valuation: &Valuation, formula: &PlacedFormula, number: usize) ->
         // Many end with an or that is false.
         PlacedFormula::Every(parts)
             if let Some(part) = parts.last() && denies_part(valuation, part, number) => { true }
-        PlacedFormula::FactAnd { parts, .. }
-            if let Some(part) = parts.first() && denies_part(valuation, part, number) => { true }
         _ => matches!(standing_under(valuation, formula), Standing::Decided(false)),
     }
 }

@@ -5,7 +5,7 @@ use Rattle.csp_placed.specs.declared.placed.PlacedFormula.TheOpen.{PlacedFormula
 use Rattle.csp_placed.specs.declared.placed.PlacedFormula.TheVariants.{rolls-OneOf}
 use Rattle.csp_placed.specs.declared.placed.PlacedFormula.TheViews.{out-roll-PlacedFormula}
 use Rattle.csp_placed.proofs.Ors.{or_denied}
-use Rattle.csp_valuation.proofs.Ands.{and_denied, fact_and_denied}
+use Rattle.csp_valuation.proofs.Ands.{and_denied}
 use Rattle.csp_valuation.proofs.denial.+denies_part.Goals as goal
 
 pub denies_part-returns-in-OneOf : goal.denies_part-returns-in-OneOf
@@ -24,8 +24,3 @@ pub denies_part-returns-in-Every-2 : goal.denies_part-returns-in-Every-2
 denies_part-returns-in-Every-2 t c e =
     let valuation = c.args.valuation.now in
     rw c.in-Every-2.is (and_denied valuation.literals valuation.atoms c.in-Every-2.parts (length c.in-Every-2.parts.items - 1) c.in-Some-last.part.now (search (rules, gets)) (c.denies_part-in-Every-1.ensures c.if-denies_part-2.true))
-
-pub denies_part-returns-in-FactAnd : goal.denies_part-returns-in-FactAnd
-denies_part-returns-in-FactAnd t c e =
-    let valuation = c.args.valuation.now in
-    rw c.in-FactAnd.is (fact_and_denied valuation.literals valuation.atoms c.in-FactAnd.place c.in-FactAnd.parts c.in-Some-first.part.now (search (rules, gets)) (c.denies_part-in-FactAnd-1.ensures c.if-denies_part-3.true))
