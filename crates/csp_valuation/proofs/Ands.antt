@@ -6,10 +6,10 @@ use Rattle.csp_atom.specs.declared.atom.Literal.{Literal}
 use Rattle.csp_formula.specs.Sentences.{all_of}
 use Rattle.csp_formula.specs.Surely.{surely, maybe_and}
 use Rattle.csp_placed.specs.Indexed.{Deny}
-use Rattle.csp_placed.specs.Placed.{sentence_at}
+use Rattle.csp_placed.specs.Placed.{fact, sentence_at}
 use Rattle.csp_placed.specs.declared.placed.PlacedFormula.{PlacedFormula}
-use Rattle.csp_placed.specs.declared.placed.PlacedFormula.TheVariants.{Every}
-use Rattle.csp_placed.proofs.Layers.{placed_Every}
+use Rattle.csp_placed.specs.declared.placed.PlacedFormula.TheVariants.{Every, FactAnd}
+use Rattle.csp_placed.proofs.Layers.{placed_Every, placed_FactAnd}
 
 and_with_false : (x : Option Bool) → maybe_and x (Some false) ≡ Some false
 and_with_false (Some true) = refl
@@ -39,3 +39,10 @@ pub and_denied : (literals : List Literal) (atoms : List Atom) (v : Vec PlacedFo
     → Deny literals atoms part → Deny literals atoms (Every v)
 and_denied literals atoms v number part at denied =
     ap (surely literals) (placed_Every atoms v) ∙ all_denied_by literals atoms v.items number part at denied
+
+pub fact_and_denied : (literals : List Literal) (atoms : List Atom) (place : ℕ) (v : Vec PlacedFormula) (number : ℕ) (part : PlacedFormula) → slice_get v.items number ≡ Some part
+    → Deny literals atoms part → Deny literals atoms (FactAnd place v)
+fact_and_denied literals atoms place v number part at denied =
+    let first = surely literals (fact (slice_get atoms place)) in
+    ap (surely literals) (placed_FactAnd atoms place v)
+    ∙ ap (λ (x : Option Bool). maybe_and first x) (all_denied_by literals atoms v.items number part at denied) ∙ and_with_false first

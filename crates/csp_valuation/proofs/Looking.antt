@@ -1,17 +1,24 @@
 -- What looks at the parts of an or and of an and tell of the whole.
-use Rattle.std.proofs.Common.{◌≡◌, ◌∙◌, refl, sym, ℕ, zero, suc, ◌+◌, ◌<◌, Bool, true, false, List, [], ◌∷◌, ◌++◌, length, map, take, Option, Some, None, arith}
+use Rattle.std.proofs.Common.{◌≡◌, ◌∙◌, ap, refl, sym, ℕ, zero, suc, ◌+◌, ◌<◌, Bool, true, false, List, [], ◌∷◌, ◌++◌, length, map, take, Option, Some, None, arith, slice_get}
 use Rattle.std.proofs.lemmas.List.{get_or-map, length-map, map-append, take_more}
+use Rattle.std.specs.Global.{Box}
 use Rattle.std.specs.List.{slice_index_or}
+use Rattle.csp_atom.specs.declared.atom.Atom.{Atom}
 use Rattle.csp_atom.specs.declared.atom.Literal.{Literal}
 use Rattle.csp_formula.proofs.Maybe.{maybe_and_assoc}
-use Rattle.csp_formula.specs.Sentences.{Sentence, Both, all_of, any_of}
-use Rattle.csp_formula.specs.Surely.{surely, maybe_and, maybe_or}
+use Rattle.csp_formula.specs.Sentences.{Sentence, Not, Both, all_of, any_of}
+use Rattle.csp_formula.specs.Surely.{surely, maybe_not, maybe_and, maybe_or}
 use Rattle.csp_valuation.specs.Glimpses.{IsOpenIn, Tells}
-use Rattle.csp_placed.specs.Placed.{sentence_at}
-use Rattle.csp_valuation.specs.Valuations.{Assignment}
+use Rattle.csp_placed.specs.Placed.{placed_step, sentence_at}
+use Rattle.csp_valuation.specs.Valuations.{Assignment, value_at}
 use Rattle.csp_valuation.specs.declared.glance.Glimpse.{Glimpse}
 use Rattle.csp_valuation.specs.declared.glance.Glimpse.TheVariants as glimpse
 use Rattle.csp_placed.specs.declared.placed.PlacedFormula.{PlacedFormula}
+use Rattle.csp_placed.specs.declared.placed.PlacedFormula.TheFolds.{fold-roll-PlacedFormula}
+use Rattle.csp_placed.specs.declared.placed.PlacedFormula.TheOpen.{PlacedFormula-F}
+use Rattle.csp_placed.specs.declared.placed.PlacedFormula.TheVariants.{Fact, Not as PlacedNot, rolls-Not}
+use Rattle.csp_placed.proofs.Layers.{placed_Fact}
+use Rattle.csp_valuation.proofs.Values.{value_of_fact}
 
 or_with_true : (x : Option Bool) → maybe_or x (Some true) ≡ Some true
 or_with_true (Some true) = refl
@@ -71,3 +78,19 @@ told_of_more v parts i part g h e t =
     = rw (take_more parts i part h, ← e) (map-append says (take i parts) (part ∷ [])) in
     rw longer (told_alike v (all_of (first ++ says part ∷ [])) (Both (all_of first) (says part)) g
     (all_of_more v.literals first (says part)) t)
+
+-- what is told of a sentence is told of it with one that is surely true
+pub told_with_true : (v : Assignment) (x y : Sentence) (g : Glimpse) → surely v.literals y ≡ Some true → Tells v x g → Tells v (Both x y) g
+told_with_true v x y g e t =
+    let first = surely v.literals x in
+    told_alike v (Both x y) x g (ap (maybe_and first) e ∙ and_with_true first) t
+
+placed_Not : (atoms : List Atom) (part : Box PlacedFormula) → sentence_at atoms (PlacedNot part) ≡ Not (sentence_at atoms part.value)
+placed_Not atoms part = ap (sentence_at atoms) (sym (rolls-Not part)) ∙ fold-roll-PlacedFormula Sentence (placed_step atoms) (PlacedFormula-F.Not part)
+
+-- the denial of a fact that is false is true
+pub denial_holds : (v : Assignment) (part : Box PlacedFormula) (place : ℕ) → part.value ≡ Fact place → value_at v place ≡ Some false → surely v.literals (sentence_at v.atoms (PlacedNot part)) ≡ Some true
+denial_holds v part place is known =
+    let value = λ (f : PlacedFormula). surely v.literals (sentence_at v.atoms f) in
+    let fact_is = ap (surely v.literals) (placed_Fact v.atoms place) ∙ value_of_fact v.literals (slice_get v.atoms place) ∙ known in
+    ap (surely v.literals) (placed_Not v.atoms part) ∙ ap maybe_not (ap value is ∙ fact_is)

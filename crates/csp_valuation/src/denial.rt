@@ -159,6 +159,15 @@ fn denies_part(valuation: &Valuation, formula: &PlacedFormula, number: usize) ->
         // Many end with an or that is false.
         PlacedFormula::Every(parts)
             if let Some(part) = parts.last() && denies_part(valuation, part, number) => { true }
+        // The fact was asked where it leads the part.
+        PlacedFormula::FactAnd { place, parts } => {
+            'any: for part in parts {
+                if denies_part(valuation, part, number) {
+                    return true;
+                }
+            }
+            matches!(valuation.value(*place), Some(false))
+        }
         _ => matches!(standing_under(valuation, formula), Standing::Decided(false)),
     }
 }

@@ -173,6 +173,13 @@ fn look_at_all(
 {
     let mut so_far = Glimpse::Holds;
     'every: for part in parts {
+        // Of the many denials that an and can begin with most hold.
+        if let PlacedFormula::Not(denied) = part
+            && let PlacedFormula::Fact(place) = &**denied
+            && let Some(false) = valuation.value(*place)
+        {
+            continue;
+        }
         so_far = both(
             so_far,
             look(valuation, part, scope, from, left),
