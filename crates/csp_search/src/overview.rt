@@ -40,8 +40,8 @@ pub struct Overview<'f> {
     // that the host is a domain.
     are_wide: Vec<bool>,
     // The places of the fronts, and of the atom that the host is a domain, which hold where other atoms do.
-    fronts: Vec<usize>,
-    domain: Option<usize>,
+    pub(crate) fronts: Vec<usize>,
+    pub(crate) domain: Option<usize>,
 }
 
 impl<'f> Model for Overview<'f> {
@@ -156,14 +156,6 @@ impl<'f> Overview<'f> {
         self.enough
             .get(policy)
             .is_some_and(|places| places.contains(&place))
-    }
-
-    pub(crate) fn fronts(&self) -> &[usize] {
-        &self.fronts
-    }
-
-    pub(crate) fn domain(&self) -> Option<usize> {
-        self.domain
     }
 
     // Has the list hold the policies whose formulas the denial of the atom at this place can make false, and

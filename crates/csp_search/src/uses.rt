@@ -78,11 +78,11 @@ impl<'f> Uses<'f> {
         let is_always_named = self.nameless.get(place) == Some(&false);
         match name {
             _ if parts.len() <= 1 => false,
-            Some(name) if parts.len() > MOST_PARTS && is_always_named => {
-                may_have_true(self.parts_at(name), valuation)
+            Some(name) if is_always_named && self.parts_at(name).len() < parts.len() => {
+                have_true(self.parts_at(name), valuation)
                     || self.may_hold_with_name(name, valuation)
             }
-            _ => may_have_true(parts, valuation),
+            _ => have_true(parts, valuation),
         }
     }
 
@@ -103,10 +103,10 @@ impl<'f> Uses<'f> {
     ) -> bool {
         match valuation.atoms().get(place) {
             Some(Atom::HostIs(_) | Atom::HostUnder(_)) => {
-                self.may_hold_at(overview.domain(), valuation)
+                self.may_hold_at(overview.domain, valuation)
                     || self.may_hold_with_name(place, valuation)
             }
-            Some(Atom::PathIs(_) | Atom::PathUnder(_)) => overview.fronts().iter().any(|front| {
+            Some(Atom::PathIs(_) | Atom::PathUnder(_)) => overview.fronts.iter().any(|front| {
                 *front != place && self.is_true_in_part(*front, valuation)
             }),
             _ => false,
@@ -149,12 +149,12 @@ impl<'f> Uses<'f> {
     }
 
     fn is_true_in_part(&self, place: usize, valuation: &Valuation) -> bool {
-        valuation.value(place) == Some(true) && may_have_true(self.parts_at(place), valuation)
+        valuation.value(place) == Some(true) && have_true(self.parts_at(place), valuation)
     }
 
     fn may_hold_at(&self, place: Option<usize>, valuation: &Valuation) -> bool {
         match place {
-            Some(place) => may_have_true(self.parts_at(place), valuation),
+            Some(place) => have_true(self.parts_at(place), valuation),
             None => false,
         }
     }
@@ -219,12 +219,11 @@ fn have_name_among(parts: &[PlacedFormula], atoms: &[Atom]) -> bool {
     })
 }
 
-// Whether the path may make one of the parts true. Of many parts each isn't asked.
-fn may_have_true(parts: &[(usize, Part<'_>)], valuation: &Valuation) -> bool {
-    parts.len() > MOST_PARTS
-        || parts
-            .iter()
-            .any(|(_, part)| valuation.value_of(part.formula) == Some(true))
+// Whether the path makes one of the parts true.
+fn have_true(parts: &[(usize, Part<'_>)], valuation: &Valuation) -> bool {
+    parts
+        .iter()
+        .any(|(_, part)| valuation.value_of(part.formula) == Some(true))
 }
 
 #[cycle(note)]
