@@ -1,6 +1,6 @@
 -- Words of private contracts, which stand here since contracts cite only specs/: what a comparison is of, and
 -- what comes of each shape.
-use Rattle.std.specs.Prelude.{◌≡◌, ℕ, List, map, Option, Some, None, slice_get}
+use Rattle.std.specs.Prelude.{◌≡◌, ℕ, List, map, Option, Some, None, IsTrue, MatchOption, slice_get}
 use Rattle.std.specs.BTreeMap.{BTreeMap, get}
 use Rattle.std.specs.Global.{Vec}
 use Rattle.std.specs.List.{AllZip}
@@ -8,13 +8,18 @@ use Rattle.std.specs.Ordering.{nat_cmp}
 use Rattle.csp_model.specs.Policies.{IsReadable}
 use Rattle.csp_model.specs.declared.check.Check.{Check}
 use Rattle.csp_proof.specs.Accepts.{Lists, hashes_in}
-use Rattle.csp_proof.specs.Pairs.{enforced}
+use Rattle.csp_proof.specs.Pairs.{Pair, enforced}
 use Rattle.csp_proof.specs.declared.proof.Tree.{Tree}
+use Rattle.csp_search.specs.Answers.{ShowsInclusion}
+use Rattle.csp_shape.specs.Shapes.{is_shape}
 use Rattle.csp_shape.specs.declared.shape.Shape.{Shape}
-use Rattle.csp_table.specs.Tables.{AreAt}
+use Rattle.csp_table.specs.Tables.{AreAt, formulas_at}
+use Rattle.csp_table.specs.declared.table.FormulaTable.{FormulaTable}
 use Rattle.csp_placed.specs.declared.placing.PlacedFormulas.{PlacedFormulas}
 use Rattle.csp_compare.specs.Answers.{IsCounterexample}
 use Rattle.csp_compare.specs.Drafts.{Adds, IsShown, at_shape}
+use Rattle.csp_compare.specs.declared.pair.PairOutcome.{PairOutcome}
+use Rattle.csp_compare.specs.declared.pair.PairOutcome.TheVariants as pair_outcome
 use Rattle.csp_compare.specs.declared.task.Task.{Task}
 use Rattle.csp_compare.specs.declared.trees.Outcome.{Outcome}
 use Rattle.csp_compare.specs.declared.trees.Outcome.TheVariants as outcome
@@ -28,6 +33,16 @@ pub record IsTask (task : Task) : Type 0 where
   pub second : IsReadable task.second.now
   pub hashes : task.vocabulary.now.hashes ≡ hashes_in (lists_of task)
   pub policies : task.policies.now ≡ enforced task.second.now
+
+-- at each shape the table has formulas, which are what the policies say
+abbrev pub IsTableOf : Task → FormulaTable → Type 0
+IsTableOf task table = (kind : Shape) → IsTrue (is_shape kind) → MatchOption (formulas_at table kind) ⊥
+    (AreAt task.vocabulary.now.hashes task.first.now task.second.now kind)
+
+-- nodes that show the pair, or a check that the second list refuses
+abbrev pub IsPairOutcome : Lists → Pair → PairOutcome → Type 0
+IsPairOutcome lists pair (pair_outcome.Shown nodes) = ShowsInclusion lists pair nodes
+IsPairOutcome lists pair (pair_outcome.Refuted asked) = IsCounterexample lists.first lists.second asked
 
 -- the trees of these numbers have nodes that show the shape's pairs
 abbrev pub AreShown : Task → List Tree → Shape → List ℕ → Type 0

@@ -1,11 +1,8 @@
 //! The comparison of two lists.
-ghost use Rattle.std.specs.Prelude.{IfOk, IsTrue, MatchOption};
+ghost use Rattle.std.specs.Prelude.{IfOk};
 ghost use Rattle.csp_compare.specs.Answers.{IsAnswer};
-ghost use Rattle.csp_compare.specs.Tasks.{IsTask};
+ghost use Rattle.csp_compare.specs.Tasks.{IsTableOf, IsTask};
 ghost use Rattle.csp_model.specs.Policies.{IsReadable};
-ghost use Rattle.csp_shape.specs.Shapes.{is_shape};
-ghost use Rattle.csp_shape.specs.declared.shape.Shape.{Shape as ShapeValue};
-ghost use Rattle.csp_table.specs.Tables.{AreAt, formulas_at};
 
 use crate::draft::Draft;
 use crate::enforced::enforced_of;
@@ -15,13 +12,14 @@ use csp_atom::vocabulary_of;
 use csp_model::{Check, Memory, PolicyList};
 use csp_proof::Proof;
 use csp_proof::laws::what_is_accepted_is_so;
+use csp_search::Effort;
 use csp_shape::shape_at;
 use csp_table::FormulaTable;
 use std::alloc::Global;
 use std::collections::BTreeMap;
 
 // How many shapes there are.
-const SHAPE_COUNT: u8 = 189;
+pub(crate) const SHAPE_COUNT: u8 = 189;
 
 /// Whether the second of two lists allows every valid check that the first allows.
 #[derive(Debug, Drop)]
@@ -50,25 +48,32 @@ pub fn compare(alloc: Global, first: &PolicyList, second: &PolicyList) -> Result
     compare_task(alloc, task, &table)
 }
 
-// Goes over the shapes in the order of their numbers.
+// Goes over the shapes in the order of their numbers. Searches are short until the first that would take long.
 fn compare_task<'a>(
     alloc: Global,
     task: Task<'a>,
     table: &'a FormulaTable,
 ) -> Result<Answer, Memory>
     requires task { IsTask task }
-    requires formulas { (kind : ShapeValue) → IsTrue (is_shape kind)
-        → MatchOption (formulas_at table.now kind) ⊥
-        (AreAt task.vocabulary.now.hashes task.first.now task.second.now kind) }
+    requires table { IsTableOf task table.now }
     ensures { IfOk result (IsAnswer task.entry.first.now task.entry.second.now) }
 {
     let mut draft = Draft::new(alloc);
     let mut known = BTreeMap::new(alloc);
+    let mut effort = Effort::Short;
     for number in 0..SHAPE_COUNT {
         let Some(shape) = shape_at(number) else {
             unreachable!()
         };
-        if let Some(check) = show_shape(alloc, task, table, shape, &mut draft, &mut known)? {
+        if let Some(check) = show_shape(
+            alloc,
+            task,
+            table,
+            shape,
+            &mut draft,
+            &mut known,
+            &mut effort,
+        )? {
             return Ok(Answer::Counterexample { check });
         }
     }

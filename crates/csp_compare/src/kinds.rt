@@ -1,13 +1,13 @@
 //! The trees of the shapes, where those with equal formulas share their nodes.
-ghost use Rattle.std.specs.Prelude.{◌<◌, ◌+◌, ◌^◌, length, IfOk, IsTrue, MatchOption};
-ghost use Rattle.csp_compare.specs.Tasks.{IsTask, AreKnown, IsStep};
+ghost use Rattle.std.specs.Prelude.{◌<◌, ◌+◌, ◌^◌, length, IfOk, IsTrue};
+ghost use Rattle.csp_compare.specs.Tasks.{AreKnown, IsStep, IsTableOf, IsTask};
 ghost use Rattle.csp_shape.specs.Shapes.{is_shape};
-ghost use Rattle.csp_table.specs.Tables.{AreAt, formulas_at};
 
 use crate::draft::Draft;
 use crate::task::Task;
 use crate::trees::{Outcome, search_shape, share_shape};
 use csp_model::{Check, Memory};
+use csp_search::Effort;
 use csp_shape::{Shape, shape_number};
 use csp_table::FormulaTable;
 use std::alloc::Global;
@@ -22,11 +22,11 @@ pub(crate) fn show_shape<'a>(
     shape: Shape,
     draft: &mut Draft,
     known: &mut BTreeMap<usize, Vec<u32>>,
+    effort: &mut Effort,
 ) -> Result<Option<Check>, Memory>
     requires task { IsTask task }
     requires listed { IsTrue (is_shape shape) }
-    requires formulas { MatchOption (formulas_at table.now shape) ⊥
-        (AreAt task.vocabulary.now.hashes task.first.now task.second.now shape) }
+    requires table { IsTableOf task table.now }
     requires room { length draft.old + length task.policies.now < 2 ^ 32 }
     requires known { AreKnown task table.now.kinds draft.old known.old }
     ensures { IfOk result (IsStep task.entry shape table.now.kinds draft.old draft.new known.new) }
@@ -41,7 +41,7 @@ pub(crate) fn show_shape<'a>(
         share_shape(task, shape, numbers.as_slice(), draft)?;
         return Ok(None);
     }
-    match search_shape(alloc, task, shape, formulas, draft)? {
+    match search_shape(alloc, task, table, shape, formulas, draft, effort)? {
         Outcome::Shown { numbers } => {
             known.insert(*kind, numbers)?;
             Ok(None)

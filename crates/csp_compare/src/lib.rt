@@ -7,6 +7,8 @@ mod draft;
 mod enforced;
 mod kinds;
 mod numbers;
+mod pair;
+mod probing;
 mod residuals;
 mod task;
 mod trees;

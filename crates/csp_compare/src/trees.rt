@@ -2,16 +2,18 @@
 ghost use Rattle.std.specs.Prelude.{◌≡◌, ◌<◌, ◌+◌, ◌^◌, length, IfOk, OnOk, IsTrue, map};
 ghost use Rattle.std.specs.List.{AllZip};
 ghost use Rattle.csp_compare.specs.Drafts.{Adds, IsShown, at_shape};
-ghost use Rattle.csp_compare.specs.Tasks.{IsTask, IsOutcome, lists_of};
+ghost use Rattle.csp_compare.specs.Tasks.{IsOutcome, IsTableOf, IsTask, lists_of};
 ghost use Rattle.csp_shape.specs.Shapes.{is_shape};
 ghost use Rattle.csp_table.specs.Tables.{AreAt};
 
 use crate::draft::Draft;
+use crate::pair::{PairOutcome, search_pair};
 use crate::task::Task;
 use csp_model::{Check, Duplicate, Memory};
 use csp_placed::PlacedFormulas;
-use csp_search::{Found, Overview, Question, search};
+use csp_search::{Effort, Overview, Question};
 use csp_shape::{Shape, shape_number};
+use csp_table::FormulaTable;
 use csp_valuation::Valuation;
 use std::alloc::Global;
 
@@ -28,11 +30,14 @@ pub(crate) enum Outcome {
 pub(crate) fn search_shape<'a>(
     alloc: Global,
     task: Task<'a>,
+    table: &'a FormulaTable,
     shape: Shape,
     formulas: &'a PlacedFormulas,
     draft: &mut Draft,
+    effort: &mut Effort,
 ) -> Result<Outcome, Memory>
     requires task { IsTask task }
+    requires table { IsTableOf task table.now }
     requires listed { IsTrue (is_shape shape) }
     requires formulas { AreAt task.vocabulary.now.hashes task.first.now task.second.now
         shape formulas.now }
@@ -53,11 +58,11 @@ pub(crate) fn search_shape<'a>(
             shape,
             policy: *policy,
         };
-        match search(alloc, question, &mut valuation)? {
-            Found::Nodes { nodes } => {
+        match search_pair(alloc, task, table, question, &mut valuation, effort)? {
+            PairOutcome::Shown { nodes } => {
                 numbers.push(draft.add(shape_number(shape), *policy, nodes)?)?;
             }
-            Found::Check { check } => return Ok(Outcome::Refuted { check }),
+            PairOutcome::Refuted { check } => return Ok(Outcome::Refuted { check }),
         }
     }
     Ok(Outcome::Shown { numbers })

@@ -8,9 +8,11 @@ mod leaf;
 mod open;
 mod order;
 mod overview;
+mod probing;
 mod searching;
 mod tree;
 mod uses;
 
 pub use overview::Overview;
-pub use searching::{Found, Question, search};
+pub use probing::probe;
+pub use searching::{Effort, Found, Question, search};

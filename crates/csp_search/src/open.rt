@@ -1,5 +1,5 @@
 //! A check of the branch that a search leaves open.
-ghost use Rattle.std.specs.Prelude.{All, IfOk, []};
+ghost use Rattle.std.specs.Prelude.{◌≡◌, ◌≤◌, All, IfOk, [], length};
 ghost use Rattle.csp_cell.specs.Cells.{IsOf};
 ghost use Rattle.csp_search.specs.Answers.{ShowsNone};
 ghost use Rattle.csp_search.specs.Branches.{IsBranch, IsCellOf, IsFresh};
@@ -7,6 +7,7 @@ ghost use Rattle.csp_search.specs.Leaves.{IsOpen};
 ghost use Rattle.csp_search.specs.Questions.{IsPosed, lists_of, pair_of};
 ghost use Rattle.csp_valuation.specs.Paths.{literals_of};
 
+use crate::order::order_branch;
 use crate::searching::Question;
 use csp_cell::Cell;
 use csp_formula::laws::{
@@ -34,11 +35,7 @@ fn cell_of(alloc: Global, shape: Shape, path: &[Taken]) -> Result<Cell, Memory>
 }
 
 // A check of the branch that the path of the valuation leads to.
-pub(crate) fn open_check(
-    alloc: Global,
-    question: Question,
-    valuation: &Valuation,
-) -> Result<Check, Memory>
+fn open_check(alloc: Global, question: Question, valuation: &Valuation) -> Result<Check, Memory>
     requires posed { IsPosed question }
     requires branch { IsBranch question.formulas.now.atoms valuation.now.literals }
     requires open { IsOpen (lists_of question) (pair_of question) valuation.now.literals }
@@ -50,4 +47,23 @@ pub(crate) fn open_check(
     a_list_names_few_ports();
     let cell = cell_of(alloc, question.shape, valuation.path())?;
     representative(alloc, &cell, cell.shape(), question.vocabulary)
+}
+
+// The same, by the literals in the order of their atoms.
+pub(crate) fn check_of_branch<'a>(
+    alloc: Global,
+    question: Question<'a>,
+    valuation: &mut Valuation<'a>,
+) -> Result<Check, Memory>
+    requires posed { IsPosed question }
+    requires atoms { valuation.old.atoms ≡ question.formulas.now.atoms }
+    requires room { length valuation.old.atoms ≤ valuation.old.room }
+    requires branch { IsBranch question.formulas.now.atoms valuation.old.literals }
+    requires open { IsOpen (lists_of question) (pair_of question) valuation.old.literals }
+    ensures check { IfOk result (ShowsNone (lists_of question.entry) (pair_of question.entry)) }
+    ensures atoms { valuation.new.atoms ≡ valuation.old.atoms }
+    ensures room { valuation.new.room ≡ valuation.old.room }
+{
+    order_branch(alloc, question, valuation)?;
+    open_check(alloc, question, valuation)
 }

@@ -6,11 +6,10 @@ ghost use Rattle.csp_model.specs.Verdict.{is_enforce};
 ghost use Rattle.csp_model.specs.declared.policy.Policy.{Policy as PolicyValue};
 ghost use Rattle.csp_search.specs.Answers.{IsFound};
 ghost use Rattle.csp_search.specs.Questions.{lists_of, pair_of};
+ghost use Rattle.csp_search.specs.declared.searching.Effort.TheVariants.{Short};
 ghost use Rattle.csp_shape.specs.Shapes.{is_shape};
 ghost use Rattle.csp_table.specs.Tables.{AreAt};
 
-use crate::open::open_check;
-use crate::order::order_branch;
 use crate::overview::Overview;
 use crate::tree::find_tree;
 use csp_atom::Vocabulary;
@@ -38,6 +37,15 @@ pub struct Question<'a> {
     pub policy: u32,
 }
 
+/// How long a search goes on.
+#[derive(Clone, Copy, Debug)]
+pub enum Effort {
+    /// Until it would split more often than there are atoms where the policy refuses all checks that are left.
+    Short,
+    /// To its end.
+    Whole,
+}
+
 /// What a search finds.
 #[derive(Debug, Drop)]
 pub enum Found {
@@ -52,7 +60,8 @@ pub fn search<'a>(
     alloc: Global,
     question: Question<'a>,
     valuation: &mut Valuation<'a>,
-) -> Result<Found, Memory>
+    effort: Effort,
+) -> Result<Option<Found>, Memory>
     requires first { IsReadable question.first.now }
     requires second { IsReadable question.second.now }
     requires hashes { question.vocabulary.now.hashes
@@ -64,20 +73,12 @@ pub fn search<'a>(
         (λ (p : PolicyValue). IsTrue (is_enforce p.disposition)) }
     requires atoms { valuation.old.atoms ≡ question.formulas.now.atoms }
     requires room { length valuation.old.atoms ≤ valuation.old.room }
-    ensures found { IfOk result
-        (IsFound (lists_of question.entry) (pair_of question.entry)) }
+    ensures found { IfOk result (λ found. MatchOption found (effort ≡ Short)
+        (IsFound (lists_of question.entry) (pair_of question.entry))) }
     ensures atoms { valuation.new.atoms ≡ valuation.old.atoms }
     ensures room { valuation.new.room ≡ valuation.old.room }
 {
     the_atoms_of_a_formula_are_of_its_shape();
     each_token_has_one_source();
-    match find_tree(alloc, question, valuation)? {
-        Some(nodes) => Ok(Found::Nodes { nodes }),
-        None => {
-            order_branch(alloc, question, valuation)?;
-            Ok(Found::Check {
-                check: open_check(alloc, question, valuation)?,
-            })
-        }
-    }
+    find_tree(alloc, question, valuation, effort)
 }

@@ -1,42 +1,41 @@
 //! The search for a tree of cases. It takes no recursion: the path of the valuation has the branches that
 //! wait, so that deep trees cost memory alone.
-ghost use Rattle.std.specs.Prelude.{◌≡◌, ◌≤◌, [], ◌∷◌, All, IfOk, IfSome, MatchBool, MatchOption, length, ⊤};
+ghost use Rattle.std.specs.Prelude.{◌≡◌, ◌≤◌, [], ◌∷◌, All, IfOk, MatchBool, MatchOption, length};
 ghost use Rattle.csp_atom.specs.Atoms.{IsValidAtom};
-ghost use Rattle.csp_search.specs.Answers.{ShowsInclusion};
-ghost use Rattle.csp_search.specs.Branches.{IsBranch, pending};
-ghost use Rattle.csp_search.specs.Leaves.{IsOpen};
+ghost use Rattle.csp_search.specs.Answers.{IsFound};
+ghost use Rattle.csp_search.specs.Branches.{pending};
 ghost use Rattle.csp_search.specs.Questions.{IsPosed, lists_of, pair_of};
+ghost use Rattle.csp_search.specs.declared.searching.Effort.TheVariants.{Short};
 
 use crate::hints::Hints;
 use crate::leaf::{Step, next_step, second_formula};
-use crate::searching::Question;
+use crate::open::check_of_branch;
+use crate::searching::{Effort, Found, Question};
 use csp_model::{Duplicate, List, Memory};
 use csp_proof::Node;
 use csp_valuation::{Taken, Valuation};
 use std::alloc::Global;
 
-// The nodes of a tree that keeps all rules. Or none: then the path of the valuation leads to checks that the
-// first list allows and the policy of the second refuses.
+// The nodes of a tree that keeps all rules, or a check that the first list allows and the policy of the second
+// refuses. Or none of both, where a short search would go on for long.
 pub(crate) fn find_tree<'a>(
     alloc: Global,
     question: Question<'a>,
     valuation: &mut Valuation<'a>,
-) -> Result<Option<List<Node>>, Memory>
+    effort: Effort,
+) -> Result<Option<Found>, Memory>
     requires posed { IsPosed question }
     requires valid { All IsValidAtom question.formulas.now.atoms }
     requires atoms { valuation.old.atoms ≡ question.formulas.now.atoms }
     requires room { length valuation.old.atoms ≤ valuation.old.room }
-    ensures tree { IfOk result (λ found. IfSome found
-        (ShowsInclusion (lists_of question.entry) (pair_of question.entry))) }
-    ensures open { IfOk result (λ found. MatchOption found
-        (IsOpen (lists_of question.entry) (pair_of question.entry) valuation.new.literals) (λ _. ⊤)) }
-    ensures branch { IfOk result (λ found. MatchOption found
-        (IsBranch question.entry.formulas.now.atoms valuation.new.literals) (λ _. ⊤)) }
+    ensures found { IfOk result (λ found. MatchOption found (effort ≡ Short)
+        (IsFound (lists_of question.entry) (pair_of question.entry))) }
     ensures atoms { valuation.new.atoms ≡ valuation.old.atoms }
     ensures room { valuation.new.room ≡ valuation.old.room }
 {
     let atoms = question.formulas.atoms.as_slice();
     let mut nodes = List::new(alloc);
+    let mut patience = atoms.len();
     let formula = second_formula(question);
     let mut hints = Hints::new(alloc, formula, question.overview)?;
     valuation.clear();
@@ -45,12 +44,23 @@ pub(crate) fn find_tree<'a>(
             Step::Close { leaf } => {
                 nodes.push(leaf)?;
                 if !next_branch(valuation) {
-                    return Ok(Some(nodes));
+                    return Ok(Some(Found::Nodes { nodes }));
                 }
                 hints.turn(valuation)?;
             }
-            Step::Leave => return Ok(None),
+            Step::Leave => {
+                let check = check_of_branch(alloc, question, valuation)?;
+                return Ok(Some(Found::Check { check }));
+            }
             Step::Split { place } => {
+                if let Effort::Short = effort
+                    && hints.is_refused(valuation)
+                {
+                    if patience == 0 {
+                        return Ok(None);
+                    }
+                    patience -= 1;
+                }
                 let atom = &atoms[place];
                 nodes.push(Node::Split {
                     atom: atom.copy(alloc)?,

@@ -13,7 +13,7 @@ share_shape-requires-clause-shown c =
     let task = c.args.task in
     let kinds = c.args.table.now.kinds in
     let found = ap (option_and_then (slice_get kinds)) (sym (c.in-Some.ensures ∙ ap (slice_get c.args.table.now.places) c.shape_number.ensures)) ∙ sym c.in-Some-get.ensures in
-    let says = MatchOption-at_some ⊥ (AreAt task.vocabulary.now.hashes task.first.now task.second.now c.args.shape) c.in-Some-get.formulas.now found c.requires.formulas in
+    let says = MatchOption-at_some ⊥ (AreAt task.vocabulary.now.hashes task.first.now task.second.now c.args.shape) c.in-Some-get.formulas.now found (c.requires.table c.args.shape c.requires.listed) in
     subst (λ (ns : List ℕ). AreShown task c.args.draft.now c.args.shape ns) (sym c.as_slice.ensures.value)
     (c.requires.known c.in-Some.kind.now c.in-Some-get-2.numbers.now c.in-Some-get.formulas.now c.args.shape (sym c.in-Some-get-2.ensures.value) (sym c.in-Some-get.ensures) says)
 
@@ -29,7 +29,7 @@ returns-in_ok-insert-in-Shown c =
     let task = c.args.task in
     let kinds = c.args.table.now.kinds in
     let found = ap (option_and_then (slice_get kinds)) (sym (c.in-Some.ensures ∙ ap (slice_get c.args.table.now.places) c.shape_number.ensures)) ∙ sym c.in-Some-get.ensures in
-    let says = MatchOption-at_some ⊥ (AreAt task.vocabulary.now.hashes task.first.now task.second.now c.args.shape) c.in-Some-get.formulas.now found c.requires.formulas in
+    let says = MatchOption-at_some ⊥ (AreAt task.vocabulary.now.hashes task.first.now task.second.now c.args.shape) c.in-Some-get.formulas.now found (c.requires.table c.args.shape c.requires.listed) in
     let outcome = subst (IsOutcome task c.args.shape c.args.draft.now c.search_shape.new.draft) c.in-Shown.is c.in_ok-numbers.ensures in
     let before = known_longer task kinds (map (at_shape c.args.shape) task.policies.now) c.args.draft.now c.search_shape.new.draft c.args.known.now outcome.0 c.requires.known in (
       outcome.0,

@@ -19,8 +19,8 @@ steps-init c =
       keeps = rw (c.clear.ensures, c.new-nodes.ensures) (keeps_start (lists_of q) (pair_of q) q.formulas.now.atoms);
     }
 
-pub returns-then-not-next_branch-clause-tree : goal.returns-then-not-next_branch-clause-tree
-returns-then-not-next_branch-clause-tree c =
+pub returns-then-not-next_branch-clause-found : goal.returns-then-not-next_branch-clause-found
+returns-then-not-next_branch-clause-found c =
     let q = c.args.question in
     let atoms = q.formulas.now.atoms in
     let ls = c.steps.valuation.literals in
@@ -96,8 +96,8 @@ steps-preserved c =
           (keeps_split (lists_of q) (pair_of q) atoms c.steps.nodes c.push-in-Split.new.self ls (pending [] ls) c.in-Split.place a c.steps.invariant.keeps there.0 there.1 valid pushed);
     }
 
-pub returns-in-Leave-clause-open : goal.returns-in-Leave-clause-open
-returns-in-Leave-clause-open c =
+pub check_of_branch-requires-clause-open : goal.check_of_branch-requires-clause-open
+check_of_branch-requires-clause-open c =
     let q = c.args.question in
     let left = rw c.in-Leave.is at c.in_ok-leaf.ensures in
     leaves_open (lists_of q) (pair_of q) c.steps.valuation.literals left.0 left.1

@@ -1,0 +1,63 @@
+//! A look for a check on one branch alone.
+ghost use Rattle.std.specs.Prelude.{◌≡◌, ◌≤◌, IfOk, IfSome, IsTrue, MatchOption, length, slice_get};
+ghost use Rattle.csp_atom.specs.Vocabulary.{vocabulary_hashes};
+ghost use Rattle.csp_model.specs.Policies.{IsReadable};
+ghost use Rattle.csp_model.specs.Verdict.{is_enforce};
+ghost use Rattle.csp_model.specs.declared.policy.Policy.{Policy as PolicyValue};
+ghost use Rattle.csp_search.specs.Answers.{ShowsNone};
+ghost use Rattle.csp_search.specs.Questions.{lists_of, pair_of};
+ghost use Rattle.csp_shape.specs.Shapes.{is_shape};
+ghost use Rattle.csp_table.specs.Tables.{AreAt};
+
+use crate::hints::Hints;
+use crate::leaf::{Step, next_step, second_formula};
+use crate::open::check_of_branch;
+use crate::searching::Question;
+use csp_model::{Check, Memory};
+use csp_valuation::{Taken, Valuation};
+use std::alloc::Global;
+
+/// A valid check of the shape that the first list allows and the policy doesn't, if there is one on the branch
+/// where nothing holds that the policy waits on, and then all that the first list waits on. There may be one
+/// elsewhere, which a search finds.
+pub fn probe<'a>(
+    alloc: Global,
+    question: Question<'a>,
+    valuation: &mut Valuation<'a>,
+) -> Result<Option<Check>, Memory>
+    requires first { IsReadable question.first.now }
+    requires second { IsReadable question.second.now }
+    requires hashes { question.vocabulary.now.hashes
+        ≡ vocabulary_hashes question.first.now question.second.now }
+    requires listed { IsTrue (is_shape question.shape) }
+    requires formulas { AreAt question.vocabulary.now.hashes question.first.now question.second.now
+        question.shape question.formulas.now }
+    requires enforced { MatchOption (slice_get question.second.now.policies question.policy) ⊥
+        (λ (p : PolicyValue). IsTrue (is_enforce p.disposition)) }
+    requires atoms { valuation.old.atoms ≡ question.formulas.now.atoms }
+    requires room { length valuation.old.atoms ≤ valuation.old.room }
+    ensures found { IfOk result (λ found. IfSome found
+        (ShowsNone (lists_of question.entry) (pair_of question.entry))) }
+    ensures atoms { valuation.new.atoms ≡ valuation.old.atoms }
+    ensures room { valuation.new.room ≡ valuation.old.room }
+{
+    let atoms = question.formulas.atoms.as_slice();
+    let mut hints = Hints::new(alloc, second_formula(question), question.overview)?;
+    valuation.clear();
+    for _ in 0..=atoms.len() {
+        match next_step(question, valuation, &mut hints)? {
+            Step::Close { .. } => return Ok(None),
+            Step::Leave => return Ok(Some(check_of_branch(alloc, question, valuation)?)),
+            Step::Split { place } => {
+                let atom = &atoms[place];
+                let positive = hints.is_refused(valuation);
+                hints.split(place)?;
+                valuation.take(Taken { atom, positive });
+                if !positive {
+                    hints.turn(valuation)?;
+                }
+            }
+        }
+    }
+    Ok(None)
+}
