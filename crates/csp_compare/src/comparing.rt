@@ -48,7 +48,8 @@ pub fn compare(alloc: Global, first: &PolicyList, second: &PolicyList) -> Result
     compare_task(alloc, task, &table)
 }
 
-// Goes over the shapes in the order of their numbers. Searches are short until the first that would take long.
+// Goes over the shapes in the order of their numbers. Searches are short until the first one that would take
+// long.
 fn compare_task<'a>(
     alloc: Global,
     task: Task<'a>,
