@@ -17,9 +17,9 @@ use csp_model::{Check, Memory};
 use csp_valuation::{Taken, Valuation};
 use std::alloc::Global;
 
-/// A valid check of the shape that the first list allows and the policy doesn't, if there is one on the branch
-/// where nothing holds that the policy waits on, and then all that the first list waits on. There may be one
-/// elsewhere, which a search finds.
+/// A valid check of the shape that the first list allows and the policy doesn't, if there is one on the
+/// branch where nothing holds that the policy waits on, and then everything that the first list waits on.
+/// Elsewhere there may be one that a search finds.
 pub fn probe<'a>(
     alloc: Global,
     question: Question<'a>,

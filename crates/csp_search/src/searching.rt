@@ -40,7 +40,7 @@ pub struct Question<'a> {
 /// How long a search goes on.
 #[derive(Clone, Copy, Debug)]
 pub enum Effort {
-    /// Until it would split more often than there are atoms where the policy refuses all checks that are left.
+    /// Until it would split more than once for four atoms where the policy refuses all checks that are left.
     Short,
     /// To its end.
     Whole,

@@ -16,8 +16,8 @@ use csp_proof::Node;
 use csp_valuation::{Taken, Valuation};
 use std::alloc::Global;
 
-// The nodes of a tree that keeps all rules, or a check that the first list allows and the policy of the second
-// refuses. Or none of both, where a short search would go on for long.
+// The nodes of a tree that keeps all rules, or a check that the first list allows and the policy of the
+// second refuses. Or none of both, where a short search would go on for long.
 pub(crate) fn find_tree<'a>(
     alloc: Global,
     question: Question<'a>,
@@ -35,7 +35,8 @@ pub(crate) fn find_tree<'a>(
 {
     let atoms = question.formulas.atoms.as_slice();
     let mut nodes = List::new(alloc);
-    let mut patience = atoms.len();
+    // How often a short search splits where the policy of the second list refuses what is left.
+    let mut patience = atoms.len() / 4;
     let formula = second_formula(question);
     let mut hints = Hints::new(alloc, formula, question.overview)?;
     valuation.clear();

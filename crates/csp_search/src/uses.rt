@@ -17,6 +17,8 @@ pub(crate) struct Part<'f> {
     numbers: [usize; 3],
     // How many parts the or has in which it stands, but for those that are the constant false.
     among: usize,
+    // Whether it speaks of no name of a host.
+    is_nameless: bool,
 }
 
 // How the atom of each place stands in a formula.
@@ -49,10 +51,10 @@ impl<'f> Uses<'f> {
         if let Some(formula) = formula {
             let formula = formula.formula();
             note(formula, false, &mut uses);
-            note_parts(formula, [0; 3], 1, 0, &mut uses.parts)?;
+            note_parts(formula, atoms, [0; 3], 1, 0, &mut uses.parts)?;
             uses.parts.sort_by_key(|(place, _)| *place)?;
             uses.keep_most();
-            uses.note_nameless(atoms);
+            uses.note_nameless();
         }
         Ok(uses)
     }
@@ -178,10 +180,10 @@ impl<'f> Uses<'f> {
         }
     }
 
-    fn note_nameless(&mut self, atoms: &[Atom]) {
+    fn note_nameless(&mut self) {
         for (place, part) in &self.parts {
             if let Some(nameless) = self.nameless.get_mut(*place)
-                && !speaks_of_name(part.formula, atoms)
+                && part.is_nameless
             {
                 *nameless = true;
             }
@@ -254,6 +256,7 @@ fn note_all(parts: &[PlacedFormula], is_negated: bool, uses: &mut Uses<'_>) {
 #[cycle(note_parts)]
 fn note_parts<'f>(
     formula: &'f PlacedFormula,
+    atoms: &[Atom],
     numbers: [usize; 3],
     among: usize,
     depth: usize,
@@ -264,6 +267,7 @@ fn note_parts<'f>(
             formula,
             numbers,
             among,
+            is_nameless: !speaks_of_name(formula, atoms),
         };
         return note_facts(formula, part, found);
     };
@@ -276,7 +280,7 @@ fn note_parts<'f>(
         if let Some(own) = numbers.get_mut(depth) {
             *own = number;
         }
-        note_parts(part, numbers, among, depth.saturating_add(1), found)?;
+        note_parts(part, atoms, numbers, among, depth.saturating_add(1), found)?;
     }
     Ok(())
 }

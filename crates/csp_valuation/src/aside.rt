@@ -25,7 +25,9 @@ pub(crate) struct Aside<'a> {
 }
 
 // The value of the atom at a place, by its mark and by what the literals that are set aside say of it. The
-// first literal that decides it counts.
+// first literal that decides it counts. Not inlined, so that a value by a mark alone, as most are, takes few
+// steps.
+#[inline(never)]
 pub(crate) fn known(
     mark: Mark,
     aside: &[Aside],

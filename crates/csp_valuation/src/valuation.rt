@@ -236,7 +236,8 @@ fn settle<'a>(waits: bool, path: &[Taken<'a>], settled: &mut Settled<'a>)
     }
 }
 
-// What the last literal of a path says of an atom, if it waits.
+// What the last literal of a path says of an atom, if it waits. Most values are known by a mark, without it.
+#[inline(never)]
 fn said_by_last(waits: bool, path: &[Taken], atom: &Atom) -> Option<bool>
     ensures { result ≡ decided (literals_of (waiting_part waits path.now)) atom.now }
 {
