@@ -22,7 +22,7 @@ pub(crate) fn probe_shapes<'a>(
     alloc: Global,
     task: Task<'a>,
     table: &'a FormulaTable,
-    first: u8,
+    from: u8,
 ) -> Result<Option<Check>, Memory>
     requires task { IsTask task }
     requires table { IsTableOf task table.now }
@@ -30,7 +30,7 @@ pub(crate) fn probe_shapes<'a>(
         (IsCounterexample task.entry.first.now task.entry.second.now)) }
 {
     let mut probed = vec![in alloc; false; table.kinds.len()]?;
-    for number in first..SHAPE_COUNT {
+    for number in from..SHAPE_COUNT {
         let Some(shape) = shape_at(number) else {
             unreachable!()
         };

@@ -69,7 +69,8 @@ impl<'f> Uses<'f> {
 
     // Whether the path may make a part true in which the atom at a place stands, where this name is the last
     // of which it says that it holds. The part of an atom that stands in one alone is what a short look sees.
-    // Of many parts those are asked that speak of a name which holds with this one.
+    // If all parts of the atom speak of names and the name stands in fewer, those of the name are asked, and of
+    // others that hold with it.
     pub(crate) fn may_have_true_part(
         &self,
         place: usize,
