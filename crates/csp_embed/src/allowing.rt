@@ -52,7 +52,7 @@ fn names(alloc: Global, value: &[u8], embedder: &Origin) -> Result<bool, Memory>
 fn stands_for(alloc: Global, value: &[u8], embedder: &Origin) -> Result<bool, Memory>
     ensures { IfOk result (λ stands. IsTrue stands ↔ spec.StandsFor value.now embedder.now) }
 {
-    if value == b"*" {
+    if value == b"*".as_slice() {
         return Ok(true);
     }
     names(alloc, value, embedder)
@@ -70,9 +70,9 @@ pub fn allow_from(alloc: Global, bytes: &[u8], embedder: &Origin) -> Result<bool
     ensures { IfOk result
         (λ allowed. IsTrue allowed ↔ spec.AllowsBlanketEnforcement bytes.now embedder.now) }
 {
-    let values = field_values(alloc, bytes, "Allow-CSP-From")?;
-    match values.as_slice() {
-        [value] => stands_for(alloc, value, embedder),
+    let mut values = field_values(alloc, bytes, "Allow-CSP-From")?;
+    match values.pop() {
+        Some(value) if values.is_empty() => stands_for(alloc, value, embedder),
         _ => Ok(false),
     }
 }

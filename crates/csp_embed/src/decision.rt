@@ -37,11 +37,7 @@ impl Decision {
 }
 
 // The policies of a response, with the required one behind them.
-fn with_added(
-    alloc: Global,
-    response: &PolicyList,
-    required: &Policy,
-) -> Result<PolicyList, Memory>
+fn with_added(alloc: Global, response: &PolicyList, required: &Policy) -> Result<PolicyList, Memory>
     ensures { IfOk result (λ list. list ≡ spec.with_added response.now required.now) }
 {
     let mut policies = response.policies.copy(alloc)?;

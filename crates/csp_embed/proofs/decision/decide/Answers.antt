@@ -14,7 +14,7 @@ returns-then-allowed-clause-upheld c =
 pub returns-in-Subsumed-clause-upheld : goal.returns-in-Subsumed-clause-upheld
 returns-in-Subsumed-clause-upheld c =
     let answer = subst (λ (a : Answer). IsAnswer c.args.response.now c.in_ok-required.required a)
-        c.in-Subsumed.is c.in_ok-proof.ensures in
+    c.in-Subsumed.is c.in_ok-proof.ensures in
     c.what_is_enforced_upholds_the_requirement.ensures false c.args.required.now c.args.response.now
     (Served c.in-Subsumed.proof) c.requires.enforced
     (subst (λ (list : PolicyList). IsAnswer c.args.response.now list (Subsumed c.in-Subsumed.proof))
