@@ -13,6 +13,8 @@ mod checks;
 #[cfg(test)]
 mod comparing;
 #[cfg(test)]
+mod embedding;
+#[cfg(test)]
 mod formulas;
 #[cfg(test)]
 mod generated;

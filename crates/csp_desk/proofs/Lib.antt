@@ -1,6 +1,5 @@
 pub mod Counting
 pub mod DeskTexts
-pub mod Fieldless
 pub mod GrowthLaws
 pub mod Latest
 pub mod Names

@@ -1,5 +1,5 @@
 //! A reporter that prints a report a line.
-ghost use Rattle.std.specs.Prelude.{◌≡◌, ◌∷◌, ◌++◌, [], OnOk, OnErr};
+ghost use Rattle.std.specs.Prelude.{◌≡◌, ◌∷◌, ◌++◌, [], OnOk, OnErr, IsErrOf};
 ghost use Rattle.csp_desk.specs.declared.reporter.Kind.TheVariants as kinds;
 
 use crate::history::History;
@@ -68,7 +68,12 @@ impl Reporter for Lines {
         Kind::Lines
     }
 
-    fn accept(&mut self, alloc: Global, violation: &Violation) -> Result<(), AcceptError> {
+    fn accept(&mut self, alloc: Global, violation: &Violation) -> Result<(), AcceptError>
+        ensures same_kind { kinds.Lines ≡ kinds.Lines }
+        ensures took { OnOk result (self.new ≡ self.old ++ violation.now ∷ []) }
+        ensures kept { OnErr result (self.new ≡ self.old) }
+        ensures not_refused { IsErrOf result AcceptError.Refused → ⊥ }
+    {
         self.push(alloc, violation)?;
         Ok(())
     }

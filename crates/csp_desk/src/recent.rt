@@ -1,5 +1,5 @@
 //! A reporter that prints the last reports.
-ghost use Rattle.std.specs.Prelude.{◌≡◌, ◌∷◌, ◌++◌, [], OnOk, OnErr};
+ghost use Rattle.std.specs.Prelude.{◌≡◌, ◌∷◌, ◌++◌, [], OnOk, OnErr, IsErrOf};
 ghost use Rattle.csp_desk.specs.declared.reporter.Kind.TheVariants as kinds;
 
 use crate::history::History;
@@ -78,7 +78,12 @@ impl Reporter for Recent {
         Kind::Recent { limit: self.limit }
     }
 
-    fn accept(&mut self, alloc: Global, violation: &Violation) -> Result<(), AcceptError> {
+    fn accept(&mut self, alloc: Global, violation: &Violation) -> Result<(), AcceptError>
+        ensures limit { self.new.limit ≡ self.old.limit }
+        ensures took { OnOk result (self.new.held ≡ self.old.held ++ violation.now ∷ []) }
+        ensures kept { OnErr result (self.new.held ≡ self.old.held) }
+        ensures not_refused { IsErrOf result AcceptError.Refused → ⊥ }
+    {
         self.push(alloc, violation)?;
         Ok(())
     }

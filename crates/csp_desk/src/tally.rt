@@ -1,5 +1,5 @@
 //! A reporter that prints a count a directive.
-ghost use Rattle.std.specs.Prelude.{◌≡◌, ◌∷◌, ◌++◌, [], OnOk, OnErr};
+ghost use Rattle.std.specs.Prelude.{◌≡◌, ◌∷◌, ◌++◌, [], OnOk, OnErr, IsErrOf};
 ghost use Rattle.csp_desk.specs.declared.reporter.Kind.TheVariants as kinds;
 
 use crate::counts::{count, counts_text};
@@ -68,7 +68,12 @@ impl Reporter for Tally {
         Kind::Tally
     }
 
-    fn accept(&mut self, _alloc: Global, violation: &Violation) -> Result<(), AcceptError> {
+    fn accept(&mut self, _alloc: Global, violation: &Violation) -> Result<(), AcceptError>
+        ensures same_kind { kinds.Tally ≡ kinds.Tally }
+        ensures took { OnOk result (self.new ≡ self.old ++ violation.now ∷ []) }
+        ensures kept { OnErr result (self.new ≡ self.old) }
+        ensures not_refused { IsErrOf result AcceptError.Refused → ⊥ }
+    {
         self.push(violation)?;
         Ok(())
     }

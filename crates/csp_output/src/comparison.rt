@@ -39,7 +39,7 @@ pub fn compare(alloc: Global, first: &PolicyList, second: &PolicyList) -> Result
 }
 
 // The lines on a check that the second list blocks.
-fn difference(alloc: Global, second: &PolicyList, check: &Check) -> Result<Bytes, Memory>
+pub(crate) fn difference(alloc: Global, second: &PolicyList, check: &Check) -> Result<Bytes, Memory>
     requires few { length second.now.policies ≤ policy_limit }
     requires valid { IsValidCheck check.now }
     ensures text { IfOk result (λ text. text ≡ spec.difference_text second.now check.now) }

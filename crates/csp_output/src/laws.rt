@@ -1,12 +1,20 @@
 //! Laws of outputs and statuses, each the contract of a function with no body.
-ghost use Rattle.std.specs.Prelude.{◌≡◌, ◌↔◌};
+ghost use Rattle.std.specs.Prelude.{◌≡◌, ◌↔◌, ◌⊎◌, ℕ, List, codes};
+ghost use Rattle.csp_embed.specs.AllowFrom.{AllowsBlanketEnforcement};
+ghost use Rattle.csp_embed.specs.Decisions.{Upholds, alone};
 ghost use Rattle.csp_model.specs.Inclusion.{Subsumes};
+ghost use Rattle.csp_model.specs.declared.policy.Disposition.TheVariants.{Enforce};
+ghost use Rattle.csp_model.specs.declared.policy.Policy.{Policy};
 ghost use Rattle.csp_model.specs.declared.policy.PolicyList.{PolicyList};
+ghost use Rattle.csp_model.specs.declared.url.Origin.{Origin};
 ghost use Rattle.csp_output.specs.Comparisons.{IsComparison};
+ghost use Rattle.csp_output.specs.Embeddings.{IsEmbedding, IsEnforcedList, first_line};
 ghost use Rattle.csp_output.specs.Statuses.{exit_code};
 ghost use Rattle.csp_output.specs.declared.built.Built.{Built};
 ghost use Rattle.csp_output.specs.declared.status.Status.{Status};
 ghost use Rattle.csp_output.specs.declared.status.Status.TheVariants as status;
+
+use csp_embed::laws::what_is_enforced_upholds_the_requirement;
 
 /// An answer of a comparison has the status `Clean` exactly where the second list allows all that the first
 /// allows. So no two answers on the same lists have different statuses, and no text is one of both.
@@ -16,6 +24,37 @@ pub fn a_comparison_has_one_status()
     ensures same { (first second : PolicyList) (one other : Built) → IsComparison first second one
         → IsComparison first second other → one.status ≡ other.status }
 {}
+
+/// An answer of `embed` says `added` exactly where the response allows blanket enforcement, and has the status
+/// `Clean` exactly there and where the response's own policies are at least as strict as the required one. So
+/// all answers on the same have one status and one word.
+pub fn an_embedding_has_one_answer()
+    ensures added { (embedder : Origin) (required : Policy) (block : List ℕ) (response : PolicyList)
+        (built : Built) → IsEmbedding embedder required block response built
+        → (first_line built.text ≡ codes "added") ↔ AllowsBlanketEnforcement block embedder }
+    ensures clean { (embedder : Origin) (required : Policy) (block : List ℕ) (response : PolicyList)
+        (built : Built) → IsEmbedding embedder required block response built
+        → (built.status ≡ status.Clean)
+        ↔ (AllowsBlanketEnforcement block embedder ⊎ Subsumes response (alone required)) }
+    ensures word { (embedder : Origin) (required : Policy) (block : List ℕ) (response : PolicyList)
+        (one other : Built) → IsEmbedding embedder required block response one
+        → IsEmbedding embedder required block response other
+        → first_line one.text ≡ first_line other.text }
+    ensures status { (embedder : Origin) (required : Policy) (block : List ℕ) (response : PolicyList)
+        (one other : Built) → IsEmbedding embedder required block response one
+        → IsEmbedding embedder required block response other → one.status ≡ other.status }
+{}
+
+/// Where an answer of `embed` has the status `Clean`, every valid check that the list allows that is enforced
+/// then the required policy allows.
+pub fn an_embedding_upholds_the_requirement()
+    ensures { (embedder : Origin) (required : Policy) (block : List ℕ) (response list : PolicyList)
+        (built : Built) → required.disposition ≡ Enforce
+        → IsEmbedding embedder required block response built → built.status ≡ status.Clean
+        → IsEnforcedList embedder required block response list → Upholds list required }
+{
+    what_is_enforced_upholds_the_requirement();
+}
 
 /// Each status has an exit code of its own.
 pub fn exit_codes_differ()

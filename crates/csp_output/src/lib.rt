@@ -1,10 +1,11 @@
-//! What `compare`, `check` and `drill` print of lists of policies, the lines of verdicts, and the statuses
-//! that runs end with.
+//! What `compare`, `check`, `drill` and `embed` print of lists of policies, the lines of verdicts, and the
+//! statuses that runs end with.
 #![tactic(auto)]
 
 mod acceptance;
 mod built;
 mod comparison;
+mod embedding;
 mod exercise;
 pub mod laws;
 mod lines;
@@ -15,6 +16,7 @@ mod verdict_lines;
 pub use acceptance::check;
 pub use built::Built;
 pub use comparison::compare;
+pub use embedding::{Response, embed};
 pub use exercise::drill;
 pub use status::{Status, exit_code};
 pub use verdict_lines::VerdictLines;

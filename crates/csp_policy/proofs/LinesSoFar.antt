@@ -20,7 +20,7 @@ said lines = says (map (λ (x : Bor (List ℕ)). x.now) lines)
 says_more : (parts : List (List ℕ)) (part : List ℕ) → says (parts ++ part ∷ []) ≡ says parts ++ line_of (strip_carriage_return part) ∷ []
 says_more parts part = ap (map line_of) (map_push strip_carriage_return parts part) ∙ map_push line_of (map strip_carriage_return parts) (strip_carriage_return part)
 
-said_more : (lines : List (Bor (List ℕ))) (line : Bor (List ℕ)) → said (lines ++ line ∷ []) ≡ said lines ++ line_of (strip_carriage_return line.now) ∷ []
+pub said_more : (lines : List (Bor (List ℕ))) (line : Bor (List ℕ)) → said (lines ++ line ∷ []) ≡ said lines ++ line_of (strip_carriage_return line.now) ∷ []
 said_more lines line = ap says (map_push (λ (x : Bor (List ℕ)). x.now) lines line) ∙ says_more (map (λ (x : Bor (List ℕ)). x.now) lines) line.now
 
 good_more : (n : ℕ) (lines : List Line) (line : Line) → position_from is_bad n lines ≡ None → is_bad line ≡ false → position_from is_bad n (lines ++ line ∷ []) ≡ None

@@ -5,6 +5,7 @@ mod block;
 mod caseless_name;
 mod directive;
 mod error;
+mod fields;
 mod lines;
 mod longest;
 mod pieces;
@@ -14,4 +15,5 @@ mod words;
 
 pub use block::read_block;
 pub use error::BlockError;
+pub use fields::field_values;
 pub use print::policy_text;

@@ -2,6 +2,7 @@
 ghost use Rattle.std.specs.Prelude.{◌≡◌, ◌≢◌, ◌≤◌, OnOk, OnErr, map};
 ghost use Rattle.csp_io.specs.Told.{Rose, GrewBy, GrewByPrefix};
 ghost use Rattle.csp_run.specs.Shown.{end_of, printed_as, printed_end};
+ghost use Rattle.csp_run.specs.declared.fault.Fault.{Fault as FaultValue};
 
 use crate::fault::Fault;
 use crate::gathered::write_sections;
@@ -36,8 +37,9 @@ pub(crate) fn make_printed<'a>(
     end: Result<Outcome, Fault>,
     desk: &'a [Box<dyn Reporter>],
 ) -> Result<Printed<'a>, Fault>
-    ensures { result ≢ Err Fault.Memory
+    ensures printed { result ≢ Err Fault.Memory
         → printed_end result ≡ end_of (map (λ b. kind b) desk.now) (map (λ b. held b) desk.now) end }
+    ensures fault { (f : FaultValue) → end ≡ Err f → result ≡ Err f }
 {
     match end {
         Ok(Outcome::Text(built)) => Ok(Printed::Text(built)),

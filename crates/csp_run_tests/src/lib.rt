@@ -18,6 +18,8 @@ mod kinds;
 #[cfg(test)]
 mod limited;
 #[cfg(test)]
+mod missing;
+#[cfg(test)]
 mod policies;
 #[cfg(test)]
 mod reports;

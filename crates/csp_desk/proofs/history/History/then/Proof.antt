@@ -25,7 +25,7 @@ use denote.Triple.Entry.{alive}
 use denote.Triple.Spec.{Meets, triple_of}
 use denote.Triple.Table.{entered}
 use denote.Triple.Walked.{says, Stays, stay_dropped, walk_of, ends_at, walk_Meets, Goes-dropped}
-use Rattle.csp_desk.proofs.Fieldless.{none, none_made}
+use Rattle.csp_io.proofs.Fieldless.{none, none_made}
 use Rattle.csp_desk.specs.contracts.history.History as History
 use Rattle.csp_model.specs.contracts.verdict.Violation as Violation
 use Rattle.csp_desk.specs.contracts.history.History.then as F

@@ -1,0 +1,2 @@
+pub mod AllowFrom
+pub mod Decisions
