@@ -1,0 +1,73 @@
+"""A stream of descriptions with verdicts that are known, and a cluster of dask.distributed on this machine."""
+
+import json
+import subprocess
+import sys
+import time
+from collections import Counter
+from pathlib import Path
+
+HOSTS = " ".join(f"https://s{at}.example" for at in range(100))
+POLICY = f"Content-Security-Policy: default-src 'none'; img-src https://*.img.example; script-src {HOSTS}\n"
+KINDS = (
+    ("image", "https://h{}.img.example/{}.png"),  # all allowed
+    ("script", "https://s{}.example/{}.js"),  # allowed where the host is one of the first hundred
+    ("font", "https://f{}.example/{}"),  # none allowed
+)
+
+
+def write_stream(path, count):
+    """Writes so many descriptions, one a line, and gives the counts that their verdicts have."""
+    counts = Counter()
+    with open(path, "w") as file:
+        for at in range(count):
+            destination, url = KINDS[at % 3]
+            host = at // 3 % 200
+            url = url.format(host, at)
+            file.write(f'{{"kind":"fetch","destination":"{destination}","url":"{url}"}}\n')
+            if destination == "image" or destination == "script" and host < 100:
+                counts["allowed"] += 1
+            else:
+                directive = "script-src-elem/script-src" if destination == "script" else "font-src/default-src"
+                counts.update(["blocked", "0:enforce:" + directive])
+    return dict(counts)
+
+
+def wait_for(what, seconds=60):
+    end = time.monotonic() + seconds
+    while not what():
+        if time.monotonic() > end:
+            sys.exit("cluster: the cluster doesn't come up")
+        time.sleep(0.05)
+
+
+class Cluster:
+    """A scheduler and two workers on the loopback address, and a log of the parts that the workers began to judge."""
+
+    def __init__(self, folder, program):
+        self.folder = Path(folder)
+        self.parts = self.folder / "parts"  # a line for each call of the program: the number of the worker's process
+        self.parts.touch()
+        self.program = self.folder / "csp"
+        self.program.write_text(f'#!/bin/sh\necho "$PPID" >>{self.parts}\nexec {program} "$@"\n')
+        self.program.chmod(0o755)
+        told = self.folder / "scheduler.json"
+        words = ("--host", "127.0.0.1", "--port", "0", "--scheduler-file", str(told))
+        self.scheduler = self.start("dask-scheduler", *words)
+        wait_for(told.exists)
+        self.address = json.loads(told.read_text())["address"]
+        words = ("--host", "127.0.0.1", "--nthreads", "1", "--no-nanny", "--local-directory", str(folder))
+        self.workers = [self.start("dask-worker", self.address, *words) for _ in range(2)]
+
+    def start(self, *words):
+        with open(self.folder / "log", "a") as log:
+            return subprocess.Popen([*words, "--no-dashboard"], stdout=log, stderr=log)
+
+    def judged(self):
+        """How many parts each worker began."""
+        return Counter(int(line) for line in self.parts.read_text().split())
+
+    def end(self):
+        for process in (*self.workers, self.scheduler):
+            process.kill()
+            process.wait()
