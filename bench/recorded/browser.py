@@ -1,8 +1,8 @@
 """Loads a page of some twenty resources in headless Chromium, and tells what its network did.
 
-The page and all it asks for are served on the loopback address, under names that end in `.localhost`, which Chromium
-looks up nowhere else. The browser is steered through a pair of pipes, by its DevTools protocol, and what the protocol
-tells is written as the developer tools export it, as a HAR.
+The page and all it asks for are served on the loopback address, under names that end in `.localhost`, which
+Chromium looks up nowhere else. The browser is steered through a pair of pipes, by its DevTools protocol, and
+what the protocol tells is written as the developer tools export it, as a HAR.
 """
 
 import json
@@ -16,9 +16,14 @@ import time
 from datetime import datetime, timezone
 from http.server import BaseHTTPRequestHandler, ThreadingHTTPServer
 
+from .hars import har
+from .trial import judge, point
+
 POLICY = (
-    "default-src 'self'; script-src 'self' {cdn}; style-src 'self' {cdn}/css/; img-src 'self' data: {cdn}/ok/; "
-    "font-src {cdn}; connect-src 'self'; frame-src 'self'; media-src 'self'; object-src 'none'; worker-src 'self'"
+    "default-src 'self'; script-src 'self' {cdn}; style-src 'self' {cdn}/css/; "
+    "img-src 'self' data: {cdn}/ok/; font-src {cdn}; "
+    "connect-src 'self'; frame-src 'self'; media-src 'self'; object-src 'none'; "
+    "worker-src 'self'"
 )
 PAGE = """<!DOCTYPE html>
 <title>page</title>
@@ -28,8 +33,10 @@ PAGE = """<!DOCTYPE html>
 <link rel="stylesheet" href="{other}/other.css">
 <script src="{cdn}/named.js"></script>
 <script src="{other}/other.js"></script>
-<img src="/own.png"><img src="{cdn}/ok/named.png"><img src="{cdn}/not/named.png"><img src="{other}/other.png">
-<img src="{cdn}/ok/moved?to={cdn}/not/path.png"><img src="/moved?to={other}/away.png"><img src="/moved?to=/kept.png">
+<img src="/own.png"><img src="{cdn}/ok/named.png">
+<img src="{cdn}/not/named.png"><img src="{other}/other.png">
+<img src="{cdn}/ok/moved?to={cdn}/not/path.png">
+<img src="/moved?to={other}/away.png"><img src="/moved?to=/kept.png">
 <img src="data:image/gif;base64,R0lGODlhAQABAAAAACwAAAAAAQABAAA=">
 <iframe src="/own.html"></iframe><iframe src="{other}/other.html"></iframe>
 <audio src="/own.wav" preload="auto"></audio><video src="{other}/other.mp4" preload="auto"></video>
@@ -41,7 +48,8 @@ STYLE = """@font-face {{ font-family: own; src: url(/own.woff2) }}
 @font-face {{ font-family: named; src: url({cdn}/named.woff2) }}
 p {{ background: url({other}/background.png) }}"""
 WATCH = """window.seen = [];
-addEventListener("securitypolicyviolation", event => seen.push([event.effectiveDirective, event.blockedURI]));"""
+addEventListener("securitypolicyviolation", event =>
+    seen.push([event.effectiveDirective, event.blockedURI]));"""
 SCRIPT = """const quiet = promise => promise.catch(() => 0);
 const late = Object.assign(document.createElement("script"), {{src: "{other}/late.js"}});
 document.head.append(late);
@@ -57,7 +65,13 @@ new EventSource("{other}/events");
 try {{ new WebSocket("{other}/socket".replace("http", "ws")); }} catch (refused) {{ }}
 try {{ new WebSocket(location.origin.replace("http", "ws") + "/socket"); }} catch (refused) {{ }}
 new Worker("/worker.js");"""
-TYPES = {"css": "text/css", "js": "text/javascript", "png": "image/png", "svg": "image/svg+xml", "html": "text/html"}
+TYPES = {
+    "css": "text/css",
+    "js": "text/javascript",
+    "png": "image/png",
+    "svg": "image/svg+xml",
+    "html": "text/html",
+}
 
 
 class Server(BaseHTTPRequestHandler):
@@ -68,7 +82,9 @@ class Server(BaseHTTPRequestHandler):
         names = {name: f"http://{name}.localhost:{port}" for name in ("cdn", "other")}
         texts = {"/": PAGE, "/own.css": STYLE, "/watch.js": WATCH, "/app.js": SCRIPT}
         path, _, to = self.path.partition("?to=")
-        self.send_response(302 if to else 204 if path == "/events" else 200)  # 204 asks for no second connection
+        self.send_response(
+            302 if to else 204 if path == "/events" else 200
+        )  # 204 asks for no second connection
         if to:
             self.send_header("Location", to)
         if path == "/":
@@ -91,12 +107,25 @@ class Chromium:
     """A headless Chromium, and the events of its network."""
 
     def __init__(self, profile):
-        program = shutil.which("chromium") or exit("browser: this needs chromium (Debian's package chromium)")
+        program = shutil.which("chromium") or exit(
+            "browser: this needs chromium (Debian's package chromium)"
+        )
         commands, answers = os.pipe(), os.pipe()  # in the browser their ends are the descriptors 3 and 4
         words = [program, "--headless=new", "--no-sandbox", "--disable-gpu", "--no-first-run"]
-        words += ["--disable-background-networking", "--disable-site-isolation-trials", "--remote-debugging-pipe"]
+        words += [
+            "--disable-background-networking",
+            "--disable-site-isolation-trials",
+            "--remote-debugging-pipe",
+        ]
         self.process = subprocess.Popen(
-            ["bash", "-c", f'exec "$@" 3<&{commands[0]} 4>&{answers[1]}', "-", *words, f"--user-data-dir={profile}"],
+            [
+                "bash",
+                "-c",
+                f'exec "$@" 3<&{commands[0]} 4>&{answers[1]}',
+                "-",
+                *words,
+                f"--user-data-dir={profile}",
+            ],
             pass_fds=(commands[0], answers[1]),
             stdout=subprocess.DEVNULL,
             stderr=subprocess.DEVNULL,
@@ -132,7 +161,7 @@ class Chromium:
             self.events.append(message)
 
     def settle(self, most=60):
-        """Keeps the events until each request is answered or failed and five seconds are quiet, or as long as that."""
+        """Keeps the events until each request is answered or failed and five seconds are quiet."""
         end = time.monotonic() + most
         while time.monotonic() < end:
             try:
@@ -142,19 +171,24 @@ class Chromium:
                     return
 
     def under_way(self):
-        """The requests that were sent, and neither answered nor failed. The end of a worker's is told elsewhere."""
+        """The requests that were sent, and neither answered nor failed."""
         sent = set()
         for event in self.events:
             name = event.get("method", "").removeprefix("Network.")
             if name == "requestWillBeSent":
                 sent.add(event["params"]["requestId"])
-            elif name in ("responseReceived", "responseReceivedExtraInfo", "loadingFinished", "loadingFailed"):
+            elif name in (
+                "responseReceived",
+                "responseReceivedExtraInfo",
+                "loadingFinished",
+                "loadingFailed",
+            ):
                 sent.discard(event["params"]["requestId"])
         return sent
 
 
 class Recorder:
-    """The entries of a HAR, from the events of a network, as the developer tools make them of the same events."""
+    """The entries of a HAR, made of the events of a network as the developer tools make them."""
 
     def __init__(self, events):
         self.hops = {}  # by request: its entries
@@ -166,7 +200,9 @@ class Recorder:
             if handler := getattr(self, name, None):
                 handler(**event["params"])
 
-    def requestWillBeSent(self, requestId, request, wallTime, initiator, type="Other", redirectResponse=None, **_):
+    def requestWillBeSent(
+        self, requestId, request, wallTime, initiator, type="Other", redirectResponse=None, **_
+    ):
         hops = self.hops.setdefault(requestId, [])
         if redirectResponse:
             self.answer(hops[-1], redirectResponse)
@@ -197,7 +233,10 @@ class Recorder:
         headers = {name.lower(): value for name, value in response["headers"].items()}
         media = response.get("mimeType") or headers.get("content-type", "x-unknown")
         one["response"] |= {"status": response["status"], "headers": pairs(response["headers"])}
-        one["response"] |= {"content": {"size": 0, "mimeType": media}, "redirectURL": headers.get("location", "")}
+        one["response"] |= {
+            "content": {"size": 0, "mimeType": media},
+            "redirectURL": headers.get("location", ""),
+        }
 
     def har(self):
         for request, hops in self.hops.items():
@@ -211,7 +250,9 @@ class Recorder:
 
     def blocked_urls(self):
         """The first URLs of the requests that a policy blocked."""
-        return sorted(self.hops[request][0]["request"]["url"] for request in self.blocked if request in self.hops)
+        return sorted(
+            self.hops[request][0]["request"]["url"] for request in self.blocked if request in self.hops
+        )
 
 
 def pairs(headers):
@@ -221,7 +262,12 @@ def pairs(headers):
 def entry(url, method, kind, initiator, wall_time):
     """An entry of which no answer is known as yet."""
     started = datetime.fromtimestamp(wall_time, timezone.utc).isoformat().replace("+00:00", "Z")
-    answer = {"status": 0, "headers": [], "content": {"size": 0, "mimeType": "x-unknown"}, "redirectURL": ""}
+    answer = {
+        "status": 0,
+        "headers": [],
+        "content": {"size": 0, "mimeType": "x-unknown"},
+        "redirectURL": "",
+    }
     return {
         "_initiator": {"type": initiator},
         "_resourceType": kind,
@@ -251,3 +297,58 @@ def load(reports_only):
             browser.process.wait(20)
             server.shutdown()
     return origin, Recorder(browser.events), json.loads(told["result"]["value"])
+
+
+def a_browser_says_the_same():
+    """What Chromium blocks of a page, and what the program blocks of the HAR of that page."""
+    for reports_only in (True, False):
+        origin, network, seen = load(reports_only)
+        text = json.dumps(network.har())
+        _, policy, _ = har(text, "--arg", "part", "policy")
+        policy = policy.replace("-Report-Only:", ":")
+        _, output, _ = har(text)
+        requests = json.loads(output)
+        verdicts = [line.split(maxsplit=2)[1:] for line in judge(output, policy, origin)[1]]
+        blocked = [
+            (verdict[1].split(":")[2].split("/")[0], (request.get("urls") or [request["url"]])[0])
+            for request, verdict in zip(requests, verdicts)
+            if verdict[0] == "blocked"
+        ]
+        mode = "a page whose policy only reports" if reports_only else "a page whose policy is enforced"
+        print(f"{mode}: {len(requests)} requests in its HAR, {len(blocked)} blocked by the program")
+        point(f"{mode}: a verdict for each request", len(requests), len(verdicts))
+        reported = {
+            tuple(one) for one in seen if one[1] != "inline"
+        }  # Chromium reports some requests twice
+        if reports_only:
+            unmatched = matched_away(reported, blocked)
+            point(
+                f"{mode}: the program blocks what the browser reports, and nothing else",
+                ([], []),
+                unmatched,
+            )
+        else:
+            urls = sorted(url for _, url in blocked)
+            point(
+                f"{mode}: the program blocks what the browser blocked, and nothing else",
+                network.blocked_urls(),
+                urls,
+            )
+            for directive, url in matched_away(reported, blocked)[0]:
+                print(f"blocked, and not in the HAR: {directive} {url}")
+
+
+def matched_away(reported, blocked):
+    """The reports and the blocked requests that don't belong together. Some reports name a part of a URL."""
+    left, rest = [], list(blocked)
+    for directive, named in sorted(reported, key=lambda report: -len(report[1])):
+        fits = (
+            one
+            for one in rest
+            if one[0] == directive and (one[1] + "/").startswith((named + "/", named + ":"))
+        )
+        if fit := next(fits, None):
+            rest.remove(fit)
+        else:
+            left.append((directive, named))
+    return left, rest
