@@ -39,7 +39,7 @@ def write_stream(path, count):
     return dict(counts)
 
 
-def wait_for(what, seconds=60):
+def wait_for(what, seconds=300):
     end = time.monotonic() + seconds
     while not what():
         if time.monotonic() > end:
@@ -71,8 +71,8 @@ class Cluster:
         with open(self.folder / "log", "a") as log:
             return subprocess.Popen([*words, "--no-dashboard"], stdout=log, stderr=log)
 
-    def judged(self):
-        """How many parts each worker began."""
+    def begun(self):
+        """How many request files each worker began."""
         return Counter(int(line) for line in self.parts.read_text().split())
 
     def end(self):
@@ -81,60 +81,70 @@ class Cluster:
             process.wait()
 
 
-def counts_of(output):
-    """The counts of the lines that judge_dask.py prints."""
-    return {item: int(number) for number, item in (line.split() for line in output.splitlines())}
+class Stream:
+    """A file of descriptions, one a line, the policy that decides them, and what their verdicts count."""
+
+    def __init__(self, folder, count):
+        self.file, self.policy, self.count = f"{folder}/stream", f"{folder}/policy", count
+        self.expected = write_stream(self.file, count)
+        Path(self.policy).write_text(POLICY)
 
 
-def a_million_on_a_cluster(count=1_000_000):
-    """A stream on one processor, on all, and on two workers, of which one is ended: times and counts."""
-    with tempfile.TemporaryDirectory(ignore_cleanup_errors=True) as folder:
-        stream, policy = f"{folder}/stream", f"{folder}/policy"
-        expected = write_stream(stream, count)
-        Path(policy).write_text(POLICY)
+MILLION = 1_000_000
+
+
+def a_million_on_this_machine(count=MILLION):
+    """A stream, one request file at a time, and then as many at a time as there are processors."""
+    with tempfile.TemporaryDirectory() as folder:
+        stream = Stream(folder, count)
         for jobs in (1, os.cpu_count()):
             name = f"tools/many, {jobs} at a time"
             start = time.monotonic()
-            with open(stream) as given:
-                done = subprocess.run(
-                    [TOOLS / "many", ORIGIN, policy],
-                    stdin=given,
-                    capture_output=True,
-                    encoding="utf-8",
-                    env={**ENVIRONMENT, "PARALLEL": f"-j{jobs}"},
-                )
-            print(f"{name}: {time.monotonic() - start:.1f} s")
+            with open(stream.file) as given:
+                words = [TOOLS / "many", ORIGIN, stream.policy]
+                environment = {**ENVIRONMENT, "PARALLEL": f"-j{jobs}"}
+                done = subprocess.run(words, stdin=given, stdout=subprocess.PIPE, encoding="utf-8", env=environment)
+            print(f"{name}: {time.monotonic() - start:.1f} s", flush=True)
             came = Counter(word for line in done.stdout.splitlines() for word in line.split()[1:])
-            point(f"{name}: the counts", (1, expected), (done.returncode, dict(came)))
-        for is_ended in (False, True):
-            name = "tools/judge_dask.py, two workers" + ", one of them ended" * is_ended
-            with tempfile.TemporaryDirectory(ignore_cleanup_errors=True) as files:
-                cluster = Cluster(files, PROGRAM)
-                try:
-                    start = time.monotonic()
-                    words = [TOOLS / "judge_dask.py", cluster.address, ORIGIN, policy, stream]
-                    counting = subprocess.Popen(
-                        words,
-                        stdout=subprocess.PIPE,
-                        encoding="utf-8",
-                        env={**os.environ, "CSP": str(cluster.program)},
-                    )
-                    if is_ended:
-                        ended = cluster.workers[0]
-                        wait_for(lambda: cluster.judged()[ended.pid] > count // 50_000)
-                        ended.kill()
-                        before = cluster.judged()
-                    output, _ = counting.communicate()
-                    print(f"{name}: {time.monotonic() - start:.1f} s")
-                    point(f"{name}: the counts", (1, expected), (counting.returncode, counts_of(output)))
-                    parts = cluster.judged()
-                    print(f"{name}: {sum(parts.values())} request files begun")
-                    if is_ended:
-                        point(
-                            f"{name} in the middle",
-                            (True, before[ended.pid]),
-                            (0 < sum(before.values()) < count // 10_000, parts[ended.pid]),
-                        )
-                        print(f"{name}: it had begun {before[ended.pid]} of {sum(before.values())}")
-                finally:
-                    cluster.end()
+            point(f"{name}: the counts", (1, stream.expected), (done.returncode, dict(came)))
+
+
+def a_million_on_a_cluster(count=MILLION):
+    """The stream on two workers, and then on two of which one is ended in the middle."""
+    for is_ended in (False, True):
+        name = "tools/judge_dask.py, two workers" + ", one of them ended" * is_ended
+        with tempfile.TemporaryDirectory(ignore_cleanup_errors=True) as folder:
+            stream, cluster = Stream(folder, count), Cluster(folder, PROGRAM)
+            try:
+                start = time.monotonic()
+                words = [TOOLS / "judge_dask.py", cluster.address, ORIGIN, stream.policy, stream.file]
+                environment = {**ENVIRONMENT, "CSP": str(cluster.program)}
+                counting = subprocess.Popen(words, stdout=subprocess.PIPE, encoding="utf-8", env=environment)
+                before = end_one(cluster, count // 50_000) if is_ended else None
+                output, _ = counting.communicate()
+                print(f"{name}: {time.monotonic() - start:.1f} s", flush=True)
+                came = {item: int(number) for number, item in (line.split() for line in output.splitlines())}
+                point(f"{name}: the counts", (1, stream.expected), (counting.returncode, came))
+                tell_parts(name, cluster, before, count // 10_000)
+            finally:
+                cluster.end()
+
+
+def end_one(cluster, begun):
+    """Ends the first worker once it has begun so many request files, and gives how many each one had begun."""
+    ended = cluster.workers[0]
+    wait_for(lambda: cluster.begun()[ended.pid] >= begun)
+    ended.kill()
+    ended.wait()
+    return cluster.begun()
+
+
+def tell_parts(name, cluster, before, least):
+    """Prints how many request files were begun, and, where a worker was ended, that this was in the middle."""
+    after = cluster.begun()
+    print(f"{name}: {sum(after.values())} request files begun, of which {least} were enough")
+    if before:
+        ended = cluster.workers[0].pid
+        print(f"{name}: it had begun {before[ended]} of {sum(before.values())}")
+        in_the_middle = 0 < before[ended] == after[ended] and sum(before.values()) < least
+        point(f"{name}: in the middle, and then begun anew", (True, True), (in_the_middle, sum(after.values()) > least))
