@@ -103,7 +103,9 @@ def a_million_on_this_machine(count=MILLION):
             with open(stream.file) as given:
                 words = [TOOLS / "many", ORIGIN, stream.policy]
                 environment = {**ENVIRONMENT, "PARALLEL": f"-j{jobs}"}
-                done = subprocess.run(words, stdin=given, stdout=subprocess.PIPE, encoding="utf-8", env=environment)
+                done = subprocess.run(
+                    words, stdin=given, stdout=subprocess.PIPE, encoding="utf-8", env=environment
+                )
             print(f"{name}: {time.monotonic() - start:.1f} s", flush=True)
             came = Counter(word for line in done.stdout.splitlines() for word in line.split()[1:])
             point(f"{name}: the counts", (1, stream.expected), (done.returncode, dict(came)))
@@ -131,7 +133,7 @@ def a_million_on_a_cluster(count=MILLION):
 
 
 def end_one(cluster, begun):
-    """Ends the first worker once it has begun so many request files, and gives how many each one had begun."""
+    """Ends the first worker once it has begun so many request files; how many each one had begun."""
     ended = cluster.workers[0]
     wait_for(lambda: cluster.begun()[ended.pid] >= begun)
     ended.kill()
@@ -140,11 +142,12 @@ def end_one(cluster, begun):
 
 
 def tell_parts(name, cluster, before, least):
-    """Prints how many request files were begun, and, where a worker was ended, that this was in the middle."""
+    """Prints how many request files were begun; a point, where a worker was ended: that was in the middle."""
     after = cluster.begun()
     print(f"{name}: {sum(after.values())} request files begun, of which {least} were enough")
     if before:
         ended = cluster.workers[0].pid
         print(f"{name}: it had begun {before[ended]} of {sum(before.values())}")
         in_the_middle = 0 < before[ended] == after[ended] and sum(before.values()) < least
-        point(f"{name}: in the middle, and then begun anew", (True, True), (in_the_middle, sum(after.values()) > least))
+        is_begun_anew = sum(after.values()) > least
+        point(f"{name} in the middle, and what it had is begun anew", (True, True), (in_the_middle, is_begun_anew))
