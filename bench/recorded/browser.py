@@ -103,6 +103,9 @@ class Server(BaseHTTPRequestHandler):
         pass
 
 
+ENDS = {"responseReceived", "responseReceivedExtraInfo", "loadingFinished", "loadingFailed"}
+
+
 class Chromium:
     """A headless Chromium, and the events of its network."""
 
@@ -177,12 +180,7 @@ class Chromium:
             name = event.get("method", "").removeprefix("Network.")
             if name == "requestWillBeSent":
                 sent.add(event["params"]["requestId"])
-            elif name in (
-                "responseReceived",
-                "responseReceivedExtraInfo",
-                "loadingFinished",
-                "loadingFailed",
-            ):
+            elif name in ENDS and event["params"].get("statusCode") != 302:  # after which a next hop may come
                 sent.discard(event["params"]["requestId"])
         return sent
 

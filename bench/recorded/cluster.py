@@ -113,6 +113,7 @@ def a_million_on_this_machine(count=MILLION):
 
 def a_million_on_a_cluster(count=MILLION):
     """The stream on two workers, and then on two of which one is ended in the middle."""
+    enough = 0  # request files, as many as were begun where no worker was ended
     for is_ended in (False, True):
         name = "tools/judge_dask.py, two workers" + ", one of them ended" * is_ended
         with tempfile.TemporaryDirectory(ignore_cleanup_errors=True) as folder:
@@ -127,7 +128,8 @@ def a_million_on_a_cluster(count=MILLION):
                 print(f"{name}: {time.monotonic() - start:.1f} s", flush=True)
                 came = {item: int(number) for number, item in (line.split() for line in output.splitlines())}
                 point(f"{name}: the counts", (1, stream.expected), (counting.returncode, came))
-                tell_parts(name, cluster, before, count // 10_000)
+                enough = enough or sum(cluster.begun().values())
+                tell_parts(name, cluster, before, enough)
             finally:
                 cluster.end()
 
@@ -141,13 +143,13 @@ def end_one(cluster, begun):
     return cluster.begun()
 
 
-def tell_parts(name, cluster, before, least):
+def tell_parts(name, cluster, before, enough):
     """Prints how many request files were begun; a point, where a worker was ended: that was in the middle."""
     after = cluster.begun()
-    print(f"{name}: {sum(after.values())} request files begun, of which {least} were enough")
+    print(f"{name}: {sum(after.values())} request files begun, of which {enough} were enough")
     if before:
         ended = cluster.workers[0].pid
         print(f"{name}: it had begun {before[ended]} of {sum(before.values())}")
-        in_the_middle = 0 < before[ended] == after[ended] and sum(before.values()) < least
-        is_begun_anew = sum(after.values()) > least
+        in_the_middle = 0 < before[ended] == after[ended] and sum(before.values()) < enough
+        is_begun_anew = sum(after.values()) > enough
         point(f"{name} in the middle, and what it had is begun anew", (True, True), (in_the_middle, is_begun_anew))
