@@ -1,0 +1,1 @@
+"""The points of bench/records."""
