@@ -17,3 +17,4 @@ exit_code status.ReadFault = 8
 exit_code status.WriteFault = 9
 exit_code status.NoMemory = 10
 exit_code status.ReporterFault = 11
+exit_code status.BadRequired = 13

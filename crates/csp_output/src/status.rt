@@ -30,6 +30,8 @@ pub enum Status {
     NoMemory,
     /// A reporter refused a violation.
     ReporterFault,
+    /// A required policy isn't one that is enforced.
+    BadRequired,
 }
 
 /// The number of a status, with which the program ends.
@@ -49,5 +51,6 @@ pub fn exit_code(status: Status) -> u8
         Status::WriteFault => 9,
         Status::NoMemory => 10,
         Status::ReporterFault => 11,
+        Status::BadRequired => 13,
     }
 }
