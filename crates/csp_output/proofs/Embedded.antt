@@ -9,6 +9,7 @@ use Rattle.csp_embed.specs.AllowFrom.{AllowsBlanketEnforcement}
 use Rattle.csp_embed.specs.Decisions.{IsDecision, alone}
 use Rattle.csp_embed.specs.declared.decision.Decision.TheVariants.{Added, Served, Refused}
 use Rattle.csp_proof.specs.Texts.{IsTextOf}
+use Rattle.csp_proof.specs.WellFormed.{IsWellFormed}
 use Rattle.csp_proof.specs.declared.proof.Proof.{Proof}
 use Rattle.csp_request.specs.Requests.{check_of}
 use Rattle.csp_output.specs.Comparisons.{description_of, difference_text}
@@ -27,17 +28,21 @@ added_is true embedder required block response list same decision built is = inl
 added_is false embedder required block response list same decision built is = absurd decision
 
 pub served_is : (allowed : Bool) (embedder : Origin) (required : Policy) (block : List ℕ) (response : PolicyList) (proof : Proof) (rest : List ℕ)
-    → (IsTrue allowed ↔ AllowsBlanketEnforcement block embedder) → IsDecision allowed required response (Served proof) → IsTextOf proof rest
+    → (IsTrue allowed ↔ AllowsBlanketEnforcement block embedder) → IsDecision allowed required response (Served proof)
+    → (IsWellFormed proof → IsTextOf proof rest)
     → (built : Built) → built ≡ record { status = status.Clean; text = codes "served\n" ++ rest }
     → IsEmbedding embedder required block response built
 served_is true embedder required block response proof rest same decision spelled built is = absurd decision
 served_is false embedder required block response proof rest same decision spelled built is =
-    inr (λ allows. absurd (false≢true (same.1 allows)), record {
-      compared = record { status = status.Clean; text = rest };
-      answer = record { subsumes = decision.1; proof = proof; spelled = spelled; printed = decision.0 };
-      status = ap (λ (b : Built). b.status) is;
-      text = ap (λ (b : Built). b.text) is;
-    })
+    inr (
+      λ allows. absurd (false≢true (same.1 allows)),
+      record {
+        compared = record { status = status.Clean; text = rest };
+        answer = record { subsumes = decision.1; proof = proof; spelled = spelled decision.0.formed; printed = decision.0 };
+        status = ap (λ (b : Built). b.status) is;
+        text = ap (λ (b : Built). b.text) is;
+      },
+    )
 
 pub refused_is : (allowed : Bool) (embedder : Origin) (required : Policy) (block : List ℕ) (response : PolicyList) (asked : Check) (rest : List ℕ)
     → (IsTrue allowed ↔ AllowsBlanketEnforcement block embedder) → IsDecision allowed required response (Refused asked)
@@ -46,9 +51,12 @@ pub refused_is : (allowed : Bool) (embedder : Origin) (required : Policy) (block
     → IsEmbedding embedder required block response built
 refused_is true embedder required block response asked rest same decision back spelled built is = absurd decision
 refused_is false embedder required block response asked rest same decision back spelled built is =
-    inr (λ allows. absurd (false≢true (same.1 allows)), record {
-      compared = record { status = status.Found; text = rest };
-      answer = record { asked = asked; differs = decision; read_back = back; spelled = spelled };
-      status = ap (λ (b : Built). b.status) is;
-      text = ap (λ (b : Built). b.text) is;
-    })
+    inr (
+      λ allows. absurd (false≢true (same.1 allows)),
+      record {
+        compared = record { status = status.Found; text = rest };
+        answer = record { asked = asked; differs = decision; read_back = back; spelled = spelled };
+        status = ap (λ (b : Built). b.status) is;
+        text = ap (λ (b : Built). b.text) is;
+      },
+    )

@@ -41,9 +41,9 @@ pub added_where_allowed : (embedder : Origin) (required : Policy) (block : List 
     → (first_line built.text ≡ codes "added") ↔ AllowsBlanketEnforcement block embedder
 added_where_allowed embedder required block response built (inl is) = (λ _. is.0, λ _. added_line required built is.1)
 added_where_allowed embedder required block response built (inr is) = (
-      λ h. absurd (not_added built.status (sym (own_line required response built is.1) ∙ h)),
-      λ allows. absurd (is.0 allows),
-    )
+  λ h. absurd (not_added built.status (sym (own_line required response built is.1) ∙ h)),
+  λ allows. absurd (is.0 allows),
+)
 
 pub clean_where_shown : (embedder : Origin) (required : Policy) (block : List ℕ) (response : PolicyList) (built : Built)
     → IsEmbedding embedder required block response built
@@ -99,6 +99,6 @@ upheld law embedder required block response list built enforced is clean (inl no
 upheld law embedder required block response list built enforced (inl is) clean (inr now) = absurd (now.0 is.0)
 upheld law embedder required block response list built enforced (inr is) clean (inr now) =
     let shown = inclusion is.1.compared.status response (alone required) is.1.compared.text
-        (sym is.1.status ∙ clean) is.1.answer in
+    (sym is.1.status ∙ clean) is.1.answer in
     subst (λ (l : PolicyList). Upholds l required) (sym now.1)
     (law false required response (Served shown.proof) enforced (shown.printed, shown.subsumes))

@@ -9,7 +9,7 @@ use Rattle.csp_output.proofs.embedding.embed.Goals as goal
 pub returns-in-Added : goal.returns-in-Added
 returns-in-Added c =
     let decision = subst (λ (d : Decision). IsDecision c.in_ok-allowed.allowed c.args.required.now c.args.response.list.now d)
-        c.in-Added.is c.in_ok-proof.ensures.decision in
+    c.in-Added.is c.in_ok-decide.ensures.decision in
     ok_map c.added.result
     (added_is c.in_ok-allowed.allowed c.args.embedder.now c.args.required.now c.args.response.block.now
     c.args.response.list.now _ c.in_ok-allowed.ensures decision)
@@ -18,21 +18,21 @@ returns-in-Added c =
 pub returns-in-Served : goal.returns-in-Served
 returns-in-Served c =
     let decision = subst (λ (d : Decision). IsDecision c.in_ok-allowed.allowed c.args.required.now c.args.response.list.now d)
-        c.in-Served.is c.in_ok-proof.ensures.decision in
+    c.in-Served.is c.in_ok-decide.ensures.decision in
     ok_map c.under_word.result
     (served_is c.in_ok-allowed.allowed c.args.embedder.now c.args.required.now c.args.response.block.now
-    c.args.response.list.now c.in-Served.proof c.in_ok-text.text c.in_ok-allowed.ensures decision
-    (record { formed = decision.0.formed; spelled = c.in_ok-text.ensures }))
+    c.args.response.list.now c.in-Served.proof c.in_ok-text-in-Served.text c.in_ok-allowed.ensures decision
+    (λ formed. record { formed = formed; spelled = c.in_ok-text-in-Served.ensures }))
     c.under_word.ensures
 
-pub returns-in-Refused : goal.returns-in-Refused
-returns-in-Refused c =
+pub returns : goal.returns
+returns c =
     let decision = subst (λ (d : Decision). IsDecision c.in_ok-allowed.allowed c.args.required.now c.args.response.list.now d)
-        c.in-Refused.is c.in_ok-proof.ensures.decision in
+    c.in-Refused.is c.in_ok-decide.ensures.decision in
     let asked = c.in-Refused.check in
-    ok_map c.under_word.result
+    ok_map c.under_word-in-Refused.result
     (refused_is c.in_ok-allowed.allowed c.args.embedder.now c.args.required.now c.args.response.block.now
-    c.args.response.list.now asked c.in_ok-text.text c.in_ok-allowed.ensures decision
-    c.in_ok-text.ensures.read_back
-    (c.in_ok-text.ensures.text ∙ ap (λ (list : PolicyList). difference_text list asked) c.in_ok-required.ensures))
-    c.under_word.ensures
+    c.args.response.list.now asked c.in_ok-text-in-Refused.text c.in_ok-allowed.ensures decision
+    c.in_ok-text-in-Refused.ensures.read_back
+    (c.in_ok-text-in-Refused.ensures.text ∙ ap (λ (list : PolicyList). difference_text list asked) c.in_ok-required-in-Refused.ensures))
+    c.under_word-in-Refused.ensures
