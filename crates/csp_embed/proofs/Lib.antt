@@ -1,1 +1,2 @@
 pub mod OnlyOne
+pub mod Upholding

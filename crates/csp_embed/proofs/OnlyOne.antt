@@ -1,5 +1,5 @@
 -- What the only value of a list says, and a text that names an embedder.
-use Rattle.std.proofs.Common.{◌≡◌, ◌∙◌, sym, ap, subst, refl, ℕ, List, [], ◌∷◌, ◌++◌, map, Bor, Option, Some, None, Result, Ok, ok_or}
+use Rattle.std.proofs.Common.{◌≡◌, ◌∙◌, sym, ap, subst, refl, ℕ, List, [], ◌∷◌, ◌++◌, map, Bor, Option, Some, None, Ok, ok_or}
 use Rattle.std.specs.Str.{IsUtf8}
 use Rattle.csp_model.specs.declared.url.Origin.{Origin}
 use Rattle.csp_url.specs.Origins.{origin_of}

@@ -3,7 +3,7 @@ use Rattle.std.specs.Prelude.{ℕ}
 use Rattle.csp_output.specs.declared.status.Status.{Status}
 use Rattle.csp_output.specs.declared.status.Status.TheVariants as status
 
--- the exit code of a status
+-- the exit code of a status; none is 12
 abbrev pub exit_code : Status → ℕ
 exit_code status.Clean = 0
 exit_code status.Found = 1
@@ -17,3 +17,4 @@ exit_code status.ReadFault = 8
 exit_code status.WriteFault = 9
 exit_code status.NoMemory = 10
 exit_code status.ReporterFault = 11
+exit_code status.BadRequired = 13

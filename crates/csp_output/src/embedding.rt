@@ -67,8 +67,8 @@ fn added(alloc: Global, required: &Policy) -> Result<Built, Memory>
 
 // The output of a word and the answer behind it.
 fn under_word(alloc: Global, status: Status, word: &str, answer: &Bytes) -> Result<Built, Memory>
-    ensures status { IfOk result (λ built. built.status ≡ status) }
-    ensures text { IfOk result (λ built. built.text ≡ word.now ++ answer.now) }
+    ensures { IfOk result
+        (λ built. built ≡ record { status = status; text = word.now ++ answer.now }) }
 {
     let mut text = Vec::from_slice(alloc, word.as_bytes())?;
     text.extend_from_slice(answer.as_slice())?;

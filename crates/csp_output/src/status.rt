@@ -5,10 +5,11 @@ ghost use Rattle.csp_output.specs.Statuses as spec;
 /// The status of a run.
 #[derive(Clone, Copy, Debug, PartialEq, Eq)]
 pub enum Status {
-    /// No request is blocked, the second list allows what the first allows, the proof is accepted, or the
-    /// report or the drill is done.
+    /// No request is blocked, the second list allows what the first allows, the proof is accepted, the response
+    /// may be shown, or the report or the drill is done.
     Clean,
-    /// Some request is blocked, the second list blocks what the first allows, or the proof is rejected.
+    /// Some request is blocked, the second list blocks what the first allows, the proof is rejected, or the
+    /// response may not be shown.
     Found,
     /// The words have none of the forms.
     Usage,
@@ -30,9 +31,11 @@ pub enum Status {
     NoMemory,
     /// A reporter refused a violation.
     ReporterFault,
+    /// The list that is to be required isn't exactly one enforced policy.
+    BadRequired,
 }
 
-/// The number of a status, with which the program ends.
+/// The number of a status, with which the program ends. No status has the number 12.
 pub fn exit_code(status: Status) -> u8
     ensures { result ≡ spec.exit_code status }
 {
@@ -49,5 +52,6 @@ pub fn exit_code(status: Status) -> u8
         Status::WriteFault => 9,
         Status::NoMemory => 10,
         Status::ReporterFault => 11,
+        Status::BadRequired => 13,
     }
 }

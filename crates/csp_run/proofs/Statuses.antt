@@ -1,8 +1,11 @@
 -- An output has one of two statuses.
-use Rattle.std.proofs.Common.{◌≡◌, ℕ, Bool, true, false, List, [], ◌∷◌, Option, Some, None, Result, Ok, Err, refl, ap, sym, ◌∙◌}
+use Rattle.std.proofs.Common.{◌≡◌, ℕ, Bool, true, false, List, [], ◌∷◌, Option, Some, None, Result, Ok, Err, inl, inr, refl, ap, sym, ◌∙◌}
 use Rattle.std.proofs.Common.{cond, map}
 use Rattle.std.proofs.lemmas.Bool.{false≢true}
+use Rattle.csp_model.specs.declared.policy.Policy.{Policy}
 use Rattle.csp_model.specs.declared.policy.PolicyList.{PolicyList}
+use Rattle.csp_model.specs.declared.url.Origin.{Origin}
+use Rattle.csp_output.specs.Embeddings.{IsEmbedding}
 use Rattle.csp_model.specs.declared.verdict.Described.{Described}
 use Rattle.csp_model.specs.declared.verdict.Violation.{Violation}
 use Rattle.csp_request.specs.declared.error.RequestError.{RequestError}
@@ -11,7 +14,7 @@ use Rattle.csp_run.specs.declared.files.Content.{Content}
 use Rattle.csp_run.specs.declared.files.Content.TheVariants as content
 use Rattle.csp_output.specs.declared.built.Built.{Built}
 use Rattle.csp_run.specs.declared.plan.Form.{Form}
-use Rattle.csp_run.specs.declared.plan.Form.TheVariants.{Judge, Report, Compare, Check, Drill}
+use Rattle.csp_run.specs.declared.plan.Form.TheVariants.{Judge, Report, Compare, Check, Drill, Embed}
 use Rattle.csp_output.specs.declared.status.Status.{Status}
 use Rattle.csp_output.specs.declared.status.Status.TheVariants.{Clean, Found}
 use Rattle.csp_output.specs.Checks.{checked}
@@ -55,6 +58,13 @@ checked_status : (bad : Option ℕ) → is_done (checked bad).status ≡ true
 checked_status None = refl
 checked_status (Some line) = refl
 
+embedded_done : (embedder : Origin) (policy : Policy) (block : List ℕ) (list : PolicyList) (built : Built)
+    → IsEmbedding embedder policy block list built → is_done built.status ≡ true
+embedded_done embedder policy block list built is = elim is [
+  | inl added ↦ ap (λ (b : Built). is_done b.status) added.1
+  | inr own ↦ ap is_done own.1.status ∙ compared_done own.1.compared.status _ _ _ own.1.answer
+]
+
 printed_done : (form : Form) (found : Result (List Content) Fault) (desk : Desk) (built : Built)
     → IsOutput form found desk (Ok built)
     → is_done built.status ≡ true
@@ -68,6 +78,8 @@ printed_done Compare (Ok (content.Policies first ∷ content.Policies second ∷
 printed_done Check (Ok (content.Policies first ∷ content.Policies second ∷ content.Proof text ∷ [])) desk built is =
     ap (λ (b : Built). is_done b.status) is.0.output ∙ checked_status _
 printed_done (Drill pairs) (Ok []) desk built is = ap is_done is.0.status
+printed_done (Embed embedder) (Ok (content.Required policy ∷ content.Response block list ∷ [])) desk built is =
+    embedded_done embedder policy block list built is.0
 printed_done form (Ok contents) desk built is = absurd is
 
 ended_done : (w : World) (desk : Desk) (asked : Result Plan Fault) (built : Built)

@@ -10,7 +10,7 @@ use Rattle.csp_run.specs.declared.files.Content.{Content}
 use Rattle.csp_run.specs.declared.files.Content.TheVariants as content
 use Rattle.csp_output.specs.declared.built.Built.{Built}
 use Rattle.csp_run.specs.declared.plan.Form.{Form}
-use Rattle.csp_run.specs.declared.plan.Form.TheVariants.{Judge, Report, Compare, Check, Drill}
+use Rattle.csp_run.specs.declared.plan.Form.TheVariants.{Judge, Report, Compare, Check, Drill, Embed}
 use Rattle.csp_run.specs.Desk.{Desk, IsUntouched}
 use Rattle.csp_run.specs.Due.{End, IsDue, IsEndOf, HasGrown, end_status}
 use Rattle.csp_run.specs.Files.{World}
@@ -28,6 +28,7 @@ not_grown Judge contents desk other grew = grew
 not_grown Compare contents desk other grew = grew
 not_grown Check contents desk other grew = grew
 not_grown (Drill pairs) contents desk other grew = grew
+not_grown (Embed embedder) contents desk other grew = grew
 
 by_words : (w : World) (desk : Desk) (asked : Result Plan Fault) → HasGrown w desk asked → is_report asked ≡ false
     → IsUntouched desk
@@ -63,6 +64,7 @@ by_output Compare (Ok (content.Policies first ∷ content.Policies second ∷ []
 by_output Check (Ok (content.Policies first ∷ content.Policies second ∷ content.Proof text ∷ [])) desk end is other =
     is.1
 by_output (Drill pairs) (Ok []) desk end is other = is.1
+by_output (Embed embedder) (Ok (content.Required policy ∷ content.Response block list ∷ [])) desk end is other = is.1
 by_output form (Ok contents) desk end is other = absurd is
 
 by_status : (w : World) (desk : Desk) (asked : Result Plan Fault) (end : End) → IsEndOf w desk asked end

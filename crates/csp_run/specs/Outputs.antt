@@ -16,11 +16,12 @@ use Rattle.csp_run.specs.declared.files.Content.{Content}
 use Rattle.csp_run.specs.declared.files.Content.TheVariants as content
 use Rattle.csp_output.specs.declared.built.Built.{Built}
 use Rattle.csp_run.specs.declared.plan.Form.{Form}
-use Rattle.csp_run.specs.declared.plan.Form.TheVariants.{Judge, Report, Compare, Check, Drill}
+use Rattle.csp_run.specs.declared.plan.Form.TheVariants.{Judge, Report, Compare, Check, Drill, Embed}
 use Rattle.csp_output.specs.Checks.{IsChecked}
 use Rattle.csp_output.specs.Comparisons.{IsComparison}
 use Rattle.csp_run.specs.Desk.{Desk, IsUntouched}
 use Rattle.csp_output.specs.Drills.{IsDrill}
+use Rattle.csp_output.specs.Embeddings.{IsEmbedding}
 use Rattle.csp_output.specs.Lines.{judgment}
 use Rattle.csp_run.specs.Reports.{violations_in, IsReport}
 
@@ -66,6 +67,8 @@ IsOutput Compare (Ok (content.Policies first ∷ content.Policies second ∷ [])
 IsOutput Check (Ok (content.Policies first ∷ content.Policies second ∷ content.Proof text ∷ [])) desk end =
     IsCheck first second text end × IsUntouched desk
 IsOutput (Drill pairs) (Ok []) desk end = IsBuilt (IsDrill pairs) end × IsUntouched desk
+IsOutput (Embed embedder) (Ok (content.Required policy ∷ content.Response block list ∷ [])) desk end =
+    IsBuilt (IsEmbedding embedder policy block list) end × IsUntouched desk
 IsOutput form (Ok contents) desk end = ⊥
 
 -- Each reporter took a first part of the violations of the requests that the files have, if they have some.

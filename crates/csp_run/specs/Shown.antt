@@ -1,9 +1,10 @@
 -- What clauses of private functions cite: plans as contracts see them, contents that fit a form, verdicts on
 -- single descriptions, requests described in part, what is printed, and what is left where the handing out of
 -- violations stops.
-use Rattle.std.specs.Prelude.{ℕ, ◌≤◌, ⊤, Bool, true, false, List, [], ◌∷◌, length, Result, Ok, Err}
+use Rattle.std.specs.Prelude.{◌≡◌, ℕ, ◌≤◌, ⊤, Bool, true, false, List, [], ◌∷◌, length, Result, Ok, Err}
 use Rattle.serde_json.specs.Data.{Data}
 use Rattle.std.specs.List.{flat_map}
+use Rattle.csp_embed.specs.Decisions.{alone}
 use Rattle.csp_desk.specs.Growth.{GrewInPart, StopsAt}
 use Rattle.csp_desk.specs.Tellings.{section_text}
 use Rattle.csp_desk.specs.Texts.{desk_text}
@@ -11,6 +12,7 @@ use Rattle.csp_desk.specs.declared.reporter.Kind.{Kind}
 use Rattle.csp_desk.specs.declared.desk.DeskError.{DeskError}
 use Rattle.csp_desk.specs.declared.desk.DeskError.TheVariants.{Refused, Memory}
 use Rattle.csp_model.specs.Policies.{IsReadable}
+use Rattle.csp_model.specs.declared.policy.Disposition.TheVariants.{Enforce}
 use Rattle.csp_run.specs.declared.fault.Fault.{Fault}
 use Rattle.csp_run.specs.declared.fault.Fault.TheVariants as fault
 use Rattle.csp_run.specs.declared.fault.Role.TheVariants.{Proof}
@@ -20,7 +22,7 @@ use Rattle.csp_output.specs.declared.built.Built.{Built}
 use Rattle.csp_run.specs.declared.output.Outcome.{Outcome}
 use Rattle.csp_run.specs.declared.output.Outcome.TheVariants.{Text, Reporters}
 use Rattle.csp_run.specs.declared.plan.Form.{Form}
-use Rattle.csp_run.specs.declared.plan.Form.TheVariants.{Judge, Report, Compare, Check, Drill}
+use Rattle.csp_run.specs.declared.plan.Form.TheVariants.{Judge, Report, Compare, Check, Drill, Embed}
 use Rattle.csp_run.specs.declared.plan.Plan.{Plan as Held}
 use Rattle.csp_run.specs.declared.printed.Printed.{Printed}
 use Rattle.csp_run.specs.declared.printed.Printed.TheVariants as printed
@@ -35,6 +37,8 @@ use Rattle.csp_request.specs.declared.error.RequestError.{RequestError}
 use Rattle.csp_token.specs.Digests.{digests_for}
 use Rattle.csp_token.specs.declared.digest.Algorithms.{Algorithms}
 use Rattle.csp_model.specs.declared.verdict.Violation.{Violation}
+use Rattle.csp_url.specs.declared.error.OriginError.{OriginError}
+use Rattle.csp_url.specs.declared.error.OriginError.TheVariants as origin_error
 use Rattle.csp_run.specs.Desk.{Desk}
 use Rattle.csp_run.specs.Files.{file_limit}
 use Rattle.csp_run.specs.Words.{Plan, File, files_from}
@@ -51,6 +55,8 @@ abbrev pub IsSound : Content → Type 0
 IsSound (content.Policies list) = IsReadable list
 IsSound (content.Requests bytes) = ⊤
 IsSound (content.Proof bytes) = length bytes ≤ file_limit Proof
+IsSound (content.Required policy) = (policy.disposition ≡ Enforce) × IsReadable (alone policy)
+IsSound (content.Response block list) = IsReadable list
 
 -- what a form's files hold is of these kinds
 abbrev pub fits : Form → List Content → Bool
@@ -59,6 +65,7 @@ fits Report (content.Policies list ∷ content.Requests bytes ∷ []) = true
 fits Compare (content.Policies first ∷ content.Policies second ∷ []) = true
 fits Check (content.Policies first ∷ content.Policies second ∷ content.Proof bytes ∷ []) = true
 fits (Drill pairs) [] = true
+fits (Embed embedder) (content.Required policy ∷ content.Response block list ∷ []) = true
 fits form contents = false
 
 -- the verdict on the description of this number, or its refusal
@@ -88,6 +95,11 @@ printed_end (Err f) = Err f
 abbrev pub desk_fault : DeskError → Fault
 desk_fault (Refused reporter) = fault.Refused reporter
 desk_fault Memory = fault.Memory
+
+-- the fault of a word that is no origin
+abbrev pub origin_fault : OriginError → Fault
+origin_fault origin_error.BadOrigin = fault.BadOrigin
+origin_fault origin_error.Memory = fault.Memory
 
 -- What is left where these violations aren't all handed out: one was refused, or there was no memory to take
 -- one or to find the next.

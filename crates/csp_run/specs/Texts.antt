@@ -17,6 +17,8 @@ role_text role.Requests = codes "requests"
 role_text role.First = codes "first"
 role_text role.Second = codes "second"
 role_text role.Proof = codes "proof"
+role_text role.Required = codes "required"
+role_text role.Response = codes "response"
 
 unfoldable pub limit_text : Limit → List ℕ
 limit_text limit.Bytes = codes "bytes"
@@ -31,7 +33,7 @@ unfoldable pub fault_pieces : Fault → List (List ℕ)
 fault_pieces fault.Usage =
     codes "usage: judge ORIGIN POLICY REQUESTS" ∷ codes " | report ORIGIN POLICY REQUESTS"
     ∷ codes " | compare ORIGIN FIRST SECOND" ∷ codes " | check ORIGIN FIRST SECOND PROOF"
-    ∷ codes " | drill N\n" ∷ []
+    ∷ codes " | drill N | embed EMBEDDER ORIGIN REQUIRED RESPONSE\n" ∷ []
 fault_pieces fault.BadOrigin = codes "bad origin" ∷ [] ∷ [] ∷ [] ∷ codes "\n" ∷ []
 fault_pieces (fault.BadPolicy file line) =
     codes "bad policy: " ∷ role_text file ∷ codes " line " ∷ decimal line ∷ codes "\n" ∷ []
@@ -41,6 +43,7 @@ fault_pieces fault.NotJson = codes "bad requests: not a JSON array" ∷ [] ∷ [
 fault_pieces (fault.BadRequest request field) =
     codes "bad requests: request " ∷ decimal request ∷ codes " " ∷ field_text field ∷ codes "\n" ∷ []
 fault_pieces (fault.BadProof line) = codes "bad proof: line " ∷ decimal line ∷ [] ∷ [] ∷ codes "\n" ∷ []
+fault_pieces fault.BadRequired = codes "bad required policy" ∷ [] ∷ [] ∷ [] ∷ codes "\n" ∷ []
 fault_pieces (fault.Read file) = codes "read fault: " ∷ role_text file ∷ [] ∷ [] ∷ codes "\n" ∷ []
 fault_pieces (fault.Refused reporter) =
     codes "reporter fault: " ∷ decimal reporter ∷ [] ∷ [] ∷ codes "\n" ∷ []
@@ -58,6 +61,7 @@ status_of (fault.TooLarge file limit) = status.TooLarge
 status_of fault.NotJson = status.BadRequests
 status_of (fault.BadRequest request field) = status.BadRequests
 status_of (fault.BadProof line) = status.BadProof
+status_of fault.BadRequired = status.BadRequired
 status_of (fault.Read file) = status.ReadFault
 status_of fault.Memory = status.NoMemory
 status_of (fault.Refused reporter) = status.ReporterFault

@@ -12,7 +12,7 @@ use Rattle.csp_run.specs.declared.fault.Fault.TheVariants.{Usage, BadOrigin}
 use Rattle.csp_run.specs.declared.fault.Role.{Role}
 use Rattle.csp_run.specs.declared.fault.Role.TheVariants as role
 use Rattle.csp_run.specs.declared.plan.Form.{Form}
-use Rattle.csp_run.specs.declared.plan.Form.TheVariants.{Judge, Report, Compare, Check, Drill}
+use Rattle.csp_run.specs.declared.plan.Form.TheVariants.{Judge, Report, Compare, Check, Drill, Embed}
 
 -- how many pairs of sources a drill has: a decimal number from 1 to 200, without leading zeros
 unfoldable pub is_drill_number : List ℕ → Bool
@@ -47,6 +47,7 @@ takes Report files = files == 2
 takes Compare files = files == 2
 takes Check files = files == 3
 takes (Drill pairs) files = files == 0
+takes (Embed embedder) files = files == 2
 
 -- what the file at a place, counted from 0, is where requests are judged
 abbrev pub judged_role : ℕ → Role
@@ -56,6 +57,10 @@ judged_role place = if place == 0 then role.Policy else role.Requests
 abbrev pub compared_role : ℕ → Role
 compared_role place = if place == 0 then role.First else if place == 1 then role.Second else role.Proof
 
+-- and where a policy is required of a response
+abbrev pub embedded_role : ℕ → Role
+embedded_role place = if place == 0 then role.Required else role.Response
+
 -- what the file at a place is to a command
 abbrev pub role_at : Form → ℕ → Role
 role_at Judge place = judged_role place
@@ -63,6 +68,7 @@ role_at Report place = judged_role place
 role_at Compare place = compared_role place
 role_at Check place = compared_role place
 role_at (Drill pairs) place = compared_role place
+role_at (Embed embedder) place = embedded_role place
 
 -- a file that a command reads
 pub record File : Type 0 where
@@ -91,9 +97,20 @@ with_form None word names = Err Usage
 with_form (Some form) word names =
     if takes form (length names) then with_origin form (origin_for form word) names else Err Usage
 
+abbrev pub with_embedder : Option Origin → Option Origin → List (List ℕ) → Result Plan Fault
+with_embedder None origin names = Err BadOrigin
+with_embedder (Some embedder) origin names = with_origin (Embed embedder) origin names
+
+-- what `embed` asks for by the words behind it: the origin of the embedder, that of the response, and two names
+abbrev pub embed_plan : List ℕ → List (List ℕ) → Result Plan Fault
+embed_plan embedder (origin ∷ names) =
+    if length names == 2 then with_embedder (origin_of embedder) (origin_of origin) names else Err Usage
+embed_plan embedder [] = Err Usage
+
 -- what these words ask for, or why it is nothing: a verb, an origin or a number, and the names of files
 abbrev pub plan_of : List (List ℕ) → Result Plan Fault
-plan_of (verb ∷ word ∷ names) = with_form (form_of verb word) word names
+plan_of (verb ∷ word ∷ names) =
+    if bytes_eq verb (codes "embed") then embed_plan word names else with_form (form_of verb word) word names
 plan_of words = Err Usage
 
 -- the files that it reads

@@ -6,6 +6,7 @@ use csp_desk::DeskError;
 use csp_model::Memory;
 use csp_output::Status;
 use csp_request::{Field, RequestError};
+use csp_url::OriginError;
 
 /// What a file is to a command.
 #[derive(Clone, Copy, Debug, PartialEq, Eq)]
@@ -20,6 +21,10 @@ pub enum Role {
     Second,
     /// The text of a proof that the second includes the first.
     Proof,
+    /// The header block with the policy that an embedder requires.
+    Required,
+    /// The header block of the response of which it is required.
+    Response,
 }
 
 /// What is limited.
@@ -56,6 +61,8 @@ pub enum Fault {
     BadRequest { request: u32, field: Field },
     /// The line of this number, counted from 1, is the first that can't stand in a proof.
     BadProof { line: u32 },
+    /// The policies that are required aren't one enforced policy.
+    BadRequired,
     /// A file couldn't be read.
     Read { file: Role },
     /// The reporter of this number, counted from 1, refused a violation.
@@ -102,6 +109,7 @@ pub fn status_of(fault: Fault) -> Status
         Fault::TooLarge { .. } => Status::TooLarge,
         Fault::NotJson | Fault::BadRequest { .. } => Status::BadRequests,
         Fault::BadProof { .. } => Status::BadProof,
+        Fault::BadRequired => Status::BadRequired,
         Fault::Read { .. } => Status::ReadFault,
         Fault::Refused { .. } => Status::ReporterFault,
         Fault::Memory => Status::NoMemory,
@@ -127,6 +135,19 @@ impl From<DeskError> for Fault {
         match error {
             DeskError::Refused { reporter } => Fault::Refused { reporter },
             DeskError::Memory => Fault::Memory,
+        }
+    }
+}
+
+impl From<OriginError> for Fault {
+    ghost use Rattle.csp_run.specs.Shown.{origin_fault};
+
+    ghost from_gives = { λ error made. made ≡ origin_fault error };
+
+    fn from(error: OriginError) -> Fault {
+        match error {
+            OriginError::BadOrigin => Fault::BadOrigin,
+            OriginError::Memory => Fault::Memory,
         }
     }
 }

@@ -20,6 +20,8 @@ fn role_text<'a>(role: Role) -> &'a str
         Role::First => "first",
         Role::Second => "second",
         Role::Proof => "proof",
+        Role::Required => "required",
+        Role::Response => "response",
     }
 }
 
@@ -72,7 +74,7 @@ fn pieces<'a>(fault: Fault, digits: &'a mut Buffer) -> [&'a str; 5]
             " | report ORIGIN POLICY REQUESTS",
             " | compare ORIGIN FIRST SECOND",
             " | check ORIGIN FIRST SECOND PROOF",
-            " | drill N\n",
+            " | drill N | embed EMBEDDER ORIGIN REQUIRED RESPONSE\n",
         ],
         Fault::BadOrigin => ["bad origin", "", "", "", "\n"],
         Fault::BadPolicy { file, line } => {
@@ -96,6 +98,7 @@ fn pieces<'a>(fault: Fault, digits: &'a mut Buffer) -> [&'a str; 5]
             "\n",
         ],
         Fault::BadProof { line } => ["bad proof: line ", digits.format(line), "", "", "\n"],
+        Fault::BadRequired => ["bad required policy", "", "", "", "\n"],
         Fault::Read { file } => ["read fault: ", role_text(file), "", "", "\n"],
         Fault::Refused { reporter } => {
             ["reporter fault: ", digits.format(reporter), "", "", "\n"]

@@ -20,7 +20,7 @@ use crate::report::report;
 use csp_desk::Reporter;
 use csp_json::{Scratch, Value};
 use csp_model::{PolicyList, Verdict};
-use csp_output::{Built, Status, VerdictLines, check, compare, drill};
+use csp_output::{Built, Response, Status, VerdictLines, check, compare, drill, embed};
 use csp_proof::ProofError;
 use csp_request::{ReportTexts, RequestError, Requests, describe_for};
 use csp_verdict::CompiledList;
@@ -38,17 +38,17 @@ pub(crate) enum Outcome {
 // The output of a command on what its files hold, and what it does to the desk.
 pub(crate) fn output(
     alloc: Global,
-    form: Form,
+    form: &Form,
     contents: &[Content],
     desk: &mut Vec<Box<dyn Reporter>>,
 ) -> Result<Outcome, Fault>
-    requires fits { IsTrue (fits form contents.now) }
+    requires fits { IsTrue (fits form.now contents.now) }
     requires sound { All IsSound contents.now }
     requires few { length desk.old.items < 2 ^ 32 }
     ensures end { let d = lent (λ b. kind b) (λ b. held b) (λ b. faults b) desk.old.items desk.new.items in
-        result ≢ Err Fault.Memory → IsOutput form (Ok contents.now) d (end_of d.kinds d.held_now result) }
+        result ≢ Err Fault.Memory → IsOutput form.now (Ok contents.now) d (end_of d.kinds d.held_now result) }
     ensures grown { let d = lent (λ b. kind b) (λ b. held b) (λ b. faults b) desk.old.items desk.new.items in
-        IsUntouched d ⊎ GrewOn form contents.now d }
+        IsUntouched d ⊎ GrewOn form.now contents.now d }
     ensures kinds { map (λ b. kind b) desk.new.items ≡ map (λ b. kind b) desk.old.items }
     ensures later { NoneFell (map (λ b. faults b) desk.old.items) (map (λ b. faults b) desk.new.items) }
 {
@@ -70,7 +70,17 @@ pub(crate) fn output(
                 Content::Proof(text),
             ],
         ) => output_of(check_text(alloc, first, second, text.as_slice())),
-        (Form::Drill { pairs }, []) => Ok(Outcome::Text(drill(alloc, pairs)?)),
+        (Form::Drill { pairs }, []) => Ok(Outcome::Text(drill(alloc, *pairs)?)),
+        (
+            Form::Embed { embedder },
+            [Content::Required(policy), Content::Response { block, list }],
+        ) => {
+            let response = Response {
+                block: block.as_slice(),
+                list,
+            };
+            Ok(Outcome::Text(embed(alloc, embedder, policy, response)?))
+        }
         _ => unreachable!(),
     }
 }

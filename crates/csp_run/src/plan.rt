@@ -11,7 +11,7 @@ use csp_url::{OriginError, read_origin};
 use std::alloc::Global;
 
 /// What a command does.
-#[derive(Clone, Copy, Debug, PartialEq, Eq)]
+#[derive(Debug, PartialEq, Eq, Drop)]
 pub enum Form {
     /// The verdicts of a policy file on the requests of a request file.
     Judge,
@@ -23,6 +23,8 @@ pub enum Form {
     Check,
     /// The comparison of two lists that are made for it, with so many pairs of sources.
     Drill { pairs: u8 },
+    /// What becomes of a response of which this embedder requires a policy.
+    Embed { embedder: Origin },
 }
 
 /// A command, the origin of the policies of its files, and the names of these in order.
@@ -34,12 +36,13 @@ pub struct Plan<'a> {
 }
 
 // What a file at a place, counted from 0, is to a command.
-pub(crate) fn role_at(form: Form, place: usize) -> Role
-    ensures { result ≡ spec.role_at form place }
+pub(crate) fn role_at(form: &Form, place: usize) -> Role
+    ensures { result ≡ spec.role_at form.now place }
 {
     match form {
         Form::Judge | Form::Report => judged_role(place),
         Form::Compare | Form::Check | Form::Drill { .. } => compared_role(place),
+        Form::Embed { .. } => embedded_role(place),
     }
 }
 
@@ -62,6 +65,15 @@ fn compared_role(place: usize) -> Role
     }
 }
 
+fn embedded_role(place: usize) -> Role
+    ensures { result ≡ spec.embedded_role place }
+{
+    match place {
+        0 => Role::Required,
+        _ => Role::Response,
+    }
+}
+
 // What these words ask for, or why it is nothing: `Usage` or `BadOrigin`, tested in this order, or `Memory`.
 pub(crate) fn plan_of(alloc: Global, words: &[Text]) -> Result<Plan<'_>, Fault>
     ensures plan { result ≢ Err Fault.Memory → shown result ≡ spec.plan_of words.now }
@@ -69,20 +81,62 @@ pub(crate) fn plan_of(alloc: Global, words: &[Text]) -> Result<Plan<'_>, Fault>
     ensures valid { IfOk result (λ plan. IsValidOrigin plan.origin) }
 {
     match words {
-        [verb, word, names @ ..] => match form_of(verb.as_str(), word.as_str()) {
-            Some(form) if takes(form, names.len()) => {
-                match origin_for(alloc, form, word.as_str()) {
-                    Ok(origin) => Ok(Plan {
-                        form,
-                        origin,
-                        names,
-                    }),
-                    Err(OriginError::BadOrigin) => Err(Fault::BadOrigin),
-                    Err(OriginError::Memory) => Err(Fault::Memory),
-                }
+        [verb, word, names @ ..] => {
+            if verb.as_str() == "embed" {
+                embed_plan(alloc, word.as_str(), names)
+            } else {
+                plan_with(
+                    alloc,
+                    form_of(verb.as_str(), word.as_str()),
+                    word.as_str(),
+                    names,
+                )
             }
-            _ => Err(Fault::Usage),
-        },
+        }
+        _ => Err(Fault::Usage),
+    }
+}
+
+// What `embed` asks for by the words behind it.
+fn embed_plan<'a>(alloc: Global, embedder: &str, words: &'a [Text]) -> Result<Plan<'a>, Fault>
+    ensures plan { result ≢ Err Fault.Memory → shown result ≡ spec.embed_plan embedder.now words.now }
+    ensures takes { IfOk result (λ plan. IsTrue (spec.takes plan.form (length plan.names.now))) }
+    ensures valid { IfOk result (λ plan. IsValidOrigin plan.origin) }
+{
+    match words {
+        [origin, names @ ..] if names.len() == 2 => {
+            let embedder = read_origin(alloc, embedder)?;
+            let origin = read_origin(alloc, origin.as_str())?;
+            Ok(Plan {
+                form: Form::Embed { embedder },
+                origin,
+                names,
+            })
+        }
+        _ => Err(Fault::Usage),
+    }
+}
+
+// What a form asks for by the word behind its verb and by the names of its files.
+fn plan_with<'a>(
+    alloc: Global,
+    form: Option<Form>,
+    word: &str,
+    names: &'a [Text],
+) -> Result<Plan<'a>, Fault>
+    ensures plan { result ≢ Err Fault.Memory → shown result ≡ spec.with_form form word.now names.now }
+    ensures takes { IfOk result (λ plan. IsTrue (spec.takes plan.form (length plan.names.now))) }
+    ensures valid { IfOk result (λ plan. IsValidOrigin plan.origin) }
+{
+    match form {
+        Some(form) if takes(&form, names.len()) => {
+            let origin = origin_for(alloc, &form, word)?;
+            Ok(Plan {
+                form,
+                origin,
+                names,
+            })
+        }
         _ => Err(Fault::Usage),
     }
 }
@@ -90,9 +144,9 @@ pub(crate) fn plan_of(alloc: Global, words: &[Text]) -> Result<Plan<'_>, Fault>
 // The origin of the policies of a form's files, which the word behind the verb is. A drill reads no file, and
 // that word is no origin.
 #[tactic(auto, unfolding(crate::specs::Words::origin_for))]
-fn origin_for(alloc: Global, form: Form, word: &str) -> Result<Origin, OriginError>
+fn origin_for(alloc: Global, form: &Form, word: &str) -> Result<Origin, OriginError>
     ensures origin { Gives OriginError.Memory result
-        (ok_or (spec.origin_for form word.now) OriginError.BadOrigin) }
+        (ok_or (spec.origin_for form.now word.now) OriginError.BadOrigin) }
     ensures valid { IfOk result IsValidOrigin }
 {
     match form {
@@ -131,11 +185,11 @@ fn form_of(verb: &str, word: &str) -> Option<Form>
 }
 
 // Whether it reads so many files.
-fn takes(form: Form, files: usize) -> bool
-    ensures { result ≡ spec.takes form files }
+fn takes(form: &Form, files: usize) -> bool
+    ensures { result ≡ spec.takes form.now files }
 {
     match form {
-        Form::Judge | Form::Report | Form::Compare => files == 2,
+        Form::Judge | Form::Report | Form::Compare | Form::Embed { .. } => files == 2,
         Form::Check => files == 3,
         Form::Drill { .. } => files == 0,
     }

@@ -9,6 +9,7 @@
 mod checks;
 #[cfg(test)]
 mod descriptions;
+mod embedding;
 #[cfg(test)]
 mod faults;
 #[cfg(test)]

@@ -11,24 +11,68 @@ const ORIGIN: &str = "https://a.example";
 
 // The one file that is there, and one that isn't.
 const HERE: &str = "csp_run_tests.tmp";
+
 const GONE: &str = "csp_run_tests.gone";
 
 // The words, what the file that is there holds, and the text. Without the file that isn't there, or with an
 // empty one in its place, each command would end otherwise.
-const MISSING: [(&[&str], &str, &str); 13] = [
+const EMBEDDER: &str = "https://e.example";
+
+const REQUIRED: &str = "Content-Security-Policy: img-src https:";
+
+const MISSING: [(&[&str], &str, &str); 16] = [
     (&["judge", ORIGIN, GONE, HERE], "[]", "read fault: policy\n"),
     (&["judge", ORIGIN, HERE, GONE], "", "read fault: requests\n"),
     (&["judge", ORIGIN, GONE, GONE], "", "read fault: policy\n"),
-    (&["report", ORIGIN, GONE, HERE], "[]", "read fault: policy\n"),
-    (&["report", ORIGIN, HERE, GONE], "", "read fault: requests\n"),
+    (
+        &["report", ORIGIN, GONE, HERE],
+        "[]",
+        "read fault: policy\n",
+    ),
+    (
+        &["report", ORIGIN, HERE, GONE],
+        "",
+        "read fault: requests\n",
+    ),
     (&["report", ORIGIN, GONE, GONE], "", "read fault: policy\n"),
     (&["compare", ORIGIN, GONE, HERE], "", "read fault: first\n"),
     (&["compare", ORIGIN, HERE, GONE], "", "read fault: second\n"),
     (&["compare", ORIGIN, GONE, GONE], "", "read fault: first\n"),
-    (&["check", ORIGIN, GONE, HERE, HERE], "", "read fault: first\n"),
-    (&["check", ORIGIN, HERE, GONE, HERE], "", "read fault: second\n"),
-    (&["check", ORIGIN, HERE, HERE, GONE], "", "read fault: proof\n"),
-    (&["check", ORIGIN, GONE, GONE, GONE], "", "read fault: first\n"),
+    (
+        &["check", ORIGIN, GONE, HERE, HERE],
+        "",
+        "read fault: first\n",
+    ),
+    (
+        &["check", ORIGIN, HERE, GONE, HERE],
+        "",
+        "read fault: second\n",
+    ),
+    (
+        &["check", ORIGIN, HERE, HERE, GONE],
+        "",
+        "read fault: proof\n",
+    ),
+    (
+        &["check", ORIGIN, GONE, GONE, GONE],
+        "",
+        "read fault: first\n",
+    ),
+    (
+        &["embed", EMBEDDER, ORIGIN, GONE, HERE],
+        "",
+        "read fault: required\n",
+    ),
+    (
+        &["embed", EMBEDDER, ORIGIN, HERE, GONE],
+        REQUIRED,
+        "read fault: response\n",
+    ),
+    (
+        &["embed", EMBEDDER, ORIGIN, GONE, GONE],
+        "",
+        "read fault: required\n",
+    ),
 ];
 
 // The status of a run over these inputs, and what a stream took of it.

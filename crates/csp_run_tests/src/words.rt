@@ -4,9 +4,10 @@ use csp_run::{Status, exit_code};
 use std::test::Fail;
 
 const USAGE: &str = "usage: judge ORIGIN POLICY REQUESTS | report ORIGIN POLICY REQUESTS | \
-    compare ORIGIN FIRST SECOND | check ORIGIN FIRST SECOND PROOF | drill N\n";
+    compare ORIGIN FIRST SECOND | check ORIGIN FIRST SECOND PROOF | drill N | \
+    embed EMBEDDER ORIGIN REQUIRED RESPONSE\n";
 
-const RUNS: [(&[&str], Status, &str); 14] = [
+const RUNS: [(&[&str], Status, &str); 20] = [
     (&[], Status::Usage, USAGE),
     (&["judge"], Status::Usage, USAGE),
     (
@@ -19,6 +20,32 @@ const RUNS: [(&[&str], Status, &str); 14] = [
     (&["drill", "08"], Status::Usage, USAGE),
     (&["drill", "8", "8"], Status::Usage, USAGE),
     (&["report"], Status::Usage, USAGE),
+    (&["embed", "https://e.example"], Status::Usage, USAGE),
+    (
+        &["embed", "e", "https://a.example", "p"],
+        Status::Usage,
+        USAGE,
+    ),
+    (
+        &["embed", "e", "https://a.example", "p", "r", "r"],
+        Status::Usage,
+        USAGE,
+    ),
+    (
+        &["embed", "e", "https://a.example", "p", "r"],
+        Status::BadOrigin,
+        "bad origin\n",
+    ),
+    (
+        &["embed", "https://e.example", "a", "p", "r"],
+        Status::BadOrigin,
+        "bad origin\n",
+    ),
+    (
+        &["embed", "e", "a", "p", "r"],
+        Status::BadOrigin,
+        "bad origin\n",
+    ),
     (
         &["report", "o", "p", "r"],
         Status::BadOrigin,
@@ -57,7 +84,7 @@ fn words(rt: HostRuntime) -> Result<(), Fail> {
     Ok(())
 }
 
-const NUMBERS: [(Status, u8); 12] = [
+const NUMBERS: [(Status, u8); 13] = [
     (Status::Clean, 0),
     (Status::Found, 1),
     (Status::Usage, 2),
@@ -70,6 +97,7 @@ const NUMBERS: [(Status, u8); 12] = [
     (Status::WriteFault, 9),
     (Status::NoMemory, 10),
     (Status::ReporterFault, 11),
+    (Status::BadRequired, 13),
 ];
 
 #[test]

@@ -1,4 +1,4 @@
-use Rattle.std.proofs.Common.{arith, ◌≡◌, ◌∙◌, sym, ap, subst, refl, List, [], ◌∷◌, length, Bool, true, false, Bor, ℕ, vec_len, Result, Ok, IfOk, IsTrue, ◌↔◌}
+use Rattle.std.proofs.Common.{arith, ◌≡◌, ◌∙◌, sym, ap, subst, refl, List, [], ◌∷◌, length, Bool, false, Bor, ℕ, vec_len, Result, Ok, IfOk, IsTrue, ◌↔◌}
 use Rattle.std.proofs.lemmas.Bool.Decides.{Decides-eqb}
 use Rattle.std.proofs.lemmas.Bool.{false≢true}
 use Rattle.csp_embed.specs.AllowFrom.{allow_from_values}
