@@ -16,6 +16,8 @@ mod inputs;
 #[cfg(test)]
 mod kinds;
 #[cfg(test)]
+mod learning;
+#[cfg(test)]
 mod limited;
 #[cfg(test)]
 mod policies;
