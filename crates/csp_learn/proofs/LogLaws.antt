@@ -1,16 +1,22 @@
 -- What is learnt of a log, one directive, one check and one request after the other.
-use Rattle.std.proofs.Common.{arith, ◌≡◌, ◌∙◌, sym, ap, refl, subst, ℕ, ◌+◌, ◌<◌, ◌≤◌, List, [], ◌∷◌, ◌++◌, append_assoc, append-nil, length, take, get_or, fold}
+use Rattle.std.proofs.Common.{arith, ◌≡◌, ◌∙◌, sym, ap, refl, subst, ℕ, ◌+◌, ◌<◌, ◌≤◌, List, [], ◌∷◌, ◌++◌, append_assoc, append-nil, length, take, get_or, fold, All, Result, Ok, Err}
+use Rattle.std.specs.Prelude.{IfOk}
 use Rattle.std.specs.List.{filter_map, cons_option, flat_map}
 use Rattle.std.proofs.lemmas.List.{take_more, take_all, flat_map_more, length-take-le}
-use Rattle.std.proofs.lemmas.List.Elements.{filter_map-append}
+use Rattle.std.proofs.lemmas.List.Elements.{filter_map-append, All-nil, All-head, All-tail, All-append}
 use Rattle.std.proofs.lemmas.List.Sums.{fold-append}
+use Rattle.csp_model.specs.Validity.{IsValidCheck}
 use Rattle.csp_model.specs.declared.check.Check.{Check}
 use Rattle.csp_model.specs.declared.name.Name.{Name}
 use Rattle.csp_model.specs.declared.policy.Directive.{Directive}
+use Rattle.csp_model.specs.declared.policy.Policy.{Policy}
+use Rattle.csp_model.specs.declared.url.Origin.{Origin}
 use Rattle.csp_model.specs.declared.verdict.Described.{Described}
 use Rattle.csp_learn.specs.Logs.{Lesson, checks_of, left_at, left_in, left_from, left_of, lesson_of}
 use Rattle.csp_learn.specs.Needs.{need_of, with_need, needs_of}
-use Rattle.csp_learn.specs.Policies.{default_none, directive_for}
+use Rattle.csp_learn.specs.Policies.{default_none, directive_for, policy_for}
+use Rattle.csp_learn.specs.declared.error.LearnError.{LearnError}
+use Rattle.csp_learn.specs.declared.learnt.Learnt.{Learnt}
 use Rattle.csp_learn.specs.declared.learnt.Place.{Place}
 use Rattle.csp_learn.specs.declared.need.Need.{Need}
 
@@ -91,3 +97,20 @@ more_learnt log d old new request before past was number needs left =
         ∙ ap (λ n. left_of log ++ left_in n 1 d.checks) number ∙ sym (left_from-push 1 log d) in
     ap (λ (n : List Need). let l : Lesson = record { needs = n; left = new.left } in l) gained
     ∙ ap (λ (p : List Place). let l : Lesson = record { needs = needs_of (checks_of (log ++ d ∷ [])); left = p } in l) kept
+
+-- the checks of valid requests are valid
+pub checks_valid : (log : List Described) → All (λ (d : Described). All IsValidCheck d.checks) log → All IsValidCheck (checks_of log)
+checks_valid [] valid = All-nil IsValidCheck
+checks_valid (d ∷ log) valid =
+    All-append IsValidCheck d.checks (checks_of log) (All-head (λ (d : Described). All IsValidCheck d.checks) d log valid)
+    (checks_valid log (All-tail (λ (d : Described). All IsValidCheck d.checks) d log valid))
+
+-- what holds of the policy of a log's needs holds of the one that is answered
+pub of_answer : (P : Policy → Type 0) (origin : Origin) (log : List Described) (i : ℕ) (learning : Lesson) (answer : Result Learnt LearnError)
+    → length log ≤ i → learning ≡ lesson_of (take i log) → IfOk answer (λ learnt. learnt.policy ≡ policy_for origin learning.needs)
+    → P (policy_for origin (needs_of (checks_of log))) → IfOk answer (λ learnt. P learnt.policy)
+of_answer P origin log i learning (Ok learnt) past was is holds =
+    let needs : learning.needs ≡ needs_of (checks_of log) =
+        ap (λ (l : Lesson). l.needs) was ∙ ap (λ (log : List Described). needs_of (checks_of log)) (take_all i log past) in
+    subst P (sym (is ∙ ap (policy_for origin) needs)) holds
+of_answer P origin log i learning (Err error) past was is holds = tt

@@ -89,7 +89,7 @@ fn write_token(alloc: Global, url: &Url) -> Result<Text, Memory>
             token.push_str(scheme.as_str())?;
             token.push_str("://")?;
             token.push_str(host.as_str())?;
-            token.push(':')?;
+            token.push_str(":")?;
             token.push_str(Buffer::new().format(effective_port(*scheme, *port)))?;
         }
     }
