@@ -4,6 +4,7 @@ use Rattle.std.specs.Prelude.{IsTrue, ◌↔◌, unwrap_or}
 use Rattle.std.specs.Bool.{Decides}
 use Rattle.std.specs.List.{list_any, list_all, find}
 use Rattle.std.specs.Str.{bytes_eq}
+use Rattle.std.proofs.lemmas.Bool.{false≢true}
 use Rattle.std.proofs.lemmas.Bool.Decides.{Decides-or, Decides-like}
 use Rattle.std.proofs.lemmas.List.Elements.{All-nil, All-head, All-tail, All-cons}
 use Rattle.std.proofs.lemmas.Slice.Eq.{bytes_eq-Decides}
@@ -20,7 +21,7 @@ use Rattle.csp_model.specs.declared.check.Check.TheVariants as check
 use Rattle.csp_model.specs.declared.check.Group.{Group}
 use Rattle.csp_model.specs.declared.check.Group.TheVariants as group
 use Rattle.csp_model.specs.declared.name.Name.{Name}
-use Rattle.csp_model.specs.declared.name.Name.TheVariants.{ConnectSrc}
+use Rattle.csp_model.specs.declared.name.Name.TheVariants.{ConnectSrc, BaseUri, FormAction, FrameAncestors, Sandbox}
 use Rattle.csp_model.specs.declared.source.Hash.{Hash}
 use Rattle.csp_model.specs.declared.source.Source.{Source}
 use Rattle.csp_model.specs.declared.url.Origin.{Origin}
@@ -30,10 +31,10 @@ use Rattle.csp_model.proofs.AnyCases.{Any-none, Any-here, Any-later, first_or_la
 use Rattle.csp_model.proofs.Deciding.{no, itself, both3}
 use Rattle.csp_model.proofs.MatchingDecided.{matches_decides}
 use Rattle.csp_learn.specs.Allowed.{Needs, AllowsWhatIsNeeded, IsNameable, AllowsTheLog}
-use Rattle.csp_learn.specs.Logs.{IsFetch}
 use Rattle.csp_learn.specs.Needs.{needed_source, needed_token, can_be_named, need_of, needs_of}
 use Rattle.csp_learn.specs.Policies.{fetch_directives, is_for, policy_for}
 use Rattle.csp_learn.specs.declared.need.Need.{Need}
+use Rattle.csp_learn.proofs.Elsewhere.{ArePlain, inline_refused, eval_refused, wasm_refused, ungoverned}
 use Rattle.csp_learn.proofs.Governed.{is_plain, fetch_allowed}
 use Rattle.csp_learn.proofs.NeededTokens.{token_built, named_host}
 use Rattle.csp_learn.proofs.NeedSets.{passes, passes_if, any_needed, all_needed}
@@ -137,11 +138,15 @@ valid_all p V each [] all = refl
 valid_all p V each (x ∷ xs) all =
     ap (λ b. b && list_all p xs) (each x (All-head V x xs all)) ∙ valid_all p V each xs (All-tail V x xs all)
 
+plain_needs : Reads → (logged : List Check) → All IsValidCheck logged → ArePlain (needs_of logged)
+plain_needs built logged valid =
+    all_needed (λ (need : Need). is_plain (source_of need.token)) logged
+    (valid_all (λ asked. passes_if (λ (need : Need). is_plain (source_of need.token)) (need_of asked)) IsValidCheck (need_plain built) logged valid)
+
 -- of all fetches exactly those are allowed that a needed source matches
 pub allows_needed : Reads → (origin : Origin) (logged : List Check) → All IsValidCheck logged → AllowsWhatIsNeeded logged (policy_for origin (needs_of logged))
 allows_needed built origin logged valid kind there redirects nonce integrity parser_inserted =
-    let plain = all_needed (λ (need : Need). is_plain (source_of need.token)) logged
-    (valid_all (λ asked. passes_if (λ (need : Need). is_plain (source_of need.token)) (need_of asked)) IsValidCheck (need_plain built) logged valid) in
+    let plain = plain_needs built logged valid in
     let redirected = is_redirected redirects in
     let tested = fetch_allowed origin (needs_of logged) kind there redirects nonce integrity parser_inserted plain
     ∙ any_needed (wanted origin kind there redirected) logged in
@@ -177,10 +182,20 @@ among_more P shorter longer more some =
     let there = more some.1 (some.0, some.2, some.3) in (there.0, some.1, there.1, there.2, some.4)
 
 -- a longer log allows what a shorter one does
-pub allows_more : (origin : Origin) (shorter longer : List Check) → AllowsWhatIsNeeded shorter (policy_for origin (needs_of shorter))
-    → AllowsWhatIsNeeded longer (policy_for origin (needs_of longer)) → ((asked : Check) → Contains shorter asked → Contains longer asked)
-    → (asked : Check) → IsFetch asked → IsTrue (allows (policy_for origin (needs_of shorter)) asked) → IsTrue (allows (policy_for origin (needs_of longer)) asked)
-allows_more origin shorter longer short long more (check.Fetch kind there redirects nonce integrity parser_inserted) fetch allowed =
-    (long kind there redirects nonce integrity parser_inserted).1
-    (among_more (Needs origin kind there (is_redirected redirects)) shorter longer more ((short kind there redirects nonce integrity parser_inserted).0 allowed))
-allows_more origin shorter longer short long more asked fetch allowed = absurd fetch
+pub allows_more : Reads → (origin : Origin) (shorter longer : List Check) → All IsValidCheck shorter → All IsValidCheck longer
+    → ((asked : Check) → Contains shorter asked → Contains longer asked)
+    → (asked : Check) → IsTrue (allows (policy_for origin (needs_of shorter)) asked) → IsTrue (allows (policy_for origin (needs_of longer)) asked)
+allows_more built origin shorter longer first second more (check.Fetch kind there redirects nonce integrity parser_inserted) allowed =
+    (allows_needed built origin longer second kind there redirects nonce integrity parser_inserted).1
+    (among_more (Needs origin kind there (is_redirected redirects)) shorter longer more
+    ((allows_needed built origin shorter first kind there redirects nonce integrity parser_inserted).0 allowed))
+allows_more built origin shorter longer first second more (check.Inline kind nonce digests) allowed =
+    absurd (false≢true (sym (inline_refused origin (needs_of shorter) (plain_needs built shorter first) kind nonce digests) ∙ allowed))
+allows_more built origin shorter longer first second more check.Eval allowed = absurd (false≢true (sym (eval_refused origin (needs_of shorter)) ∙ allowed))
+allows_more built origin shorter longer first second more check.Wasm allowed = absurd (false≢true (sym (wasm_refused origin (needs_of shorter)) ∙ allowed))
+allows_more built origin shorter longer first second more (check.Base there) allowed = ungoverned origin (needs_of longer) BaseUri _ refl
+allows_more built origin shorter longer first second more (check.Form there redirects) allowed = ungoverned origin (needs_of longer) FormAction _ refl
+allows_more built origin shorter longer first second more (check.Ancestor there) allowed = ungoverned origin (needs_of longer) FrameAncestors _ refl
+allows_more built origin shorter longer first second more check.OpaqueAncestor allowed = ungoverned origin (needs_of longer) FrameAncestors _ refl
+allows_more built origin shorter longer first second more (check.Capability capability) allowed = ungoverned origin (needs_of longer) Sandbox _ refl
+allows_more built origin shorter longer first second more check.WorkerStart allowed = ungoverned origin (needs_of longer) Sandbox _ refl

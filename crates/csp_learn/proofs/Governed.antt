@@ -61,10 +61,10 @@ found_among needs name (other ∷ names) = go (bytes_eq (name_text other) (name_
   go false is (token ∷ tokens) same rest = rw is rest
 
 -- the directive of this name as what governs
-abbrev as_governor : Name → Directive → Governor
+abbrev pub as_governor : Name → Directive → Governor
 as_governor name d = record { name = name; directive = d }
 
-abbrev named_among : List Need → Name → Option Governor
+abbrev pub named_among : List Need → Name → Option Governor
 named_among needs name =
     cond (bytes_eq (codes "default-src") (name_text name)) (Some (as_governor name default_none))
     (cond (list_any (λ other. bytes_eq (name_text other) (name_text name)) fetch_directives)
@@ -93,7 +93,7 @@ each_same f g same [] = refl
 each_same f g same (x ∷ xs) = ap (λ y. y ∷ map f xs) (same x) ∙ ap (λ ys. g x ∷ ys) (each_same f g same xs)
 
 -- the directive of this name, or else `default-src 'none'`
-abbrev own_or_default : Name → Option Directive → Option Governor
+abbrev pub own_or_default : Name → Option Directive → Option Governor
 own_or_default name None = Some (as_governor DefaultSrc default_none)
 own_or_default name (Some d) = Some (as_governor name d)
 
@@ -102,7 +102,7 @@ own_first : (name : Name) (o : Option Directive) (rest : List (Option Governor))
 own_first name None rest e = e
 own_first name (Some d) rest e = refl
 
-governs : (needs : List Need) (kind : Group)
+pub governs : (needs : List Need) (kind : Group)
     → first_of (map (named_among needs) (fallbacks (group_directive kind))) ≡ own_or_default (group_directive kind) (directive_for needs (group_directive kind))
 governs needs group.Connect = own_first ConnectSrc _ _ refl
 governs needs group.Font = own_first FontSrc _ _ refl
@@ -115,10 +115,14 @@ governs needs group.StyleElem = own_first StyleSrcElem _ _ refl
 governs needs group.ScriptElem = own_first ScriptSrcElem _ _ refl
 governs needs group.Worker = own_first WorkerSrc _ _ refl
 
+-- what governs a check of this name
+pub governor_of : (origin : Origin) (needs : List Need) (effective : Name)
+    → governor (policy_for origin needs) effective ≡ first_of (map (named_among needs) (fallbacks effective))
+governor_of origin needs effective = ap first_of (each_same _ (named_among needs) (named_is origin needs) (fallbacks effective))
+
 governor_is : (origin : Origin) (needs : List Need) (kind : Group)
     → governor (policy_for origin needs) (group_directive kind) ≡ own_or_default (group_directive kind) (directive_for needs (group_directive kind))
-governor_is origin needs kind =
-    ap first_of (each_same _ (named_among needs) (named_is origin needs) (fallbacks (group_directive kind))) ∙ governs needs kind
+governor_is origin needs kind = governor_of origin needs (group_directive kind) ∙ governs needs kind
 
 -- what hosts and schemes allow
 
@@ -129,11 +133,11 @@ is_plain (source.Nonce value) = false
 is_plain (source.Digest hash) = false
 is_plain s = true
 
-none_of_kind : (p : Source → Bool) → ((s : Source) → is_plain s ≡ true → p s ≡ false) → (sources : List Source) → list_all is_plain sources ≡ true → list_any p sources ≡ false
+pub none_of_kind : (p : Source → Bool) → ((s : Source) → is_plain s ≡ true → p s ≡ false) → (sources : List Source) → list_all is_plain sources ≡ true → list_any p sources ≡ false
 none_of_kind p fails [] all = refl
 none_of_kind p fails (s ∷ sources) all = grind (arith, common_steps, fails s, none_of_kind p fails sources)
 
-no_keyword : (word : Keyword) (s : Source) → is_plain s ≡ true → is_keyword word s ≡ false
+pub no_keyword : (word : Keyword) (s : Source) → is_plain s ≡ true → is_keyword word s ≡ false
 no_keyword word (source.Word other) plain = cc
 no_keyword word s plain = refl
 
@@ -145,11 +149,11 @@ no_hash : (hash : Hash) (s : Source) → is_plain s ≡ true → is_hash hash s 
 no_hash hash (source.Digest other) plain = cc
 no_hash hash s plain = refl
 
-and_none : (a : Bool) → (a && false) ≡ false
+pub and_none : (a : Bool) → (a && false) ≡ false
 and_none true = refl
 and_none false = refl
 
-nonce_fails : (nonce : List ℕ) (sources : List Source) → list_all is_plain sources ≡ true → nonce_matches nonce sources ≡ false
+pub nonce_fails : (nonce : List ℕ) (sources : List Source) → list_all is_plain sources ≡ true → nonce_matches nonce sources ≡ false
 nonce_fails nonce sources plain =
     ap (λ b. is_nonempty nonce && b) (none_of_kind (is_nonce nonce) (no_nonce nonce) sources plain) ∙ and_none (is_nonempty nonce)
 
@@ -169,7 +173,7 @@ none_is_other : source_of (codes "'none'") ≡ source.Other (codes "'none'")
 unfolding source_of kind_of scheme_source host_source authority keyword_source nonce_source hash_source quoted_value is_host_char is_no_slash is_scheme_char is_label_char is_name host_part_of port_part_of path_part_of is_base64_char is_base64_value
 none_is_other = refl
 
-none_plain : list_all is_plain default_none.sources ≡ true
+pub none_plain : list_all is_plain default_none.sources ≡ true
 none_plain = ap (λ s. is_plain s && true) none_is_other
 
 none_matches : (origin : Origin) (there : Url) (redirected : Bool) → list_matches default_none.sources origin there redirected ≡ false
@@ -179,7 +183,7 @@ any_mapped : {A B : Type 0} (p : B → Bool) (f : A → B) (xs : List A) → lis
 any_mapped p f [] = refl
 any_mapped p f (x ∷ xs) = ap (λ b. p (f x) || b) (any_mapped p f xs)
 
-all_mapped : {A B : Type 0} (p : B → Bool) (f : A → B) (xs : List A) → list_all p (map f xs) ≡ list_all (λ x. p (f x)) xs
+pub all_mapped : {A B : Type 0} (p : B → Bool) (f : A → B) (xs : List A) → list_all p (map f xs) ≡ list_all (λ x. p (f x)) xs
 all_mapped p f [] = refl
 all_mapped p f (x ∷ xs) = ap (λ b. p (f x) && b) (all_mapped p f xs)
 

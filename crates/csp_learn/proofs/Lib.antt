@@ -5,4 +5,5 @@ pub mod NeededTokens
 pub mod NeedSets
 pub mod Governed
 pub mod LogLaws
+pub mod Elsewhere
 pub mod AllowedSaid

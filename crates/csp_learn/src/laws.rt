@@ -1,5 +1,5 @@
 //! Laws of what is learnt, each the contract of a function that does nothing.
-ghost use Rattle.std.specs.Prelude.{◌≡◌, ◌↔◌, All, Any, Contains, IsTrue, Some, List as Items};
+ghost use Rattle.std.specs.Prelude.{◌≡◌, All, Contains, IsTrue, List as Items};
 ghost use Rattle.csp_model.specs.DecideVerdict.{allows};
 ghost use Rattle.csp_model.specs.Reading.{source_of};
 ghost use Rattle.csp_model.specs.Validity.{IsValidCheck, IsValidUrl};
@@ -7,7 +7,6 @@ ghost use Rattle.csp_model.specs.declared.check.Check.{Check};
 ghost use Rattle.csp_model.specs.declared.url.Origin.{Origin};
 ghost use Rattle.csp_model.specs.declared.url.Url.{Url};
 ghost use Rattle.csp_learn.specs.Allowed.{AllowsTheLog, AllowsWhatIsNeeded};
-ghost use Rattle.csp_learn.specs.Logs.{IsFetch};
 ghost use Rattle.csp_learn.specs.Needs as spec;
 ghost use Rattle.csp_learn.specs.Policies.{policy_for};
 
@@ -39,13 +38,12 @@ pub fn a_learnt_policy_allows_its_log()
     a_learnt_policy_allows_what_is_needed();
 }
 
-/// A policy that is learnt from a longer log allows each fetch that one learnt from a shorter log allows.
+/// A policy that is learnt from a longer log allows all that one learnt from a shorter log allows.
 pub fn a_longer_log_allows_more()
     ensures { (shorter longer : Items Check) (origin : Origin) → All IsValidCheck shorter
         → All IsValidCheck longer → ((logged : Check) → Contains shorter logged → Contains longer logged)
-        → (asked : Check) → IsFetch asked
-        → IsTrue (allows (policy_for origin (spec.needs_of shorter)) asked)
+        → (asked : Check) → IsTrue (allows (policy_for origin (spec.needs_of shorter)) asked)
         → IsTrue (allows (policy_for origin (spec.needs_of longer)) asked) }
 {
-    a_learnt_policy_allows_what_is_needed();
+    each_token_has_one_source();
 }
