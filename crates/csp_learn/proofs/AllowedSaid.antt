@@ -107,14 +107,14 @@ need_decides built origin kind there redirected (check.Fetch group logged redire
     (by_name (can_be_named logged) refl ∙ sym (both_or_none (can_be_named logged) (wanted origin kind there redirected) need))
     (both3 (can_be_named logged) same (matches (needed_source logged) origin there redirected) (itself (can_be_named logged))
     (name_decides group kind) (matches_decides (needed_source logged) origin there redirected))
-    where
-      by_name : (b : Bool) → can_be_named logged ≡ b
-          → (b && (bytes_eq (name_text (group_directive group)) (name_text (group_directive kind)) && matches (needed_source logged) origin there redirected))
-          ≡ (b && (bytes_eq (name_text (group_directive group)) (name_text (group_directive kind)) && matches (source_of (needed_token logged)) origin there redirected))
-      by_name true named =
-          ap (λ s. bytes_eq (name_text (group_directive group)) (name_text (group_directive kind)) && matches s origin there redirected)
-          (sym (token_reads built logged valid.0 named))
-      by_name false named = refl
+  where
+    by_name : (b : Bool) → can_be_named logged ≡ b
+        → (b && (bytes_eq (name_text (group_directive group)) (name_text (group_directive kind)) && matches (needed_source logged) origin there redirected))
+        ≡ (b && (bytes_eq (name_text (group_directive group)) (name_text (group_directive kind)) && matches (source_of (needed_token logged)) origin there redirected))
+    by_name true named =
+        ap (λ s. bytes_eq (name_text (group_directive group)) (name_text (group_directive kind)) && matches s origin there redirected)
+        (sym (token_reads built logged valid.0 named))
+    by_name false named = refl
 need_decides built origin kind there redirected (check.Inline inline nonce digests) valid = no (λ h. h)
 need_decides built origin kind there redirected check.Eval valid = no (λ h. h)
 need_decides built origin kind there redirected check.Wasm valid = no (λ h. h)
@@ -165,13 +165,13 @@ each_allowed origin logged exact [] among = All-nil (λ asked. IsNameable asked 
 each_allowed origin logged exact (asked ∷ checks) among =
     All-cons (λ asked. IsNameable asked → IsTrue (allows (policy_for origin (needs_of logged)) asked)) asked checks (here asked among)
     (each_allowed origin logged exact checks (λ P some. among P (Any-later P asked checks some)))
-    where
-      here : (asked : Check) → ((P : Check → Type 0) → Any P (asked ∷ checks) → Any P logged) → IsNameable asked → IsTrue (allows (policy_for origin (needs_of logged)) asked)
-      here (check.Fetch kind there redirects nonce integrity parser_inserted) among named =
-          let P = Needs origin kind there (is_redirected redirects) in
-          (exact kind there redirects nonce integrity parser_inserted).1
-          (among P (Any-here P (check.Fetch kind there redirects nonce integrity parser_inserted) checks (named, refl, matches_itself origin there (is_redirected redirects))))
-      here asked among named = absurd named
+  where
+    here : (asked : Check) → ((P : Check → Type 0) → Any P (asked ∷ checks) → Any P logged) → IsNameable asked → IsTrue (allows (policy_for origin (needs_of logged)) asked)
+    here (check.Fetch kind there redirects nonce integrity parser_inserted) among named =
+        let P = Needs origin kind there (is_redirected redirects) in
+        (exact kind there redirects nonce integrity parser_inserted).1
+        (among P (Any-here P (check.Fetch kind there redirects nonce integrity parser_inserted) checks (named, refl, matches_itself origin there (is_redirected redirects))))
+    here asked among named = absurd named
 
 -- each fetch of the log that a source can name is allowed
 pub allows_log : (origin : Origin) (logged : List Check) → AllowsWhatIsNeeded logged (policy_for origin (needs_of logged)) → AllowsTheLog logged (policy_for origin (needs_of logged))

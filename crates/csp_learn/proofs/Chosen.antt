@@ -21,4 +21,3 @@ all_chosen p name (need ∷ needs) all = go (is_for name need) (all_chosen p nam
   go : (b : Bool) → (list_all (λ (need : Need). p need.token) needs ≡ true → list_all p (tokens_for name needs) ≡ true) → list_all p (map (λ (need : Need). need.token) (cond b (need ∷ filter (is_for name) needs) (filter (is_for name) needs))) ≡ true
   go true rest = grind (arith, common_steps, rest)
   go false rest = grind (arith, common_steps, rest)
-

@@ -68,8 +68,11 @@ no_digest digests s plain = refl
 inline_fails : (kind : InlineKind) (nonce : List ℕ) (digests : Digests) (sources : List Source) → list_all is_plain sources ≡ true
     → sources_allow_inline kind nonce digests sources ≡ false
 inline_fails kind nonce digests sources plain =
-    rw (none_of_kind (is_keyword keyword.UnsafeInline) (no_keyword keyword.UnsafeInline) sources plain, nonce_fails nonce sources plain,
-    none_of_kind (is_hash_of digests) (no_digest digests) sources plain)
+    rw (
+      none_of_kind (is_keyword keyword.UnsafeInline) (no_keyword keyword.UnsafeInline) sources plain,
+      nonce_fails nonce sources plain,
+      none_of_kind (is_hash_of digests) (no_digest digests) sources plain,
+    )
     (ap (λ b. b || false) (and_none (is_element_kind kind)))
 
 pub inline_refused : (origin : Origin) (needs : List Need) → ArePlain needs → (kind : InlineKind) (nonce : List ℕ) (digests : Digests)

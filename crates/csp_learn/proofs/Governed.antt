@@ -164,8 +164,11 @@ integrity_fails (h ∷ integrity) sources plain = rw (none_of_kind (is_hash h) (
 listed_decides : (rule : FetchRule) (sources : List Source) (nonce : List ℕ) (integrity : List Hash) (parser_inserted listed : Bool)
     → list_all is_plain sources ≡ true → sources_allow rule sources nonce integrity parser_inserted listed ≡ listed
 listed_decides rule.Script sources nonce integrity parser_inserted listed plain =
-    rw (nonce_fails nonce sources plain, integrity_fails integrity sources plain,
-    none_of_kind (is_keyword keyword.StrictDynamic) (no_keyword keyword.StrictDynamic) sources plain) refl
+    rw (
+      nonce_fails nonce sources plain,
+      integrity_fails integrity sources plain,
+      none_of_kind (is_keyword keyword.StrictDynamic) (no_keyword keyword.StrictDynamic) sources plain,
+    ) refl
 listed_decides rule.Style sources nonce integrity parser_inserted listed plain = rw (nonce_fails nonce sources plain) refl
 listed_decides rule.List sources nonce integrity parser_inserted listed plain = refl
 

@@ -89,12 +89,12 @@ pub more_learnt : (log : List Described) (d : Described) (old new : Lesson) (req
 more_learnt log d old new request before past was number needs left =
     let all : take before d.checks ≡ d.checks = take_all before d.checks past in
     let gained : new.needs ≡ needs_of (checks_of (log ++ d ∷ [])) =
-        needs ∙ ap (needs_after old.needs) all ∙ ap (λ (l : Lesson). needs_after l.needs d.checks) was
-        ∙ sym (fold-append (λ needs asked. with_need needs (need_of asked)) [] (checks_of log) d.checks)
-        ∙ ap needs_of (sym (checks_of-push log d)) in
+    needs ∙ ap (needs_after old.needs) all ∙ ap (λ (l : Lesson). needs_after l.needs d.checks) was
+    ∙ sym (fold-append (λ needs asked. with_need needs (need_of asked)) [] (checks_of log) d.checks)
+    ∙ ap needs_of (sym (checks_of-push log d)) in
     let kept : new.left ≡ left_of (log ++ d ∷ []) =
-        left ∙ ap (λ checks. old.left ++ left_in request 1 checks) all ∙ ap (λ (l : Lesson). l.left ++ left_in request 1 d.checks) was
-        ∙ ap (λ n. left_of log ++ left_in n 1 d.checks) number ∙ sym (left_from-push 1 log d) in
+    left ∙ ap (λ checks. old.left ++ left_in request 1 checks) all ∙ ap (λ (l : Lesson). l.left ++ left_in request 1 d.checks) was
+    ∙ ap (λ n. left_of log ++ left_in n 1 d.checks) number ∙ sym (left_from-push 1 log d) in
     ap (λ (n : List Need). let l : Lesson = record { needs = n; left = new.left } in l) gained
     ∙ ap (λ (p : List Place). let l : Lesson = record { needs = needs_of (checks_of (log ++ d ∷ [])); left = p } in l) kept
 
@@ -111,6 +111,6 @@ pub of_answer : (P : Policy → Type 0) (origin : Origin) (log : List Described)
     → P (policy_for origin (needs_of (checks_of log))) → IfOk answer (λ learnt. P learnt.policy)
 of_answer P origin log i learning (Ok learnt) past was is holds =
     let needs : learning.needs ≡ needs_of (checks_of log) =
-        ap (λ (l : Lesson). l.needs) was ∙ ap (λ (log : List Described). needs_of (checks_of log)) (take_all i log past) in
+    ap (λ (l : Lesson). l.needs) was ∙ ap (λ (log : List Described). needs_of (checks_of log)) (take_all i log past) in
     subst P (sym (is ∙ ap (policy_for origin) needs)) holds
 of_answer P origin log i learning (Err error) past was is holds = tt

@@ -1,15 +1,20 @@
 -- What the needs of checks are: each need of a check, and no other.
-use Rattle.std.proofs.Common.{◌≡◌, ◌∙◌, sym, ap, refl, ℕ, Bool, true, false, ◌||◌, ◌&&◌, List, [], ◌∷◌, fold, Option, Some, None, arith}
+use Rattle.std.proofs.Common.{◌≡◌, ◌∙◌, sym, ap, refl, ℕ, Bool, true, false, ◌||◌, ◌&&◌, List, [], ◌∷◌, fold, Option, Some, None, arith, Any, Contains}
 use Rattle.std.specs.BTreeSet.{insert_key}
+use Rattle.std.specs.Bool.{Decides}
+use Rattle.std.specs.Prelude.{◌↔◌}
+use Rattle.std.specs.Str.{bytes_eq}
 use Rattle.std.specs.Cmp.Lexicographic.{slice_cmp}
 use Rattle.std.specs.List.{list_any, list_all}
 use Rattle.std.specs.Ordering.{nat_cmp, ordering_then, match_ordering, is_eq}
 use Rattle.std.specs.declared.cmp.Ordering.{Ordering}
 use Rattle.std.specs.declared.cmp.Ordering.TheVariants.{Less, Equal, Greater}
+use Rattle.std.proofs.lemmas.Bool.Decides.{Decides-and, Decides-like}
 use Rattle.std.proofs.lemmas.Grind.{common_steps}
 use Rattle.std.proofs.lemmas.Map.Text.{is_eq-slice_cmp}
 use Rattle.std.proofs.lemmas.Slice.Eq.{bytes_eq-Decides}
 use Rattle.csp_model.specs.declared.check.Check.{Check}
+use Rattle.csp_model.proofs.Deciding.{no, any_decides, has_decides}
 use Rattle.csp_learn.specs.Needs.{need_of, need_cmp, with_need, needs_of}
 use Rattle.csp_learn.specs.declared.need.Need.{Need}
 
@@ -115,3 +120,31 @@ all_folded p needs (asked ∷ checks) all each =
 
 pub all_needed : (p : Need → Bool) (checks : List Check) → list_all (λ asked. passes_if p (need_of asked)) checks ≡ true → list_all p (needs_of checks) ≡ true
 all_needed p checks each = all_folded p [] checks refl each
+
+-- a need is among them exactly where some check has it
+
+same_need : Need → Need → Bool
+same_need a b = bytes_eq a.directive b.directive && bytes_eq a.token b.token
+
+same_need_decides : (need other : Need) → Decides (same_need other need) (other ≡ need)
+unfolding same_need
+same_need_decides need other =
+    Decides-like (same_need other need)
+    (λ (h : (other.directive ≡ need.directive) × (other.token ≡ need.token)).
+    ap (λ (d : List ℕ). let n : Need = record { directive = d; token = other.token } in n) h.0
+    ∙ ap (λ (t : List ℕ). let n : Need = record { directive = need.directive; token = t } in n) h.1)
+    (λ (e : other ≡ need). (ap (λ (n : Need). n.directive) e, ap (λ (n : Need). n.token) e))
+    (Decides-and (bytes_eq other.directive need.directive) (bytes_eq other.token need.token)
+    (bytes_eq-Decides other.directive need.directive) (bytes_eq-Decides other.token need.token))
+
+is_need_decides : (need : Need) (o : Option Need) → Decides (passes (λ other. same_need other need) o) (o ≡ Some need)
+is_need_decides need None = no (λ (h : None ≡ Some need). cc)
+is_need_decides need (Some other) =
+    Decides-like (same_need other need) (ap Some) (λ (h : Some other ≡ Some need). cc) (same_need_decides need other)
+
+pub needs_members : (checks : List Check) (need : Need) → Contains (needs_of checks) need ↔ Any (λ asked. need_of asked ≡ Some need) checks
+needs_members checks need =
+    let p = λ (other : Need). same_need other need in
+    let among = has_decides p need (same_need_decides need) (needs_of checks) in
+    let needed = any_decides (λ asked. passes p (need_of asked)) (λ asked. need_of asked ≡ Some need) (λ asked. is_need_decides need (need_of asked)) checks in
+    (λ h. needed.0 (sym (any_needed p checks) ∙ among.1 h), λ h. among.0 (any_needed p checks ∙ needed.1 h))

@@ -64,15 +64,26 @@ no_path = refl
 pub token_built : (there : Url) → IsValidUrl there → has_named_host there ≡ true → IsSource (needed_token there) (needed_source there)
 unfolding is_lower_scheme
 token_built (url.Plain scheme) valid named =
-    let good = valid.0 in
-    (scheme, refl, (let g : is_scheme scheme ≡ true = grind (arith, good) in g),
-    (let l : bytes_eq (lower scheme) scheme ≡ true = grind (arith, good) in sym ((bytes_eq-Decides (lower scheme) scheme).0 l)))
-token_built (url.Hosted scheme host port path) valid named =
-    (no_star scheme (codes "://" ++ (host_text host ++ (codes ":" ++ decimal (effective_port scheme port)))),
-    (scheme_text scheme ++ codes "://", host_text host, codes ":" ++ decimal (effective_port scheme port), [],
+    let good = valid.0 in (
+      scheme,
+      refl,
+      (let g : is_scheme scheme ≡ true = grind (arith, good) in g),
+      (let l : bytes_eq (lower scheme) scheme ≡ true = grind (arith, good) in sym ((bytes_eq-Decides (lower scheme) scheme).0 l)),
+    )
+token_built (url.Hosted scheme host port path) valid named = (
+  no_star scheme (codes "://" ++ (host_text host ++ (codes ":" ++ decimal (effective_port scheme port)))),
+  (
+    scheme_text scheme ++ codes "://",
+    host_text host,
+    codes ":" ++ decimal (effective_port scheme port),
+    [],
     joined (scheme_text scheme) (codes "://") (host_text host) (codes ":" ++ decimal (effective_port scheme port)),
     (scheme_text scheme, refl, scheme_is scheme, scheme_lower scheme),
-    host_read host valid.0 named, port_read (effective_port scheme port) (port_small scheme port valid.1), no_path))
+    host_read host valid.0 named,
+    port_read (effective_port scheme port) (port_small scheme port valid.1),
+    no_path,
+  ),
+)
 
 -- the token is ASCII
 

@@ -1,5 +1,5 @@
 //! Laws of what is learnt, each the contract of a function that does nothing.
-ghost use Rattle.std.specs.Prelude.{◌≡◌, All, Contains, IsTrue, List as Items};
+ghost use Rattle.std.specs.Prelude.{◌≡◌, ◌↔◌, All, Any, Contains, IsTrue, Some, List as Items};
 ghost use Rattle.csp_model.specs.DecideVerdict.{allows};
 ghost use Rattle.csp_model.specs.Reading.{source_of};
 ghost use Rattle.csp_model.specs.Validity.{IsValidCheck, IsValidUrl};
@@ -9,8 +9,16 @@ ghost use Rattle.csp_model.specs.declared.url.Url.{Url};
 ghost use Rattle.csp_learn.specs.Allowed.{AllowsTheLog, AllowsWhatIsNeeded};
 ghost use Rattle.csp_learn.specs.Needs as spec;
 ghost use Rattle.csp_learn.specs.Policies.{policy_for};
+ghost use Rattle.csp_learn.specs.declared.need.Need.{Need};
 
 use csp_source::laws::each_token_has_one_source;
+
+/// The needs of checks are a set: a need is among them exactly where some check has it. That each stands once
+/// and in order is said by `learn` and by `Learning::finish`.
+pub fn needs_are_those_of_checks()
+    ensures { (checks : Items Check) (need : Need) → (Contains (spec.needs_of checks) need
+        ↔ Any (λ logged. spec.need_of logged ≡ Some need) checks) }
+{}
 
 /// The token that a fetch needs reads as the source that it needs: its scheme, its very host and its port, or
 /// its scheme alone.

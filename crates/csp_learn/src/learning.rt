@@ -1,5 +1,6 @@
 //! Learns a policy from a log, one request after the other.
 ghost use Rattle.std.specs.Prelude.{◌≡◌, ◌+◌, ◌<◌, ◌≤◌, ◌^◌, ◌∷◌, ◌++◌, [], All, Any, IfOk, OnOk, length, List as Items};
+ghost use Rattle.std.specs.List.Sorted.{IsStrictlySortedBy};
 ghost use Rattle.csp_model.specs.Validity.{IsValidCheck};
 ghost use Rattle.csp_model.specs.declared.verdict.Described.{Described as Request};
 ghost use Rattle.csp_learn.specs.Logs as log;
@@ -96,6 +97,7 @@ impl Learning {
     pub fn finish(self, alloc: Global, origin: &Origin) -> Result<Learnt, LearnError>
         ensures policy { IfOk result (λ learnt. learnt.policy ≡ policy_for origin.now self.needs) }
         ensures left { IfOk result (λ learnt. learnt.left ≡ self.left) }
+        ensures once { IsStrictlySortedBy spec.need_cmp self.needs }
         ensures few { OnOk result (length self.needs ≤ spec.need_limit) }
         ensures many { result ≡ Err LearnError.TooManySources → spec.need_limit < length self.needs }
     {

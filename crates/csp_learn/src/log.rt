@@ -1,5 +1,6 @@
 //! Learns a policy from a log that is there as a whole.
-ghost use Rattle.std.specs.Prelude.{◌≡◌, ◌<◌, ◌≤◌, ◌^◌, All, Any, IfOk, OnOk, length};
+ghost use Rattle.std.specs.Prelude.{◌≡◌, ◌≢◌, ◌<◌, ◌≤◌, ◌^◌, All, Any, IfOk, OnOk, length};
+ghost use Rattle.std.specs.List.Sorted.{IsStrictlySortedBy};
 ghost use Rattle.csp_model.specs.Validity.{IsValidCheck};
 ghost use Rattle.csp_model.specs.declared.verdict.Described.{Described as Request};
 ghost use Rattle.csp_learn.specs.Allowed.{AllowsTheLog, AllowsWhatIsNeeded};
@@ -38,7 +39,9 @@ pub fn learn(
     ensures allows_log { IfOk result
         (λ learnt. AllowsTheLog (logs.checks_of descriptions.now) learnt.policy) }
 
-    // When too many sources are needed.
+    // When too many sources are needed: each of them is counted once.
+    ensures once { result ≢ Err LearnError.Memory
+        → IsStrictlySortedBy spec.need_cmp (spec.needs_of (logs.checks_of descriptions.now)) }
     ensures few { OnOk result
         (length (spec.needs_of (logs.checks_of descriptions.now)) ≤ spec.need_limit) }
     ensures many { result ≡ Err LearnError.TooManySources

@@ -84,7 +84,10 @@ fn write_token(alloc: Global, url: &Url) -> Result<Text, Memory>
             token.push(':')?;
         }
         Url::Hosted {
-            scheme, host, port, ..
+            scheme,
+            host,
+            port,
+            ..
         } => {
             token.push_str(scheme.as_str())?;
             token.push_str("://")?;

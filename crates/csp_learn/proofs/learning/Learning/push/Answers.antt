@@ -9,12 +9,11 @@ loop-before-preserved c =
     let checks = c.args.described.now.checks in
     let same = c.as_slice-check-items.ensures in
     let below : c.loop-before.before < length checks = omega (arith, ap length same) in
-    let is = c.check-item.is ∙ ap (λ (xs : List Check). get_or xs c.loop-before.before c.check-item.result) same in
-    (
+    let is = c.check-item.is ∙ ap (λ (xs : List Check). get_or xs c.loop-before.before c.check-item.result) same in (
       more_needed c.args.self.now.needs _ _ checks c.loop-before.before c.check-item.result below is c.loop-before.invariant.0
-      c.in_ok-push_check.ensures.needs,
+          c.in_ok-push_check.ensures.needs,
       more_left c.args.request c.args.self.now.left _ _ checks c.loop-before.before c.check-item.result below is c.loop-before.invariant.1
-      c.in_ok-push_check.ensures.left
+          c.in_ok-push_check.ensures.left,
     )
 
 pub returns : goal.returns
