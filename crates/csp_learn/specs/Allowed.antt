@@ -26,7 +26,8 @@ Needs origin kind there redirected asked = ⊥
 -- same effective directive needs
 abbrev pub AllowsWhatIsNeeded : List Check → Policy → Type 0
 AllowsWhatIsNeeded logged policy =
-    (kind : Group) (there : Url) (redirects : ℕ) (nonce : List ℕ) (integrity : List Hash) (parser_inserted : Bool)
+    (kind : Group) (there : Url) (redirects : ℕ) (nonce : List ℕ) (integrity : List Hash)
+    (parser_inserted : Bool)
     → (IsTrue (allows policy (check.Fetch kind there redirects nonce integrity parser_inserted))
     ↔ Any (Needs policy.origin kind there (is_redirected redirects)) logged)
 

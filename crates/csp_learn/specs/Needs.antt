@@ -39,7 +39,8 @@ needed_source (url.Hosted scheme host port path) =
 abbrev pub needed_token : Url → List ℕ
 needed_token (url.Plain scheme) = scheme ++ codes ":"
 needed_token (url.Hosted scheme host port path) =
-    scheme_text scheme ++ (codes "://" ++ (host_text host ++ (codes ":" ++ decimal (effective_port scheme port))))
+    scheme_text scheme
+    ++ (codes "://" ++ (host_text host ++ (codes ":" ++ decimal (effective_port scheme port))))
 
 -- A source can name the URL's host: it is made of labels of letters, digits and "-", as many domains are, and
 -- each address of four numbers, and no address in brackets. A URL without a host is named by its scheme.

@@ -18,9 +18,9 @@ use std::alloc::Global;
 /// The policy of this origin that the fetches of a log need, and the fetches that no source can name.
 ///
 /// A fetch needs a source of its effective directive (Content Security Policy Level 3, section 6.8.1): the
-/// scheme, the very host and the port of its URL, or its scheme alone where the URL has no host. A host can be
-/// named where it is made of letters, digits, `-` and dots, and a token where it has at most 4,096 bytes. All
-/// that isn't a fetch is passed over. `TooManySources` comes exactly where more than 1,023 sources are needed.
+/// scheme, the very host and the port of its URL, or its scheme alone where the URL has no host. A source can
+/// name a host of letters, digits, `-` and dots, where its token has at most 4,096 bytes. Whatever isn't a
+/// fetch is passed over. `TooManySources` comes exactly where more than 1,023 sources are needed.
 pub fn learn(
     alloc: Global,
     descriptions: &List<Described>,
@@ -28,7 +28,8 @@ pub fn learn(
 ) -> Result<Learnt, LearnError>
     requires valid { All (λ (d : Request). All IsValidCheck d.checks) descriptions.now }
     requires few { length descriptions.now ≤ logs.log_limit }
-    requires short { All (λ (d : Request). Any logs.IsFetch d.checks → length d.checks < 2 ^ 32) descriptions.now }
+    requires short { All (λ (d : Request). Any logs.IsFetch d.checks → length d.checks < 2 ^ 32)
+        descriptions.now }
     ensures policy { IfOk result
         (λ learnt. learnt.policy ≡ policy_for origin.now (spec.needs_of (logs.checks_of descriptions.now))) }
     ensures left { IfOk result (λ learnt. learnt.left ≡ logs.left_of descriptions.now) }

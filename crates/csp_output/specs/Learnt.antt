@@ -14,7 +14,8 @@ use Rattle.csp_output.specs.declared.built.Built.{Built}
 use Rattle.csp_output.specs.declared.status.Status.TheVariants.{Clean}
 
 abbrev pub left_pieces : Place → List (List ℕ)
-left_pieces place = codes "not learnt " ∷ decimal place.request ∷ codes " " ∷ decimal place.check ∷ codes "\n" ∷ []
+left_pieces place =
+    codes "not learnt " ∷ decimal place.request ∷ codes " " ∷ decimal place.check ∷ codes "\n" ∷ []
 
 -- the line of a fetch that no source can name, as "not learnt 2 1"
 unfoldable pub left_line : Place → List ℕ
@@ -31,4 +32,7 @@ lesson_output learnt = record { status = Clean; text = learnt_text learnt.policy
 
 -- the output of `learn` on a log
 abbrev pub learning : Origin → List Described → Built
-learning origin log = record { status = Clean; text = learnt_text (policy_for origin (needs_of (checks_of log))) (left_of log) }
+learning origin log = record {
+  status = Clean;
+  text = learnt_text (policy_for origin (needs_of (checks_of log))) (left_of log);
+}

@@ -102,9 +102,8 @@ fn hosts(alloc: Global, count: u32) -> Result<String, Memory> {
     let mut log = String::from_str(alloc, "[")?;
     for host in 0..count {
         let comma = if host == 0 { "" } else { "," };
-        let image = format!(in alloc;
-            r#"{comma}{{"kind":"fetch","destination":"image","urls":["https://h{host}.example/","https://h{host}.example/x"]}}"#
-        )?;
+        let urls = format!(in alloc; r#"["https://h{host}.example/","https://h{host}.example/x"]"#)?;
+        let image = format!(in alloc; r#"{comma}{{"kind":"fetch","destination":"image","urls":{urls}}}"#)?;
         log.push_str(image.as_str())?;
     }
     log.push(']')?;
