@@ -1,0 +1,2 @@
+pub mod PairsListed
+pub mod WaysFound
