@@ -17,6 +17,8 @@ mod formulas;
 #[cfg(test)]
 mod generated;
 #[cfg(test)]
+mod ordering;
+#[cfg(test)]
 mod proofs;
 #[cfg(test)]
 mod runs;

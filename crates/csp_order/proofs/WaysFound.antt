@@ -36,7 +36,7 @@ chain_push pairs first [] next chain leads = (leads, tt)
 chain_push pairs first (s ∷ steps) next chain leads =
     (chain.0, chain_push pairs s steps next chain.1 leads)
 
-end_push : (first : ℕ) (steps : List ℕ) (next : ℕ) → end_of first (steps ++ next ∷ []) ≡ next
+pub end_push : (first : ℕ) (steps : List ℕ) (next : ℕ) → end_of first (steps ++ next ∷ []) ≡ next
 end_push first [] next = refl
 end_push first (s ∷ steps) next = end_push s steps next
 

@@ -2,5 +2,12 @@
 #![tactic(auto)]
 
 mod chain;
+mod known;
+mod ordering;
 mod pair;
+mod relation;
+mod trials;
 mod way;
+
+pub use ordering::order;
+pub use relation::{Because, Relation};

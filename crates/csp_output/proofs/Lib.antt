@@ -3,3 +3,4 @@ pub mod DrillTexts
 pub mod DrillLists
 pub mod OneStatus
 pub mod SameItems
+pub mod OrderWritten

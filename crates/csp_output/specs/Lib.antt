@@ -2,4 +2,5 @@ pub mod Checks
 pub mod Comparisons
 pub mod Drills
 pub mod Lines
+pub mod Orders
 pub mod Statuses

@@ -1,5 +1,5 @@
-//! What `compare`, `check` and `drill` print of lists of policies, the lines of verdicts, and the statuses
-//! that runs end with.
+//! What `compare`, `check`, `drill` and `order` print of lists of policies, the lines of verdicts, and the
+//! statuses that runs end with.
 #![tactic(auto)]
 
 mod acceptance;
@@ -8,6 +8,7 @@ mod comparison;
 mod exercise;
 pub mod laws;
 mod lines;
+mod order;
 mod shown_items;
 mod status;
 mod verdict_lines;
@@ -16,5 +17,6 @@ pub use acceptance::check;
 pub use built::Built;
 pub use comparison::compare;
 pub use exercise::drill;
+pub use order::order;
 pub use status::{Status, exit_code};
 pub use verdict_lines::VerdictLines;
