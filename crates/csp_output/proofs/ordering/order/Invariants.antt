@@ -2,7 +2,7 @@ use Rattle.std.proofs.Common.{◌≡◌, All, take}
 use Rattle.std.specs.List.{flat_map}
 use Rattle.csp_order.specs.declared.relation.Relation.{Relation}
 use Rattle.csp_output.specs.Orders.{IsReadBack, relation_text}
-use Rattle.csp_output.proofs.order.order.Given as goal
+use Rattle.csp_output.proofs.ordering.order.Given as goal
 
 abbrev pub invariant-loop-relation : goal.invariant-loop-relation
 invariant-loop-relation l = record {

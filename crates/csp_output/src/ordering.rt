@@ -1,17 +1,22 @@
 //! What `order` prints: of each two of many lists whether the second allows all that the first allows, and what
 //! shows it.
-ghost use Rattle.std.specs.Prelude.{◌≡◌, ◌≤◌, ◌++◌, All, IfOk, OnOk, length, codes};
+ghost use Rattle.std.specs.Prelude.{◌≡◌, ◌≤◌, ◌++◌, All, IfOk, OnOk, Ok, length, codes};
 ghost use Rattle.csp_model.specs.Policies.{IsReadable};
+ghost use Rattle.csp_model.specs.Validity.{IsValidCheck};
 ghost use Rattle.csp_order.specs.Pairs.{list_limit};
+ghost use Rattle.csp_proof.specs.Spelling as spelling;
+ghost use Rattle.csp_proof.specs.WellFormed.{IsWellFormed};
+ghost use Rattle.csp_request.specs.Requests.{check_of};
+ghost use Rattle.csp_output.specs.Comparisons.{description_of};
 ghost use Rattle.csp_output.specs.Orders as spec;
 
 use crate::built::Built;
 use crate::lines::push_all;
 use crate::status::Status;
-use csp_model::{Bytes, List, Memory, PolicyList};
+use csp_model::{Bytes, Check, List, Memory, PolicyList};
 use csp_order::{Because, Relation, order as relations_of};
 use csp_print::check_json;
-use csp_proof::proof_text;
+use csp_proof::{Proof, proof_text};
 use itoa::Buffer;
 use std::alloc::Global;
 
@@ -61,24 +66,44 @@ fn push_because(alloc: Global, text: &mut Vec<u8>, because: &Because) -> Result<
     ensures read_back { OnOk result (spec.IsReadBack because.now) }
 {
     match because {
-        Because::Proof { proof } => {
-            text.extend_from_slice(b" yes proof\n")?;
-            text.extend_from_slice(proof_text(alloc, proof)?.as_slice())?;
-            Ok(())
-        }
-        Because::Through { lists } => {
-            text.extend_from_slice(b" yes through")?;
-            push_numbers(text, lists.as_slice())?;
-            text.push(b'\n')?;
-            Ok(())
-        }
-        Because::Check { check } => {
-            text.extend_from_slice(b" no\n")?;
-            text.extend_from_slice(check_json(alloc, check)?.as_slice())?;
-            text.push(b'\n')?;
-            Ok(())
-        }
+        Because::Proof { proof } => push_proof(alloc, text, proof),
+        Because::Through { lists } => push_through(text, lists.as_slice()),
+        Because::Check { check } => push_check(alloc, text, check),
     }
+}
+
+fn push_proof(alloc: Global, text: &mut Vec<u8>, proof: &Proof) -> Result<(), Memory>
+    requires { IsWellFormed proof.now }
+    ensures { OnOk result (text.new.items
+        ≡ text.old.items ++ (codes " yes proof\n" ++ spelling.proof_text proof.now)) }
+{
+    let shown = proof_text(alloc, proof)?;
+    text.extend_from_slice(b" yes proof\n")?;
+    text.extend_from_slice(shown.as_slice())?;
+    Ok(())
+}
+
+fn push_through(text: &mut Vec<u8>, lists: &[u32]) -> Result<(), Memory>
+    ensures { OnOk result (text.new.items
+        ≡ text.old.items ++ (codes " yes through" ++ (spec.numbers_text lists.now ++ codes "\n"))) }
+{
+    text.extend_from_slice(b" yes through")?;
+    push_numbers(text, lists)?;
+    text.push(b'\n')?;
+    Ok(())
+}
+
+fn push_check(alloc: Global, text: &mut Vec<u8>, check: &Check) -> Result<(), Memory>
+    requires { IsValidCheck check.now }
+    ensures text { OnOk result (text.new.items
+        ≡ text.old.items ++ (codes " no\n" ++ (description_of check.now ++ codes "\n"))) }
+    ensures read_back { OnOk result (check_of (description_of check.now) ≡ Ok check.now) }
+{
+    let description = check_json(alloc, check)?;
+    text.extend_from_slice(b" no\n")?;
+    text.extend_from_slice(description.as_slice())?;
+    text.push(b'\n')?;
+    Ok(())
 }
 
 // Writes numbers, with a space before each.
