@@ -11,10 +11,7 @@ use std::process::Abort;
 use std::test::Fail;
 
 // A list for each of these header lines.
-fn lists(
-    rt: &(impl Abort + AllocGlobal),
-    blocks: &[&str],
-) -> Result<List<PolicyList>, BlockError>
+fn lists(rt: &(impl Abort + AllocGlobal), blocks: &[&str]) -> Result<List<PolicyList>, BlockError>
     ensures { IfOk result (All IsReadable) }
 {
     let mut made = List::new(rt.alloc());
@@ -47,7 +44,9 @@ fn ordered(rt: &(impl Abort + AllocGlobal), blocks: &[&str]) -> Result<String, F
 }
 
 const NONE: &str = "Content-Security-Policy: img-src 'none'";
+
 const HOST: &str = "Content-Security-Policy: img-src https://b.example";
+
 const HTTPS: &str = "Content-Security-Policy: img-src https:";
 
 // Lists, and the line of each pair.
@@ -84,7 +83,11 @@ fn sixteen_equal_lists(rt: HostRuntime) -> Result<(), Fail> {
     let mut lines = String::new(rt.alloc());
     for first in 1..=16u32 {
         for second in 1..=16u32 {
-            let end = if first == 1 || second == 1 { "proof" } else { "through 1" };
+            let end = if first == 1 || second == 1 {
+                "proof"
+            } else {
+                "through 1"
+            };
             if first != second {
                 lines.push_str(format!(in rt.alloc(); "{first} {second} yes {end}\n")?.as_str())?;
             }

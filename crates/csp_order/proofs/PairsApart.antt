@@ -63,10 +63,10 @@ module _ (count : ℕ) where
   row_listed : (first : ℕ) → 1 ≤ first → first ≤ count → All (IsPair count) (row count first)
   row_listed first some few =
       let differ : All (λ n. not (n == first) ≡ true) (others count first) =
-          filter_passes (λ n. not (n == first)) (range_with_len 1 count) in
+      filter_passes (λ n. not (n == first)) (range_with_len 1 count) in
       let within : All (λ n. (1 ≤ n) × (n ≤ count)) (others count first) =
-          All-filter (λ n. not (n == first)) (λ n. (1 ≤ n) × (n ≤ count)) (range_with_len 1 count)
-          (in_range (λ n. (1 ≤ n) × (n ≤ count)) 1 count (λ k low high. (low, omega arith))) in
+      All-filter (λ n. not (n == first)) (λ n. (1 ≤ n) × (n ≤ count)) (range_with_len 1 count)
+      (in_range (λ n. (1 ≤ n) × (n ≤ count)) 1 count (λ k low high. (low, omega arith))) in
       All-map (IsPair count) (pair first) (others count first)
       (λ k d short. record {
         first_some = some;

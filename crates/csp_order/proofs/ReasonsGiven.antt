@@ -59,10 +59,12 @@ pub reasons_push : (lists : List PolicyList) (ps : List Pair) (rs : List Relatio
     → AreReasons lists ps (rs ++ r ∷ [])
 reasons_push lists ps [] r are is =
     (subst (λ (qs : List Pair). IsReason lists qs (pair_of r) r.because) (append-nil ps) is, tt)
-reasons_push lists ps (q ∷ rs) r are is =
-    (are.0, reasons_push lists (ps ++ proved_by (pair_of q) q.because) rs r are.1
-    (subst (λ (qs : List Pair). IsReason lists qs (pair_of r) r.because)
-    (sym (append_assoc ps (proved_by (pair_of q) q.because) (proved rs))) is))
+reasons_push lists ps (q ∷ rs) r are is = (
+  are.0,
+  reasons_push lists (ps ++ proved_by (pair_of q) q.because) rs r are.1
+      (subst (λ (qs : List Pair). IsReason lists qs (pair_of r) r.because)
+      (sym (append_assoc ps (proved_by (pair_of q) q.because) (proved rs))) is),
+)
 
 yes_where_included : (lists : List PolicyList) (ps : List Pair) (p : Pair) (b : Because) → IsReason lists ps p b
     → IsTrue (is_yes b) ↔ Includes lists p

@@ -63,7 +63,9 @@ impl<'a> Trials<'a> {
             (IsCounterexample (list_at self.now pair.first) (list_at self.now pair.second))) }
     {
         for request in self.requests.as_slice() {
-            if self.allows(alloc, pair.first, request)? && !self.allows(alloc, pair.second, request)? {
+            if self.allows(alloc, pair.first, request)?
+                && !self.allows(alloc, pair.second, request)?
+            {
                 return Ok(Some(check_of(alloc, request)?));
             }
         }

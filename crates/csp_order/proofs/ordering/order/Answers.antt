@@ -16,7 +16,7 @@ reason-requires-clause-pair c =
     let items : List Pair = c.as_slice-pair-items.result.now in
     let count : ℕ = length c.args.lists.now in
     let items_are : items ≡ pairs count =
-        c.as_slice-pair-items.ensures.value ∙ c.in_ok-all.ensures ∙ ap pairs c.len.ensures in
+    c.as_slice-pair-items.ensures.value ∙ c.in_ok-all.ensures ∙ ap pairs c.len.ensures in
     let none : Pair = record { first = 0; second = 0 } in
     subst (λ (ls : List PolicyList). IsPair (length ls) (get_or items c.loop-pair.pair-index none))
     (sym c.loop-pair.invariant.lists)
@@ -29,17 +29,17 @@ reason-requires-clause-fresh c found =
     let count : ℕ = length c.args.lists.now in
     let place : ℕ = c.loop-pair.pair-index in
     let items_are : items ≡ pairs count =
-        c.as_slice-pair-items.ensures.value ∙ c.in_ok-all.ensures ∙ ap pairs c.len.ensures in
+    c.as_slice-pair-items.ensures.value ∙ c.in_ok-all.ensures ∙ ap pairs c.len.ensures in
     let none : Pair = record { first = 0; second = 0 } in
     let p : Pair = get_or items place none in
     let apart : AllPairs (λ (a b : Pair). a ≢ b) items =
-        subst (AllPairs (λ (a b : Pair). a ≢ b)) (sym items_are) (pairs_apart count) in
+    subst (AllPairs (λ (a b : Pair). a ≢ b)) (sym items_are) (pairs_apart count) in
     let before : All (λ (q : Pair). q ≢ p) (take place items) =
-        others_before items p place apart c.loop-pair-test.true
-        (get_or_default items place none p c.loop-pair-test.true) in
+    others_before items p place apart c.loop-pair-test.true
+    (get_or_default items place none p c.loop-pair-test.true) in
     let others : All (λ (q : Pair). q ≢ p) (map pair_of c.loop-pair.relations) =
-        subst (All (λ (q : Pair). q ≢ p)) (sym c.loop-pair.invariant.pairs)
-        (subst (λ (ps : List Pair). All (λ (q : Pair). q ≢ p) (take place ps)) items_are before) in
+    subst (All (λ (q : Pair). q ≢ p)) (sym c.loop-pair.invariant.pairs)
+    (subst (λ (ps : List Pair). All (λ (q : Pair). q ≢ p) (take place ps)) items_are before) in
     All-contains (λ (q : Pair). q ≢ p) c.loop-pair.known.proved p
     (subst (All (λ (q : Pair). q ≢ p)) (sym c.loop-pair.invariant.proved)
     (each_proved (λ (q : Pair). q ≢ p) c.loop-pair.relations others)) found refl
@@ -52,19 +52,19 @@ loop-pair-preserved c =
     let place : ℕ = c.loop-pair.pair-index in
     let old : List Relation = c.loop-pair.relations in
     let items_are : items ≡ pairs count =
-        c.as_slice-pair-items.ensures.value ∙ c.in_ok-all.ensures ∙ ap pairs c.len.ensures in
+    c.as_slice-pair-items.ensures.value ∙ c.in_ok-all.ensures ∙ ap pairs c.len.ensures in
     let none : Pair = record { first = 0; second = 0 } in
     let p : Pair = get_or items place none in
     let because : Because = c.in_ok-because.because in
     let r : Relation = record { first = p.first; second = p.second; because = because } in
     let pushed : c.push.new.self ≡ old ++ r ∷ [] = c.in_ok-push.ensures.ok in
     let next : take (place + 1) (pairs count) ≡ take place (pairs count) ++ p ∷ [] =
-        subst (λ (ps : List Pair). take (place + 1) ps ≡ take place ps ++ p ∷ []) items_are
-        (take_more items place none c.loop-pair-test.true) in
+    subst (λ (ps : List Pair). take (place + 1) ps ≡ take place ps ++ p ∷ []) items_are
+    (take_more items place none c.loop-pair-test.true) in
     let reason : IsReason lists (proved old) p because =
-        subst (λ (ps : List Pair). IsReason lists ps p because) c.loop-pair.invariant.proved
-        (subst (λ (ls : List PolicyList). IsReason ls c.loop-pair.known.proved p because)
-        c.loop-pair.invariant.lists c.in_ok-because.ensures.reason) in
+    subst (λ (ps : List Pair). IsReason lists ps p because) c.loop-pair.invariant.proved
+    (subst (λ (ls : List PolicyList). IsReason ls c.loop-pair.known.proved p because)
+    c.loop-pair.invariant.lists c.in_ok-because.ensures.reason) in
     record {
       lists = ap (λ (k : Known). k.lists) c.in_ok-because.ensures.known ∙ c.loop-pair.invariant.lists;
       proved = ap (λ (k : Known). k.proved) c.in_ok-because.ensures.known

@@ -8,5 +8,5 @@ invariant-loop-pair l = record {
   lists : l.known.lists ≡ l.lists;
   proved : l.known.proved ≡ proved l.relations;
   pairs : map pair_of l.relations ≡ take l.pair-index (pairs (length l.lists));
-  reasons : AreReasons l.lists [] l.relations
+  reasons : AreReasons l.lists [] l.relations;
 }

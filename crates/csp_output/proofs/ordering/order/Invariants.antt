@@ -7,5 +7,5 @@ use Rattle.csp_output.proofs.ordering.order.Given as goal
 abbrev pub invariant-loop-relation : goal.invariant-loop-relation
 invariant-loop-relation l = record {
   text : l.text.items ≡ flat_map relation_text (take l.relation-index l.relation-items);
-  read_back : All (λ (r : Relation). IsReadBack r.because) (take l.relation-index l.relation-items)
+  read_back : All (λ (r : Relation). IsReadBack r.because) (take l.relation-index l.relation-items);
 }

@@ -8,8 +8,8 @@ use Rattle.csp_order.proofs.known.Known.reason.Goals as goal
 pub returns-in-Some-clause-reason : goal.returns-in-Some-clause-reason
 returns-in-Some-clause-reason c =
     let leads : LeadsThrough c.self.inside.proved.items c.args.pair c.in-Some.lists =
-        subst (λ (ps : List Pair). LeadsThrough ps c.args.pair c.in-Some.lists) c.as_slice.ensures.value
-        (rw c.in-Some.is at c.in_ok-lists.ensures) in
+    subst (λ (ps : List Pair). LeadsThrough ps c.args.pair c.in-Some.lists) c.as_slice.ensures.value
+    (rw c.in-Some.is at c.in_ok-lists.ensures) in
     subst (λ (known : Known). IsThrough known.lists known.proved c.args.pair c.in-Some.lists) c.self.view_is
     (record {
       includes = chain_includes c.self.inside.lists.now c.self.inside.proved.items c.args.pair c.in-Some.lists
