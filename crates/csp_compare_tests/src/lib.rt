@@ -13,6 +13,8 @@ mod checks;
 #[cfg(test)]
 mod comparing;
 #[cfg(test)]
+mod differences;
+#[cfg(test)]
 mod formulas;
 #[cfg(test)]
 mod generated;
