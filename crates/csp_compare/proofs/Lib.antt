@@ -1,4 +1,5 @@
 pub mod Adding
+pub mod Differing
 pub mod Ending
 pub mod EnforcedPolicies
 pub mod Known

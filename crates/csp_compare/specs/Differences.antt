@@ -1,6 +1,6 @@
 -- Where two lists of policies differ, among the checks with some effective directives; and words of private
 -- contracts, which stand here since contracts cite only specs/.
-use Rattle.std.specs.Prelude.{◌≡◌, ℕ, List, Option, Some, None, All, Contains, IsTrue, MatchOption, slice_get, ◌<◌}
+use Rattle.std.specs.Prelude.{◌≡◌, ℕ, List, [], ◌∷◌, Option, Some, None, All, Contains, IsTrue, MatchOption, slice_get, ◌<◌}
 use Rattle.std.specs.BTreeMap.{BTreeMap, get}
 use Rattle.std.specs.Ordering.{nat_cmp}
 use Rattle.csp_model.specs.Inclusion.{Subsumes}
@@ -9,7 +9,7 @@ use Rattle.csp_model.specs.Validity.{IsValidCheck}
 use Rattle.csp_model.specs.Verdict.{effective_name, list_allows}
 use Rattle.csp_model.specs.declared.check.Check.{Check}
 use Rattle.csp_model.specs.declared.name.Name.{Name}
-use Rattle.csp_model.specs.declared.name.Name.TheVariants.{ScriptSrc, BaseUri, FormAction, FrameAncestors, Sandbox}
+use Rattle.csp_model.specs.declared.name.Name.TheVariants.{ConnectSrc, FontSrc, FrameSrc, ImgSrc, ManifestSrc, MediaSrc, ObjectSrc, StyleSrcElem, ScriptSrcElem, WorkerSrc, ScriptSrcAttr, StyleSrcAttr, ScriptSrc, BaseUri, FormAction, FrameAncestors, Sandbox}
 use Rattle.csp_model.specs.declared.policy.PolicyList.{PolicyList}
 use Rattle.csp_proof.specs.Accepts.{Lists}
 use Rattle.csp_proof.specs.declared.proof.Node.{Node}
@@ -30,6 +30,12 @@ use Rattle.csp_compare.specs.declared.difference.Known.TheVariants.{Included}
 use Rattle.csp_compare.specs.declared.difference.Sight.{Sight}
 use Rattle.csp_compare.specs.declared.difference.Sight.TheVariants as sight
 use Rattle.csp_compare.specs.declared.task.Task.{Task}
+
+-- the effective directives that checks have
+abbrev pub effective_names : List Name
+effective_names =
+    ConnectSrc ∷ FontSrc ∷ FrameSrc ∷ ImgSrc ∷ ManifestSrc ∷ MediaSrc ∷ ObjectSrc ∷ StyleSrcElem ∷ ScriptSrcElem
+    ∷ WorkerSrc ∷ ScriptSrcAttr ∷ StyleSrcAttr ∷ ScriptSrc ∷ BaseUri ∷ FormAction ∷ FrameAncestors ∷ Sandbox ∷ []
 
 -- every valid check with one of these effective directives that the first list allows the second allows
 abbrev pub SubsumesAmong : List Name → PolicyList → PolicyList → Type 0

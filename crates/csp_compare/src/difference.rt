@@ -2,6 +2,7 @@
 ghost use Rattle.std.specs.Prelude.{◌≡◌, IfOk, IsTrue, MatchOption, OnOk};
 ghost use Rattle.csp_compare.specs.Differences as spec;
 ghost use Rattle.csp_compare.specs.Tasks.{IsTableOf, IsTask};
+ghost use Rattle.csp_compare.specs.declared.difference.Known.TheVariants.{Included};
 ghost use Rattle.csp_model.specs.Policies.{IsReadable};
 ghost use Rattle.csp_search.specs.declared.searching.Effort.TheVariants.{Whole};
 ghost use Rattle.csp_shape.specs.Numbers.{shape_count};
@@ -22,27 +23,6 @@ use csp_valuation::Valuation;
 use std::alloc::Global;
 use std::collections::BTreeMap;
 
-// The effective directives of all checks.
-const EFFECTIVE: [Name; 17] = [
-    Name::ConnectSrc,
-    Name::FontSrc,
-    Name::FrameSrc,
-    Name::ImgSrc,
-    Name::ManifestSrc,
-    Name::MediaSrc,
-    Name::ObjectSrc,
-    Name::StyleSrcElem,
-    Name::ScriptSrcElem,
-    Name::WorkerSrc,
-    Name::ScriptSrcAttr,
-    Name::StyleSrcAttr,
-    Name::ScriptSrc,
-    Name::BaseUri,
-    Name::FormAction,
-    Name::FrameAncestors,
-    Name::Sandbox,
-];
-
 /// A valid check that the first of two lists allows and the second doesn't. None comes exactly where the
 /// second list allows every valid check that the first allows. No proof is made; `compare` makes one.
 pub fn find_difference(
@@ -54,7 +34,33 @@ pub fn find_difference(
     requires second { IsReadable second.now }
     ensures { IfOk result (spec.IsDifference first.now second.now) }
 {
-    find_difference_among(alloc, first, second, &EFFECTIVE)
+    find_difference_among(alloc, first, second, effective_directives())
+}
+
+/// The effective directives that checks have (Content Security Policy Level 3, sections 6.8.1 and 6.8.2), each
+/// once.
+pub fn effective_directives() -> &'static [Name]
+    ensures { result.now ≡ spec.effective_names }
+{
+    &[
+        Name::ConnectSrc,
+        Name::FontSrc,
+        Name::FrameSrc,
+        Name::ImgSrc,
+        Name::ManifestSrc,
+        Name::MediaSrc,
+        Name::ObjectSrc,
+        Name::StyleSrcElem,
+        Name::ScriptSrcElem,
+        Name::WorkerSrc,
+        Name::ScriptSrcAttr,
+        Name::StyleSrcAttr,
+        Name::ScriptSrc,
+        Name::BaseUri,
+        Name::FormAction,
+        Name::FrameAncestors,
+        Name::Sandbox,
+    ]
 }
 
 /// `find_difference` among the checks with one of these effective directives alone.
@@ -149,9 +155,10 @@ fn look_at<'a>(
     let Some(formulas) = table.kinds.get(*kind) else {
         unreachable!()
     };
-    match (known.get(kind), effort) {
-        (Some(Known::Included), _) | (Some(Known::Unsure), Effort::Short) => return Ok(None),
-        _ => {}
+    if let Some(state) = known.get(kind)
+        && is_enough(*state, effort)
+    {
+        return Ok(None);
     }
     match compare_at(alloc, task, shape, formulas, effort)? {
         Sight::Differs { check } => Ok(Some(check)),
@@ -164,6 +171,16 @@ fn look_at<'a>(
             Ok(None)
         }
     }
+}
+
+// Whether a look would tell no more.
+fn is_enough(known: Known, effort: Effort) -> bool
+    ensures { IsTrue result → effort ≡ Whole → known ≡ Included }
+{
+    matches!(
+        (known, effort),
+        (Known::Included, _) | (Known::Unsure, Effort::Short)
+    )
 }
 
 // What a look at a shape tells.

@@ -15,5 +15,5 @@ mod task;
 mod trees;
 
 pub use comparing::{Answer, compare};
-pub use difference::{find_difference, find_difference_among};
+pub use difference::{effective_directives, find_difference, find_difference_among};
 pub use residuals::residual;
