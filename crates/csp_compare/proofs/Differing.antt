@@ -1,6 +1,6 @@
 -- Where no shape shows a difference, there is none.
 use Rattle.std.proofs.Common.{arith, ◌≡◌, ◌∙◌, sym, ap, subst, refl, ℕ, zero, suc, ◌+◌, ◌<◌, cond, List, [], length, All, inl, inr}
-use Rattle.std.specs.Prelude.{Some, None, Contains, IsTrue, slice_get, ◌⊎◌}
+use Rattle.std.specs.Prelude.{Some, Contains, IsTrue, slice_get, ◌⊎◌}
 use Rattle.std.specs.BTreeMap.{BTreeMap, get}
 use Rattle.std.specs.Ordering.{nat_cmp, is_eq}
 use Rattle.std.proofs.lemmas.Bool.{cases_Bool, cond-true, cond-false}
@@ -22,9 +22,7 @@ use Rattle.csp_shape.specs.Shapes.{HasShape, is_shape}
 use Rattle.csp_shape.specs.declared.shape.Shape.{Shape}
 use Rattle.csp_shape.proofs.Apart.{one_shape}
 use Rattle.csp_shape.proofs.Checks.{shape_of, shaped, is_listed, is_only}
-use Rattle.csp_proof.specs.Accepts.{bad_case, hashes_in}
-use Rattle.csp_proof.specs.WellFormed.{Cases}
-use Rattle.csp_proof.proofs.Included.{included_at}
+use Rattle.csp_proof.specs.Accepts.{hashes_in}
 use Rattle.csp_proof.proofs.ReadableSaid.{AllSaid, are_said}
 use Rattle.csp_proof.proofs.ShapesListed.{within_count}
 use Rattle.csp_table.specs.Tables.{AreAt}
@@ -35,6 +33,7 @@ use Rattle.csp_compare.specs.Tasks.{lists_of, IsTask}
 use Rattle.csp_compare.specs.declared.difference.Known.{Known}
 use Rattle.csp_compare.specs.declared.difference.Known.TheVariants.{Included}
 use Rattle.csp_compare.specs.declared.task.Task.{Task}
+use Rattle.csp_compare.proofs.OneShape.{HasCases, included_at}
 use Rattle.csp_compare.proofs.SameSentences.{case_same}
 use Rattle.csp_compare.proofs.Sharing.{level}
 
@@ -97,10 +96,9 @@ pub none_differs : AllSaid → (task : Task) (effective : List Name) → IsTask 
 none_differs law task effective is below asked valid among allowed =
     let kind = shape_of asked in
     let lists = lists_of task in
-    let Shown : ℕ → Type 0 = λ n. (cases : Cases) × ((line : ℕ) → bad_case lists (at_shape kind n) [] line cases ≡ None) in
     let here = below kind (is_listed asked) (within_count kind) (subst (Contains effective) (sym (effective_shape asked)) among) in
-    let shown = subst (All Shown) is.policies (All-weaker (HasNodes lists kind) Shown (λ n has. (has.1.cases, has.1.accepted)) task.policies.now here) in
-    included_at lists kind (are_said law task.first.now task.second.now is.first is.second) shown asked valid (shaped asked) allowed
+    let shown = subst (All (HasCases lists kind)) is.policies (All-weaker (HasNodes lists kind) (HasCases lists kind) (λ n has. (has.1.cases, has.1.accepted)) task.policies.now here) in
+    included_at lists kind (are_said law task.first.now task.second.now is.first is.second) asked valid (shaped asked) allowed shown
 
 last_or_before : (m n : ℕ) → m < n + 1 → (m < n) ⊎ (m ≡ n)
 last_or_before zero zero small = inr refl

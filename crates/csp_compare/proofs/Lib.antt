@@ -6,6 +6,7 @@ pub mod Known
 pub mod LeftOver
 pub mod LeftParts
 pub mod NodesSame
+pub mod OneShape
 pub mod Refuting
 pub mod SameSentences
 pub mod Sharing

@@ -3,3 +3,4 @@ pub mod Comparisons
 pub mod Drills
 pub mod Lines
 pub mod Statuses
+pub mod Tidyings

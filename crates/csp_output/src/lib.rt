@@ -10,6 +10,7 @@ pub mod laws;
 mod lines;
 mod shown_items;
 mod status;
+mod tidy;
 mod verdict_lines;
 
 pub use acceptance::check;
@@ -17,4 +18,5 @@ pub use built::Built;
 pub use comparison::compare;
 pub use exercise::drill;
 pub use status::{Status, exit_code};
+pub use tidy::tidy;
 pub use verdict_lines::VerdictLines;

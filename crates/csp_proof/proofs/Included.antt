@@ -5,7 +5,7 @@ use Rattle.std.specs.List.{flat_map, list_all}
 use Rattle.std.proofs.lemmas.Bool.{cases_Bool, and_parts, and_from, or_left, or_right, cond-true, cond-false, not_from_false}
 use Rattle.std.proofs.lemmas.Option.{get_or_from_slice_get, slice_get_within}
 use Rattle.std.proofs.lemmas.List.{length_push}
-use Rattle.std.proofs.lemmas.List.Elements.{All-nil, All-push, All-get_or, All-head, All-tail}
+use Rattle.std.proofs.lemmas.List.Elements.{All-nil, All-push, All-get_or}
 use Rattle.csp_model.specs.DecideVerdict.{allows}
 use Rattle.csp_model.specs.Inclusion.{Subsumes}
 use Rattle.csp_model.specs.Validity.{IsValidCheck}
@@ -186,20 +186,3 @@ module _ (lists : Lists) (asked : Check) (valid : IsValidCheck asked) (by_first 
 pub included : (first second : PolicyList) (proof : Proof) → AreSaid first second → IsAccepted first second proof → Subsumes first second
 included first second proof said accepted asked valid allowed =
     all_sound (record { first = first; second = second }) asked valid said.by_first said.by_second allowed proof.trees proof.last_line proof.trees accepted
-
--- One shape
-
--- trees for the pairs of a shape show that the second list allows the checks of the shape that the first allows
-pub included_at : (lists : Lists) (kind : Shape) → AreSaid lists.first lists.second
-    → All (λ (n : ℕ). (cases : Cases) × ((line : ℕ) → bad_case lists (record { shape = kind; policy = n }) [] line cases ≡ None)) (enforced lists.second)
-    → (asked : Check) → IsValidCheck asked → HasShape asked kind → list_allows lists.first asked ≡ true → list_allows lists.second asked ≡ true
-included_at lists kind said shown asked valid has allowed =
-    enforced_allow lists asked valid said.by_first said.by_second allowed [] lists.second.policies refl (each (enforced lists.second) shown) where
-      IsShown : ℕ → Type 0
-      IsShown n = (cases : Cases) × ((line : ℕ) → bad_case lists (record { shape = kind; policy = n }) [] line cases ≡ None)
-      each : (ns : List ℕ) → All IsShown ns → Each (Allowed lists asked valid said.by_first said.by_second allowed) ns
-      each [] all = tt
-      each (n ∷ ns) all =
-          let here = All-head IsShown n ns all in
-          (case_sound lists asked valid said.by_first said.by_second allowed here.0 (record { shape = kind; policy = n }) [] 0 has (All-nil (λ l. IsTrue (is_true_of (hashes_in lists) asked l))) (here.1 0),
-          each ns (All-tail IsShown n ns all))

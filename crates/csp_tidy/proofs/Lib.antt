@@ -1,0 +1,5 @@
+pub mod Changes
+pub mod Listed
+pub mod Local
+pub mod Readable
+pub mod Steps
