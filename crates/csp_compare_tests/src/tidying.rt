@@ -1,8 +1,6 @@
 //! Tests of csp_tidy. What comes of a list is read again and compared with it both ways, and each check is judged
 //! by the list and by the list without the token.
 ghost use Rattle.csp_model.specs.Policies.{IsReadable};
-ghost use Rattle.csp_tidy.specs.Tidied.{AreNumbered};
-ghost use Rattle.std.specs.Prelude.{IsTrue};
 
 use crate::values::policies;
 use csp_compare::find_difference;
@@ -12,16 +10,6 @@ use csp_verdict::list_allows;
 use std::alloc::Global;
 use std::process::Abort;
 use std::test::Fail;
-
-// Whether the directives of each policy can be numbered.
-fn are_numbered(list: &PolicyList) -> bool
-    ensures { IsTrue result → AreNumbered list.now }
-{
-    list.policies
-        .as_slice()
-        .iter()
-        .all(|policy| policy.directives.len() < 4_294_967_296)
-}
 
 // A directive as it is written, without the token of this number.
 fn push_directive(
@@ -87,7 +75,6 @@ fn are_equivalent(alloc: Global, one: &PolicyList, other: &PolicyList) -> Result
 // What comes of a list, once it is confirmed.
 pub(crate) fn tidied(rt: &(impl Abort + AllocGlobal), block: &str) -> Result<Tidied, Fail> {
     let list = policies(rt, block)?;
-    assert!(rt; are_numbered(&list));
     let tidied = tidy(rt.alloc(), &list)?;
     let lines = header_lines(rt.alloc(), &tidied.list, None)?;
     let again = policies(rt, lines.as_str())?;

@@ -3,7 +3,6 @@ ghost use Rattle.std.specs.Prelude.{◌≡◌, ◌++◌, IfOk, OnOk};
 ghost use Rattle.std.specs.List.{flat_map};
 ghost use Rattle.csp_model.specs.Policies.{IsReadable};
 ghost use Rattle.csp_model.specs.Validity.{IsValidCheck};
-ghost use Rattle.csp_tidy.specs.Tidied.{AreNumbered};
 ghost use Rattle.csp_output.specs.Tidyings as spec;
 
 use crate::built::Built;
@@ -20,8 +19,7 @@ use std::alloc::Global;
 /// What `tidy` prints: the line `tidied`, a header line for each policy of an equivalent list without tokens that
 /// change nothing, two lines for each token that stays, and a proof of each inclusion.
 pub fn tidy(alloc: Global, list: &PolicyList) -> Result<Built, Memory>
-    requires readable { IsReadable list.now }
-    requires numbered { AreNumbered list.now }
+    requires { IsReadable list.now }
     ensures { IfOk result (spec.IsTidying list.now) }
 {
     let tidied = answer(alloc, list)?;

@@ -1,28 +1,22 @@
 -- What two searches for a difference tell of a token, among the checks that its directive governs.
-use Rattle.std.proofs.Common.{arith, ◌≡◌, ◌∙◌, sym, ap, subst, refl, ℕ, zero, suc, ◌<◌, ◌≤◌, ◌^◌, Bool, true, false, not, List, [], ◌∷◌, length, get_or, All, inl, inr}
+use Rattle.std.proofs.Common.{arith, ◌≡◌, ◌∙◌, sym, ap, subst, refl, ℕ, zero, suc, Bool, true, false, not, List, [], ◌∷◌, inl, inr}
 use Rattle.std.specs.Prelude.{Option, Some, None, Contains, MatchOption, slice_get, ◌⊎◌}
-use Rattle.std.specs.List.{filter, sum_by}
+use Rattle.std.specs.List.{filter}
 use Rattle.std.proofs.lemmas.Bool.{cases_Bool, cond-true, cond-false}
-use Rattle.std.proofs.lemmas.List.{length-map}
-use Rattle.std.proofs.lemmas.List.Elements.{All-get_or}
-use Rattle.std.proofs.lemmas.List.Sums.{get_or-le-sum_by}
-use Rattle.std.proofs.lemmas.Option.{get_or_from_slice_get, slice_get_within}
 use Rattle.csp_compare.specs.Answers.{IsCounterexample}
 use Rattle.csp_compare.specs.Differences.{SubsumesAmong, effective_names}
 use Rattle.csp_compare.proofs.Differing.{has_effective}
-use Rattle.csp_model.specs.Policies.{IsReadable, token_count}
 use Rattle.csp_model.specs.Verdict.{effective_name, list_allows}
 use Rattle.csp_model.specs.declared.check.Check.{Check}
 use Rattle.csp_model.specs.declared.name.Name.{Name}
 use Rattle.csp_model.specs.declared.policy.Directive.{Directive}
 use Rattle.csp_model.specs.declared.policy.Policy.{Policy}
 use Rattle.csp_model.specs.declared.policy.PolicyList.{PolicyList}
-use Rattle.csp_model.specs.declared.source.Source.{Source}
-use Rattle.csp_tidy.specs.Asking.{GovernsAt, IsNumbered}
-use Rattle.csp_tidy.specs.Candidates.{IsCandidate, IsCandidateOf, IsCandidateIn, is_report_sample, without}
+use Rattle.csp_tidy.specs.Asking.{GovernsAt}
+use Rattle.csp_tidy.specs.Candidates.{without}
 use Rattle.csp_tidy.specs.Governed.{governs}
 use Rattle.csp_tidy.specs.Thinnings.{AreEquivalent}
-use Rattle.csp_tidy.specs.Tidied.{AreNumbered, IsNeeded, place_of}
+use Rattle.csp_tidy.specs.Tidied.{IsNeeded, place_of}
 use Rattle.csp_tidy.specs.declared.place.Place.{Place}
 use Rattle.csp_tidy.specs.declared.tidying.Needed.{Needed}
 use Rattle.csp_tidy.proofs.Local.{list_same}
@@ -32,12 +26,6 @@ use Rattle.csp_tidy.proofs.Local.{list_same}
 pub at_option : {A : Type 0} (P : A → Type 0) (o : Option A) → MatchOption o ⊥ P → (x : A) × (o ≡ Some x) × P x
 at_option P None is = absurd is
 at_option P (Some x) is = (x, refl, is)
-
-all_at : {A : Type 0} (P : A → Type 0) (xs : List A) (i : ℕ) (x : A) → All P xs → slice_get xs i ≡ Some x → P x
-all_at P xs i x all is = subst P (get_or_from_slice_get xs i x x is) (All-get_or P xs i x (slice_get_within xs i x is) all)
-
-within_sum : {A : Type 0} (f : A → ℕ) (xs : List A) (i : ℕ) (x : A) → slice_get xs i ≡ Some x → f x ≤ sum_by f xs
-within_sum f xs i x is = subst (λ y. f y ≤ sum_by f xs) (get_or_from_slice_get xs i x x is) (get_or-le-sum_by f xs i x (slice_get_within xs i x is))
 
 contains_tail : {A : Type 0} (y : A) (ys : List A) (x : A) → Contains (y ∷ ys) x → (y ≡ x) ⊎ Contains ys x
 contains_tail y ys x (zero, within, is) = inl is
@@ -59,29 +47,6 @@ contains_filter p (y ∷ ys) x passes has = elim (contains_tail y ys x has) [
         | inr drops ↦ subst (λ zs. Contains zs x) (sym (cond-false (p y) (y ∷ filter p ys) (filter p ys) drops)) rest
       ]
 ]
-
--- Places
-
-pub numbered_place : (list : PolicyList) (place : Place) → IsReadable list → AreNumbered list → IsCandidate list place → IsNumbered place
-numbered_place list place readable numbered is =
-    let p = at_option (λ (p : Policy). IsCandidateOf p place.directive place.token) (slice_get list.policies place.policy) is in
-    let d = at_option (λ (d : Directive). IsCandidateIn d place.token) (slice_get p.0.directives place.directive) p.2.1 in
-    let s = at_option (λ (s : Source). is_report_sample s ≡ false) (slice_get d.0.sources place.token) d.2.1 in
-    let few = readable.policies in
-    let tokens = readable.tokens in
-    let at_policy = slice_get_within list.policies place.policy p.0 p.1 in
-    let at_directive = slice_get_within p.0.directives place.directive d.0 d.1 in
-    let at_token = slice_get_within d.0.sources place.token s.0 s.1 in
-    let read = ap length (all_at _ p.0.directives place.directive d.0 (all_at _ list.policies place.policy p.0 readable.each p.1).read d.1) in
-    let counted = length-map d.0.tokens _ in
-    let some = all_at (λ (q : Policy). length q.directives < 2 ^ 32) list.policies place.policy p.0 numbered p.1 in
-    let of_directive = within_sum (λ (e : Directive). length e.tokens) p.0.directives place.directive d.0 d.1 in
-    let of_policy = within_sum (λ (q : Policy). sum_by (λ (e : Directive). length e.tokens) q.directives) list.policies place.policy p.0 p.1 in
-    record {
-      policy = omega (arith, at_policy, few);
-      directive = omega (arith, at_directive, some);
-      token = omega (arith, at_token, read, counted, of_directive, of_policy, tokens);
-    }
 
 -- Entries
 

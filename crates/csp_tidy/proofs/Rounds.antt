@@ -1,18 +1,16 @@
 -- Rounds over the candidates of a list.
-use Rattle.std.proofs.Common.{arith, ◌≡◌, ◌∙◌, sym, ap, subst, refl, ℕ, ◌<◌, ◌≤◌, ◌^◌, List, [], ◌∷◌, ◌++◌, length, map, append_assoc, reverse, All}
+use Rattle.std.proofs.Common.{arith, ◌≡◌, ◌∙◌, sym, ap, subst, ◌<◌, List, [], ◌∷◌, ◌++◌, map, append_assoc, reverse, All}
 use Rattle.std.proofs.Math.Nat.{le_trans}
 use Rattle.std.proofs.lemmas.List.{reverse-append}
 use Rattle.std.proofs.lemmas.List.Elements.{All-head, All-tail}
 use Rattle.csp_model.specs.Policies.{IsReadable, token_count}
-use Rattle.csp_model.specs.declared.policy.Policy.{Policy}
 use Rattle.csp_model.specs.declared.policy.PolicyList.{PolicyList}
 use Rattle.csp_tidy.specs.Asking.{IsThinner}
-use Rattle.csp_tidy.specs.Candidates.{IsCandidate, candidates, directive_without, policy_without, without}
+use Rattle.csp_tidy.specs.Candidates.{IsCandidate, candidates, without}
 use Rattle.csp_tidy.specs.Thinnings.{AreEquivalent, IsThinning}
-use Rattle.csp_tidy.specs.Tidied.{AreNumbered, place_of}
+use Rattle.csp_tidy.specs.Tidied.{place_of}
 use Rattle.csp_tidy.specs.declared.place.Place.{Place}
 use Rattle.csp_tidy.specs.declared.tidying.Needed.{Needed}
-use Rattle.csp_tidy.proofs.Changes.{all_changed, length_change}
 use Rattle.csp_tidy.proofs.Fewer.{fewer_tokens}
 use Rattle.csp_tidy.proofs.Listed.{candidates_are}
 use Rattle.csp_tidy.proofs.Readable.{readable_without}
@@ -40,15 +38,9 @@ entries_more list places old place needed entry is at whole =
 
 -- Thinner lists
 
-numbered_without : (list : PolicyList) (place : Place) → AreNumbered list → AreNumbered (without list place)
-numbered_without list place numbered =
-    all_changed (λ (p : Policy). length p.directives < 2 ^ 32) (policy_without place.directive place.token) place.policy list.policies
-    (λ p small. let same = length_change (directive_without place.token) place.directive p.directives in omega (arith, same, small)) numbered
-
-pub thinner_itself : (list : PolicyList) → IsReadable list → AreNumbered list → IsThinner list list
-thinner_itself list readable numbered = record {
+pub thinner_itself : (list : PolicyList) → IsReadable list → IsThinner list list
+thinner_itself list readable = record {
   readable = readable;
-  numbered = numbered;
   thinning = λ first thins. thins;
   equivalent = (λ asked valid allowed. allowed, λ asked valid allowed. allowed);
   fewer = omega arith;
@@ -62,7 +54,6 @@ thinner_more first list thinner place is candidate made equivalent =
     let count = ap (λ (l : PolicyList). token_count l.policies) made in (
       record {
         readable = subst IsReadable (sym made) (readable_without list place is.readable);
-        numbered = subst AreNumbered (sym made) (numbered_without list place is.numbered);
         thinning = λ one thins. subst (IsThinning one) (sym made) (thins_more one list place (is.thinning one thins) candidate);
         equivalent = (λ asked valid allowed. equivalent.0 asked valid (is.equivalent.0 asked valid allowed), λ asked valid allowed. is.equivalent.1 asked valid (equivalent.1 asked valid allowed));
         fewer = omega (arith, fewer, few, count);
@@ -73,7 +64,6 @@ thinner_more first list thinner place is candidate made equivalent =
 pub thinner_joined : (one two three : PolicyList) → IsThinner one two → IsThinner two three → IsThinner one three
 thinner_joined one two three first second = record {
   readable = second.readable;
-  numbered = second.numbered;
   thinning = λ old thins. second.thinning old (first.thinning old thins);
   equivalent = (λ asked valid allowed. second.equivalent.0 asked valid (first.equivalent.0 asked valid allowed), λ asked valid allowed. first.equivalent.1 asked valid (second.equivalent.1 asked valid allowed));
   fewer = le_trans second.fewer first.fewer;

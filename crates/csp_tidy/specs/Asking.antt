@@ -1,6 +1,6 @@
 -- Words of private contracts, which stand here since contracts cite only specs/: what comes of asking whether a
 -- token can go, and of a round over all candidates.
-use Rattle.std.specs.Prelude.{◌≡◌, ℕ, ◌<◌, ◌≤◌, ◌^◌, List, map, All, MatchOption, slice_get}
+use Rattle.std.specs.Prelude.{◌≡◌, ℕ, ◌<◌, ◌≤◌, List, map, All, MatchOption, slice_get}
 use Rattle.std.specs.List.{filter}
 use Rattle.csp_compare.specs.Differences.{effective_names}
 use Rattle.csp_model.specs.Policies.{IsReadable, token_count}
@@ -11,7 +11,7 @@ use Rattle.csp_model.specs.declared.policy.PolicyList.{PolicyList}
 use Rattle.csp_tidy.specs.Candidates.{candidates, without}
 use Rattle.csp_tidy.specs.Governed.{governs}
 use Rattle.csp_tidy.specs.Thinnings.{AreEquivalent, IsThinning}
-use Rattle.csp_tidy.specs.Tidied.{AreNumbered, IsNeeded, place_of}
+use Rattle.csp_tidy.specs.Tidied.{IsNeeded, place_of}
 use Rattle.csp_tidy.specs.declared.asking.Asked.{Asked}
 use Rattle.csp_tidy.specs.declared.asking.Asked.TheVariants as asked
 use Rattle.csp_tidy.specs.declared.place.Place.{Place}
@@ -26,12 +26,6 @@ GovernsAt list place names =
     MatchOption (slice_get p.directives place.directive) ⊥ (λ (d : Directive).
     names ≡ filter (governs p d) effective_names))
 
--- the numbers of the place fit
-pub record IsNumbered (place : Place) : Type 0 where
-  pub policy : place.policy < 2 ^ 32
-  pub directive : place.directive < 2 ^ 32
-  pub token : place.token < 2 ^ 32
-
 -- an entry for the candidate, or the equivalent list without it
 abbrev pub IsAsked : PolicyList → Place → Asked → Type 0
 IsAsked list place (asked.Needed needed) = (place_of needed ≡ place) × IsNeeded list needed
@@ -40,7 +34,6 @@ IsAsked list place (asked.Spare thinner) = (thinner ≡ without list place) × A
 -- a list without some of the candidates that is equivalent; of what the old list is a thinning, it is one too
 pub record IsThinner (old new : PolicyList) : Type 0 where
   pub readable : IsReadable new
-  pub numbered : AreNumbered new
   pub thinning : (first : PolicyList) → IsThinning first old → IsThinning first new
   pub equivalent : AreEquivalent old new
   pub fewer : token_count new.policies ≤ token_count old.policies

@@ -12,10 +12,6 @@ use Rattle.csp_tidy.specs.declared.place.Place.{Place}
 use Rattle.csp_tidy.specs.declared.tidying.Needed.{Needed}
 use Rattle.csp_tidy.specs.declared.tidying.Tidied.{Tidied}
 
--- the directives of a policy can be numbered
-abbrev pub AreNumbered : PolicyList → Type 0
-AreNumbered list = All (λ (p : Policy). length p.directives < 2 ^ 32) list.policies
-
 abbrev pub place_of : Needed → Place
 place_of needed =
     record { policy = needed.policy; directive = needed.directive; token = needed.token }

@@ -3,7 +3,6 @@ ghost use Rattle.std.specs.Prelude.{◌≡◌, IfOk, IsTrue};
 ghost use Rattle.csp_model.specs.Policies.{IsReadable};
 ghost use Rattle.csp_tidy.specs.Asking as spec;
 ghost use Rattle.csp_tidy.specs.Candidates.{IsCandidate};
-ghost use Rattle.csp_tidy.specs.Tidied.{AreNumbered};
 
 use crate::asking::{Asked, ask};
 use crate::candidates::{candidates, is_candidate};
@@ -31,7 +30,6 @@ pub(crate) enum Round {
 // Goes round until no candidate can be taken away. One token that goes can let another one go.
 pub(crate) fn settle(alloc: Global, list: &PolicyList) -> Result<Settled, Memory>
     requires readable { IsReadable list.now }
-    requires numbered { AreNumbered list.now }
     ensures { IfOk result (spec.IsSettled list.now) }
 {
     let mut current = list.copy(alloc)?;
@@ -51,7 +49,6 @@ pub(crate) fn settle(alloc: Global, list: &PolicyList) -> Result<Settled, Memory
 // Asks of each candidate, from the last to the first, whether it can go.
 fn go_round(alloc: Global, list: &PolicyList) -> Result<Round, Memory>
     requires readable { IsReadable list.now }
-    requires numbered { AreNumbered list.now }
     ensures { IfOk result (spec.IsRound list.now) }
 {
     let mut places = candidates(alloc, list)?;
@@ -74,7 +71,6 @@ fn go_round(alloc: Global, list: &PolicyList) -> Result<Round, Memory>
 // Takes away what can go of the tokens at these places, from the last to the first.
 fn thin(alloc: Global, list: PolicyList, places: Vec<Place>) -> Result<PolicyList, Memory>
     requires readable { IsReadable list }
-    requires numbered { AreNumbered list }
     ensures { IfOk result (spec.IsThinner list) }
 {
     let mut current = list;

@@ -44,8 +44,7 @@ pub struct Tidied {
 /// `form-action` and `frame-ancestors`. A directive without tokens stays, since it allows nothing, and
 /// `'report-sample'` stays, since it allows nothing anyway.
 pub fn tidy(alloc: Global, list: &PolicyList) -> Result<Tidied, Memory>
-    requires readable { IsReadable list.now }
-    requires numbered { spec.AreNumbered list.now }
+    requires { IsReadable list.now }
     ensures { IfOk result (spec.IsTidied list.now) }
 {
     let Settled {
