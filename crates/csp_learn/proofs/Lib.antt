@@ -1,0 +1,9 @@
+pub mod Chosen
+pub mod HostNames
+pub mod Decimals
+pub mod NeededTokens
+pub mod NeedSets
+pub mod Governed
+pub mod LogLaws
+pub mod Elsewhere
+pub mod AllowedSaid

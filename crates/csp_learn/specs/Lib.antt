@@ -1,0 +1,4 @@
+pub mod Allowed
+pub mod Logs
+pub mod Needs
+pub mod Policies

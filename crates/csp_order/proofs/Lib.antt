@@ -1,0 +1,4 @@
+pub mod PairsApart
+pub mod PairsListed
+pub mod ReasonsGiven
+pub mod WaysFound

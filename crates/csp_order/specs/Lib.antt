@@ -1,0 +1,5 @@
+pub mod Chains
+pub mod Pairs
+pub mod Relations
+pub mod Trials
+pub mod Ways

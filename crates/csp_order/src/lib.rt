@@ -1,0 +1,13 @@
+//! Which of many lists of policies are at least as strict as which.
+#![tactic(auto)]
+
+mod chain;
+mod known;
+mod ordering;
+mod pair;
+mod relation;
+mod trials;
+mod way;
+
+pub use ordering::order;
+pub use relation::{Because, Relation};
