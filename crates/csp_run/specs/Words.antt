@@ -97,14 +97,15 @@ with_form None word names = Err Usage
 with_form (Some form) word names =
     if takes form (length names) then with_origin form (origin_for form word) names else Err Usage
 
-abbrev pub with_embedder : Option Origin → Option Origin → List (List ℕ) → Result Plan Fault
-with_embedder None origin names = Err BadOrigin
-with_embedder (Some embedder) origin names = with_origin (Embed embedder) origin names
+abbrev pub with_embedder : Option Origin → List ℕ → List (List ℕ) → Result Plan Fault
+with_embedder None word names = Err BadOrigin
+with_embedder (Some embedder) word names =
+    with_origin (Embed embedder) (origin_for (Embed embedder) word) names
 
 -- what `embed` asks for by the words behind it: the origin of the embedder, that of the response, and two names
 abbrev pub embed_plan : List ℕ → List (List ℕ) → Result Plan Fault
-embed_plan embedder (origin ∷ names) =
-    if length names == 2 then with_embedder (origin_of embedder) (origin_of origin) names else Err Usage
+embed_plan embedder (word ∷ names) =
+    if length names == 2 then with_embedder (origin_of embedder) word names else Err Usage
 embed_plan embedder [] = Err Usage
 
 -- what these words ask for, or why it is nothing: a verb, an origin or a number, and the names of files

@@ -103,16 +103,11 @@ fn embed_plan<'a>(alloc: Global, embedder: &str, words: &'a [Text]) -> Result<Pl
     ensures takes { IfOk result (λ plan. IsTrue (spec.takes plan.form (length plan.names.now))) }
     ensures valid { IfOk result (λ plan. IsValidOrigin plan.origin) }
 {
-    match words {
-        [origin, names @ ..] if names.len() == 2 => {
-            let embedder = read_origin(alloc, embedder)?;
-            let origin = read_origin(alloc, origin.as_str())?;
-            Ok(Plan {
-                form: Form::Embed { embedder },
-                origin,
-                names,
-            })
-        }
+    match words.split_first() {
+        Some((origin, names)) if names.len() == 2 => match read_origin(alloc, embedder) {
+            Ok(embedder) => plan_at(alloc, Form::Embed { embedder }, origin.as_str(), names),
+            Err(error) => Err(Fault::from(error)),
+        },
         _ => Err(Fault::Usage),
     }
 }
@@ -129,16 +124,25 @@ fn plan_with<'a>(
     ensures valid { IfOk result (λ plan. IsValidOrigin plan.origin) }
 {
     match form {
-        Some(form) if takes(&form, names.len()) => {
-            let origin = origin_for(alloc, &form, word)?;
-            Ok(Plan {
-                form,
-                origin,
-                names,
-            })
-        }
+        Some(form) if takes(&form, names.len()) => plan_at(alloc, form, word, names),
         _ => Err(Fault::Usage),
     }
+}
+
+// What a form asks for by the word for its origin and by the names of its files, which are as many as it takes.
+fn plan_at<'a>(alloc: Global, form: Form, word: &str, names: &'a [Text]) -> Result<Plan<'a>, Fault>
+    requires { IsTrue (spec.takes form (length names.now)) }
+    ensures plan { result ≢ Err Fault.Memory
+        → shown result ≡ spec.with_origin form (spec.origin_for form word.now) names.now }
+    ensures takes { IfOk result (λ plan. IsTrue (spec.takes plan.form (length plan.names.now))) }
+    ensures valid { IfOk result (λ plan. IsValidOrigin plan.origin) }
+{
+    let origin = origin_for(alloc, &form, word)?;
+    Ok(Plan {
+        form,
+        origin,
+        names,
+    })
 }
 
 // The origin of the policies of a form's files, which the word behind the verb is. A drill reads no file, and

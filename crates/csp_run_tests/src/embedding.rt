@@ -1,5 +1,5 @@
 //! Runs of `embed`, and the order of its tests.
-use crate::runs::{inputs, judged, written};
+use crate::runs::{inputs, written};
 use csp_run::Status;
 use std::test::Fail;
 
@@ -87,7 +87,8 @@ const RUNS: [(&str, &str, Status, &str); 14] = [
 #[test]
 fn runs_of_embed(rt: HostRuntime) -> Result<(), Fail> {
     for &(required, response, status, begins) in &RUNS {
-        let (found, text) = judged(rt.alloc(), &WORDS, required, response)?;
+        let files = inputs(rt.alloc(), required, response, &[])?;
+        let (found, text) = written(rt.alloc(), &WORDS, files, 4000, &[])?;
         assert_eq!(rt; found, status, "at {required:?} and {response:?}");
         assert!(rt;
             text.as_slice().starts_with(begins.as_bytes()),
