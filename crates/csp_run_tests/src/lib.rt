@@ -9,6 +9,7 @@
 mod checks;
 #[cfg(test)]
 mod descriptions;
+#[cfg(test)]
 mod embedding;
 #[cfg(test)]
 mod faults;
