@@ -5,3 +5,4 @@ pub mod Embedded
 pub mod OneEmbedding
 pub mod OneStatus
 pub mod SameItems
+pub mod Shows
