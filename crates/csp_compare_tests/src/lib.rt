@@ -13,8 +13,6 @@ mod checks;
 #[cfg(test)]
 mod comparing;
 #[cfg(test)]
-mod embedding;
-#[cfg(test)]
 mod formulas;
 #[cfg(test)]
 mod generated;
