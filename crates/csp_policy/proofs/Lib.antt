@@ -3,6 +3,8 @@ pub mod Firsts
 pub mod Joined
 pub mod LinesSoFar
 pub mod NamedHeader
+pub mod PrintedLines
+pub mod ReadPolicies
 pub mod Readable
 pub mod Seen
 pub mod Shortened

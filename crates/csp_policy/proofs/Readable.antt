@@ -18,10 +18,10 @@ use Rattle.csp_model.specs.declared.url.Origin.{Origin}
 use Rattle.csp_policy.specs.Refusal.{excess}
 use Rattle.csp_policy.specs.declared.error.BlockError.TheVariants.{TooManyPolicies, TooManySources, LongToken}
 
-abbrev HasRead : Directive → Type 0
+abbrev pub HasRead : Directive → Type 0
 HasRead d = d.sources ≡ map source_of d.tokens
 
-abbrev AreOthers : Directive → Directive → Type 0
+abbrev pub AreOthers : Directive → Directive → Type 0
 AreOthers d e = d.name ≢ e.name
 
 -- Names

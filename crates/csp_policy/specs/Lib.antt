@@ -1,4 +1,5 @@
 pub mod Fields
+pub mod HeaderLines
 pub mod Lines
 pub mod Names
 pub mod Pieces

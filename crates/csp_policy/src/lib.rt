@@ -6,6 +6,7 @@ mod caseless_name;
 mod directive;
 mod error;
 mod fields;
+pub mod laws;
 mod lines;
 mod longest;
 mod pieces;
