@@ -1,10 +1,12 @@
 pub mod Adding
+pub mod Differing
 pub mod Ending
 pub mod EnforcedPolicies
 pub mod Known
 pub mod LeftOver
 pub mod LeftParts
 pub mod NodesSame
+pub mod OneShape
 pub mod Refuting
 pub mod SameSentences
 pub mod Sharing

@@ -33,7 +33,7 @@ policy_same expected hashes kind other literals (p ∷ ps) (suc i) same =
 module _ (lists : Lists) (kind other : Shape) (policy : ℕ)
     (by_first : said_of (hashes_in lists) kind lists.first ≡ said_of (hashes_in lists) other lists.first)
     (by_second : said_of (hashes_in lists) kind lists.second ≡ said_of (hashes_in lists) other lists.second) where
-  case_same : (cases : Cases) (literals : List Literal) (line : ℕ) → bad_case lists (at_shape kind policy) literals line cases ≡ bad_case lists (at_shape other policy) literals line cases
+  pub case_same : (cases : Cases) (literals : List Literal) (line : ℕ) → bad_case lists (at_shape kind policy) literals line cases ≡ bad_case lists (at_shape other policy) literals line cases
   case_same (IsBlocked blocked) literals line = ap (λ (b : Bool). unless b line) (policy_same false (hashes_in lists) kind other literals lists.first.policies blocked by_first)
   case_same IsMet literals line = ap (λ (b : Bool). unless b line) (policy_same true (hashes_in lists) kind other literals lists.second.policies policy by_second)
   case_same (Splits atom holds_case fails_case) literals line =

@@ -1,4 +1,5 @@
 pub mod Answers
+pub mod Differences
 pub mod Drafts
 pub mod Residuals
 pub mod Tasks

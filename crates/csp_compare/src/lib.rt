@@ -3,6 +3,7 @@
 #![tactic(auto)]
 
 mod comparing;
+mod difference;
 mod draft;
 mod enforced;
 mod kinds;
@@ -14,4 +15,5 @@ mod task;
 mod trees;
 
 pub use comparing::{Answer, compare};
+pub use difference::{effective_directives, find_difference, find_difference_among};
 pub use residuals::residual;

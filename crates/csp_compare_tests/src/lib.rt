@@ -13,6 +13,10 @@ mod checks;
 #[cfg(test)]
 mod comparing;
 #[cfg(test)]
+mod differences;
+#[cfg(test)]
+mod embedding;
+#[cfg(test)]
 mod formulas;
 #[cfg(test)]
 mod generated;

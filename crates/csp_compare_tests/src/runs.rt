@@ -196,22 +196,6 @@ fn proofs_that_are_checked(rt: HostRuntime) -> Result<(), Fail> {
     Ok(())
 }
 
-// A missing file is a fault of its own role.
-#[test]
-fn files_that_are_not_there(rt: HostRuntime) -> Result<(), Fail> {
-    for &(count, text) in &[
-        (0, "read fault: first\n"),
-        (1, "read fault: second\n"),
-        (2, "read fault: proof\n"),
-    ] {
-        let files: [&[u8]; 3] = [b"", b"", b"csp-proof 1\nend\n"];
-        let (status, answer) = written(rt.alloc(), &CHECK, files.get(..count).unwrap_or(&[]))?;
-        assert_eq!(rt; status, Status::ReadFault, "{text}");
-        assert_eq!(rt; answer.as_slice(), text.as_bytes(), "{text}");
-    }
-    Ok(())
-}
-
 // The drill of three hosts, of which the second list lacks the last.
 const FOUND: &str = "drill 3 found\nnot subsumed\n\
     {\"destination\":\"image\",\"integrity\":\"\",\"kind\":\"fetch\",\"nonce\":\"\",\"parser-inserted\":false,\"redirects\":0,\"url\":{\"host\":\"h3.example\",\"path\":\"/d3/\",\"port\":8003,\"scheme\":\"https\"}}\n\

@@ -1,0 +1,110 @@
+-- Where two lists of policies differ, among the checks with some effective directives; and words of private
+-- contracts, which stand here since contracts cite only specs/.
+use Rattle.std.specs.Prelude.{◌≡◌, ℕ, List, [], ◌∷◌, Option, Some, None, All, Contains, IsTrue, MatchOption, slice_get, ◌<◌}
+use Rattle.std.specs.BTreeMap.{BTreeMap, get}
+use Rattle.std.specs.Ordering.{nat_cmp}
+use Rattle.csp_model.specs.Inclusion.{Subsumes}
+use Rattle.csp_model.specs.Names.{group_directive, inline_directive}
+use Rattle.csp_model.specs.Validity.{IsValidCheck}
+use Rattle.csp_model.specs.Verdict.{effective_name, list_allows}
+use Rattle.csp_model.specs.declared.check.Check.{Check}
+use Rattle.csp_model.specs.declared.name.Name.{Name}
+use Rattle.csp_model.specs.declared.name.Name.TheVariants.{ConnectSrc, FontSrc, FrameSrc, ImgSrc, ManifestSrc, MediaSrc, ObjectSrc, StyleSrcElem, ScriptSrcElem, WorkerSrc, ScriptSrcAttr, StyleSrcAttr, ScriptSrc, BaseUri, FormAction, FrameAncestors, Sandbox}
+use Rattle.csp_model.specs.declared.policy.PolicyList.{PolicyList}
+use Rattle.csp_proof.specs.Accepts.{Lists}
+use Rattle.csp_proof.specs.declared.proof.Node.{Node}
+use Rattle.csp_proof.specs.Pairs.{Pair}
+use Rattle.csp_search.specs.Answers.{ShowsInclusion, ShowsNone}
+use Rattle.csp_search.specs.declared.searching.Effort.{Effort}
+use Rattle.csp_search.specs.declared.searching.Effort.TheVariants.{Whole}
+use Rattle.csp_shape.specs.Numbers.{number}
+use Rattle.csp_shape.specs.Shapes.{is_shape}
+use Rattle.csp_shape.specs.declared.shape.Shape.{Shape}
+use Rattle.csp_shape.specs.declared.shape.Shape.TheVariants as shape
+use Rattle.csp_table.specs.Tables.{AreAt}
+use Rattle.csp_placed.specs.declared.placing.PlacedFormulas.{PlacedFormulas}
+use Rattle.csp_compare.specs.Answers.{IsCounterexample}
+use Rattle.csp_compare.specs.Drafts.{at_shape}
+use Rattle.csp_compare.specs.Tasks.{lists_of}
+use Rattle.csp_compare.specs.declared.difference.Known.{Known}
+use Rattle.csp_compare.specs.declared.difference.Known.TheVariants.{Included}
+use Rattle.csp_compare.specs.declared.difference.Sight.{Sight}
+use Rattle.csp_compare.specs.declared.difference.Sight.TheVariants as sight
+use Rattle.csp_compare.specs.declared.task.Task.{Task}
+
+-- the effective directives that checks have
+abbrev pub effective_names : List Name
+effective_names =
+    ConnectSrc ∷ FontSrc ∷ FrameSrc ∷ ImgSrc ∷ ManifestSrc ∷ MediaSrc ∷ ObjectSrc ∷ StyleSrcElem ∷ ScriptSrcElem
+    ∷ WorkerSrc ∷ ScriptSrcAttr ∷ StyleSrcAttr ∷ ScriptSrc ∷ BaseUri ∷ FormAction ∷ FrameAncestors ∷ Sandbox ∷ []
+
+-- every valid check with one of these effective directives that the first list allows the second allows
+abbrev pub SubsumesAmong : List Name → PolicyList → PolicyList → Type 0
+SubsumesAmong effective first second =
+    (asked : Check) → IsValidCheck asked → Contains effective (effective_name asked)
+    → IsTrue (list_allows first asked) → IsTrue (list_allows second asked)
+
+-- the check has one of these effective directives, and shows that the second list doesn't allow what the
+-- first allows
+abbrev pub DiffersAmong : List Name → PolicyList → PolicyList → Check → Type 0
+DiffersAmong effective first second asked =
+    IsCounterexample first second asked × Contains effective (effective_name asked)
+
+-- a check that shows that the second list doesn't allow what the first allows; none exactly where it does
+abbrev pub IsDifference : PolicyList → PolicyList → Option Check → Type 0
+IsDifference first second found = MatchOption found (Subsumes first second) (IsCounterexample first second)
+
+abbrev pub IsDifferenceAmong : List Name → PolicyList → PolicyList → Option Check → Type 0
+IsDifferenceAmong effective first second found =
+    MatchOption found (SubsumesAmong effective first second) (DiffersAmong effective first second)
+
+-- Words of private contracts
+
+-- the effective directive of the checks of a shape
+abbrev pub effective_of : Shape → Name
+effective_of (shape.Fetch group scheme redirected parser_inserted) = group_directive group
+effective_of (shape.Form scheme redirected) = FormAction
+effective_of (shape.Base scheme) = BaseUri
+effective_of (shape.Ancestor scheme) = FrameAncestors
+effective_of shape.OpaqueAncestor = FrameAncestors
+effective_of (shape.Inline kind) = inline_directive kind
+effective_of shape.Eval = ScriptSrc
+effective_of shape.Wasm = ScriptSrc
+effective_of (shape.Capability capability) = Sandbox
+effective_of shape.WorkerStart = Sandbox
+
+-- there are nodes that show the pair
+abbrev pub HasNodes : Lists → Shape → ℕ → Type 0
+HasNodes lists kind policy = (nodes : List Node) × ShowsInclusion lists (at_shape kind policy) nodes
+
+-- so it is for each enforced policy of the second list
+abbrev pub IsIncludedAt : Task → Shape → Type 0
+IsIncludedAt task kind = All (HasNodes (lists_of task) kind) task.policies.now
+
+-- a check of the shape that the second list refuses
+abbrev pub DiffersAt : Task → Shape → Check → Type 0
+DiffersAt task kind asked =
+    IsCounterexample task.first.now task.second.now asked × (effective_name asked ≡ effective_of kind)
+
+-- of one policy
+abbrev pub IsPairSight : Lists → Pair → Effort → Sight → Type 0
+IsPairSight lists pair effort (sight.Differs asked) = ShowsNone lists pair asked
+IsPairSight lists pair effort sight.Included = (nodes : List Node) × ShowsInclusion lists pair nodes
+IsPairSight lists pair effort sight.Unsure = effort ≡ Whole → ⊥
+
+abbrev pub IsSight : Task → Shape → Effort → Sight → Type 0
+IsSight task kind effort (sight.Differs asked) = DiffersAt task kind asked
+IsSight task kind effort sight.Included = IsIncludedAt task kind
+IsSight task kind effort sight.Unsure = effort ≡ Whole → ⊥
+
+-- a kind of formulas that counts as included is so at each shape at which the formulas are what the policies
+-- say
+abbrev pub AreIncluded : Task → List PlacedFormulas → BTreeMap ℕ Known → Type 0
+AreIncluded task kinds known = (place : ℕ) (placed : PlacedFormulas) (kind : Shape)
+    → get nat_cmp known place ≡ Some Included → slice_get kinds place ≡ Some placed
+    → AreAt task.vocabulary.now.hashes task.first.now task.second.now kind placed → IsIncludedAt task kind
+
+-- at the shapes with these effective directives that have a number below this one
+abbrev pub IsIncludedBelow : Task → List Name → ℕ → Type 0
+IsIncludedBelow task effective count = (kind : Shape) → IsTrue (is_shape kind) → number kind < count
+    → Contains effective (effective_of kind) → IsIncludedAt task kind
