@@ -5,3 +5,5 @@ pub mod Embedded
 pub mod OneEmbedding
 pub mod OneStatus
 pub mod SameItems
+pub mod OrderWritten
+pub mod Shows

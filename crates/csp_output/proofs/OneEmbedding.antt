@@ -9,12 +9,11 @@ use Rattle.csp_embed.specs.AllowFrom.{AllowsBlanketEnforcement}
 use Rattle.csp_embed.specs.Decisions.{IsDecision, Upholds, alone, enforced_list, with_added}
 use Rattle.csp_embed.specs.declared.decision.Decision.{Decision}
 use Rattle.csp_embed.specs.declared.decision.Decision.TheVariants.{Added, Served}
-use Rattle.csp_output.specs.Comparisons.{IsAnswerWith, IsInclusion}
 use Rattle.csp_output.specs.Embeddings.{IsEmbedding, IsEnforcedList, IsOwnAnswer, added_output, answer_word, first_line}
 use Rattle.csp_output.specs.declared.built.Built.{Built}
 use Rattle.csp_output.specs.declared.status.Status.{Status}
 use Rattle.csp_output.specs.declared.status.Status.TheVariants.{Clean, Found}
-use Rattle.csp_output.proofs.OneStatus.{clean_where_subsumed, same_status}
+use Rattle.csp_output.proofs.OneStatus.{clean_where_subsumed, inclusion, same_status}
 
 abbrev word_of : Status → List ℕ
 word_of Clean = codes "served"
@@ -79,12 +78,6 @@ one_word embedder required block response one other (inr is) (inr also) =
     own_line required response one is.1
     ∙ ap word_of (one_status embedder required block response one other (inr is) (inr also))
     ∙ sym (own_line required response other also.1)
-
-inclusion : (status : Status) (first second : PolicyList) (text : List ℕ) → status ≡ Clean
-    → IsAnswerWith status first second text → IsInclusion first second text
-inclusion Clean first second text clean is = is
-inclusion Found first second text clean is = absurd (cc clean)
-inclusion status first second text clean is = absurd is
 
 -- Where a decision upholds what is required, so does an answer that shows the response.
 pub upheld : ((allowed : Bool) (required : Policy) (response : PolicyList) (decision : Decision)

@@ -6,7 +6,7 @@ use Rattle.csp_model.specs.declared.policy.PolicyList.{PolicyList}
 use Rattle.csp_output.specs.declared.built.Built.{Built}
 use Rattle.csp_output.specs.declared.status.Status.{Status}
 use Rattle.csp_output.specs.declared.status.Status.TheVariants.{Clean, Found}
-use Rattle.csp_output.specs.Comparisons.{IsAnswerWith, IsComparison, IsDifference}
+use Rattle.csp_output.specs.Comparisons.{IsAnswerWith, IsComparison, IsDifference, IsInclusion}
 
 -- a difference refutes inclusion
 refuted : (first second : PolicyList) (text : List ℕ) → IsDifference first second text
@@ -20,9 +20,25 @@ with_status Clean first second text is = (λ _. is.subsumes, λ _. refl)
 with_status Found first second text is = (λ same. absurd (cc same), λ all. absurd (refuted first second text is all))
 with_status status first second text is = absurd is
 
+with_other : (status : Status) (first second : PolicyList) (text : List ℕ)
+    → IsAnswerWith status first second text → (status ≡ Found) ↔ (Subsumes first second → ⊥)
+with_other Clean first second text is = (λ same. absurd (cc same), λ no. absurd (no is.subsumes))
+with_other Found first second text is = (λ _. refuted first second text is, λ _. refl)
+with_other status first second text is = absurd is
+
+pub found_where_not : (first second : PolicyList) (built : Built) → IsComparison first second built
+    → (built.status ≡ Found) ↔ (Subsumes first second → ⊥)
+found_where_not first second built is = with_other built.status first second built.text is
+
 pub clean_where_subsumed : (first second : PolicyList) (built : Built) → IsComparison first second built
     → (built.status ≡ Clean) ↔ Subsumes first second
 clean_where_subsumed first second built is = with_status built.status first second built.text is
+
+pub inclusion : (status : Status) (first second : PolicyList) (text : List ℕ) → status ≡ Clean
+    → IsAnswerWith status first second text → IsInclusion first second text
+inclusion Clean first second text clean is = is
+inclusion Found first second text clean is = absurd (cc clean)
+inclusion status first second text clean is = absurd is
 
 both : (one other : Status) (first second : PolicyList) (a b : List ℕ) → IsAnswerWith one first second a
     → IsAnswerWith other first second b → one ≡ other

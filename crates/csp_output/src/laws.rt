@@ -1,13 +1,18 @@
 //! Laws of outputs and statuses, each the contract of a function with no body.
-ghost use Rattle.std.specs.Prelude.{◌≡◌, ◌↔◌, ◌⊎◌, ℕ, List, codes};
+ghost use Rattle.std.specs.Prelude.{◌≡◌, ◌↔◌, ◌⊎◌, ℕ, List, [], ◌∷◌, Any, codes};
 ghost use Rattle.csp_embed.specs.AllowFrom.{AllowsBlanketEnforcement};
 ghost use Rattle.csp_embed.specs.Decisions.{Upholds, alone};
 ghost use Rattle.csp_model.specs.Inclusion.{Subsumes};
+ghost use Rattle.csp_model.specs.Policies.{IsReadable};
+ghost use Rattle.csp_model.specs.Verdict.{verdict_of};
 ghost use Rattle.csp_model.specs.declared.policy.Disposition.TheVariants.{Enforce};
 ghost use Rattle.csp_model.specs.declared.policy.Policy.{Policy};
 ghost use Rattle.csp_model.specs.declared.policy.PolicyList.{PolicyList};
 ghost use Rattle.csp_model.specs.declared.url.Origin.{Origin};
-ghost use Rattle.csp_output.specs.Comparisons.{IsComparison};
+ghost use Rattle.csp_model.specs.declared.verdict.Item.{Item};
+ghost use Rattle.csp_proof.specs.Texts.{IsRefused};
+ghost use Rattle.csp_output.specs.Checks.{IsChecked};
+ghost use Rattle.csp_output.specs.Comparisons.{IsComparison, IsDifference};
 ghost use Rattle.csp_output.specs.Embeddings.{IsEmbedding, IsEnforcedList, first_line};
 ghost use Rattle.csp_output.specs.Statuses.{exit_code};
 ghost use Rattle.csp_output.specs.declared.built.Built.{Built};
@@ -15,15 +20,50 @@ ghost use Rattle.csp_output.specs.declared.status.Status.{Status};
 ghost use Rattle.csp_output.specs.declared.status.Status.TheVariants as status;
 
 use csp_embed::laws::what_is_enforced_upholds_the_requirement;
+use csp_model::laws::a_verdict_blocks_what_the_list_refuses;
+use csp_proof::laws::{a_text_is_of_one_proof, what_is_accepted_is_so};
 
 /// An answer of a comparison has the status `Clean` exactly where the second list allows all that the first
-/// allows. So no two answers on the same lists have different statuses, and no text is one of both.
+/// allows, and `Found` exactly where it doesn't. So no two answers on the same lists have different statuses,
+/// and no text is one of both.
 pub fn a_comparison_has_one_status()
     ensures status { (first second : PolicyList) (built : Built) → IsComparison first second built
         → (built.status ≡ status.Clean) ↔ Subsumes first second }
+    ensures found { (first second : PolicyList) (built : Built) → IsComparison first second built
+        → (built.status ≡ status.Found) ↔ (Subsumes first second → ⊥) }
     ensures same { (first second : PolicyList) (one other : Built) → IsComparison first second one
         → IsComparison first second other → one.status ≡ other.status }
 {}
+
+/// Of a difference that `compare` prints, the last line has the item of an enforced policy.
+pub fn a_difference_shows_what_blocks()
+    ensures { (first second : PolicyList) (text : List ℕ) (shown : IsDifference first second text)
+        → Any (λ (item : Item). item.disposition ≡ Enforce) (verdict_of second (shown.asked ∷ [])).items }
+{
+    a_verdict_blocks_what_the_list_refuses();
+}
+
+/// Where `check` accepts a text, every valid check that the first list allows the second allows.
+pub fn an_accepted_text_shows_inclusion()
+    ensures { (first second : PolicyList) (text : List ℕ) (built : Built) → IsReadable first
+        → IsReadable second → IsChecked first second text built → built.status ≡ status.Clean
+        → Subsumes first second }
+{
+    what_is_accepted_is_so();
+}
+
+/// What `compare` prints with the status `Clean`, `check` accepts: that is its only output on the text, and
+/// the text isn't refused.
+pub fn what_compare_prints_check_accepts()
+    ensures accepted { (first second : PolicyList) (printed built : Built) → IsComparison first second printed
+        → printed.status ≡ status.Clean → IsChecked first second printed.text built
+        → built ≡ record { status = status.Clean; text = codes "accepted\n" } }
+    ensures not_refused { (first second : PolicyList) (printed : Built) (line : ℕ)
+        → IsComparison first second printed → printed.status ≡ status.Clean
+        → IsRefused printed.text line → ⊥ }
+{
+    a_text_is_of_one_proof();
+}
 
 /// An answer of `embed` says `added` exactly where the response allows blanket enforcement, and has the status
 /// `Clean` exactly there and where the response's own policies are at least as strict as the required one. So

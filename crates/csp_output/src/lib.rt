@@ -1,5 +1,5 @@
-//! What `compare`, `check`, `drill` and `embed` print of lists of policies, the lines of verdicts, and the
-//! statuses that runs end with.
+//! What `compare`, `check`, `drill`, `embed` and `order` print of lists of policies, the lines of verdicts,
+//! what is printed of a learnt policy, and the statuses that runs end with.
 #![tactic(auto)]
 
 mod acceptance;
@@ -8,7 +8,9 @@ mod comparison;
 mod embedding;
 mod exercise;
 pub mod laws;
+mod learn;
 mod lines;
+mod ordering;
 mod shown_items;
 mod status;
 mod verdict_lines;
@@ -18,5 +20,7 @@ pub use built::Built;
 pub use comparison::compare;
 pub use embedding::{Response, embed};
 pub use exercise::drill;
+pub use learn::print_learnt;
+pub use ordering::order;
 pub use status::{Status, exit_code};
 pub use verdict_lines::VerdictLines;

@@ -5,7 +5,7 @@ use Rattle.csp_run.specs.declared.fault.Fault.TheVariants.{Memory}
 use Rattle.csp_run.specs.declared.files.Content.{Content}
 use Rattle.csp_run.specs.declared.output.Outcome.{Outcome}
 use Rattle.csp_run.specs.Desk.{Desk, IsUntouched}
-use Rattle.csp_run.specs.Due.{End, IsDue, IsEndOf, HasGrown}
+use Rattle.csp_run.specs.Due.{IsDue, IsEndOf, HasGrown}
 use Rattle.csp_run.specs.Files.{World, AreRead}
 use Rattle.csp_run.specs.Outputs.{IsOutput, GrewOn}
 use Rattle.csp_run.specs.Shown.{end_of}
@@ -20,7 +20,7 @@ planned_due : (w : World) (d : Desk) (words : List (List ℕ)) (plan : Plan) (co
     (outcome : Result Outcome Fault) → plan_of words ≡ Ok plan
     → AreRead w plan.origin plan.files w.log (Ok contents)
     → (◌≢◌ {A = Result Outcome Fault} outcome (Err Memory)
-    → IsOutput plan.form (Ok contents) d (end_of d.kinds d.held_now outcome))
+    → IsOutput plan.form plan.origin (Ok contents) d (end_of d.kinds d.held_now outcome))
     → IsUntouched d ⊎ GrewOn plan.form contents d
     → ((n : List ℕ) → w.faults_now n ≡ w.faults_before n)
     → IsDue w d words (end_of d.kinds d.held_now outcome)
@@ -38,12 +38,12 @@ pub output_due : (w : World) (d : Desk) (words slice : List (List ℕ)) (plan : 
     (outcome : Result Outcome Fault) → slice ≡ words → held ≡ contents → Ok plan ≡ plan_of slice
     → AreRead w plan.origin plan.files w.log (Ok contents)
     → (◌≢◌ {A = Result Outcome Fault} outcome (Err Memory)
-    → IsOutput plan.form (Ok held) d (end_of d.kinds d.held_now outcome))
+    → IsOutput plan.form plan.origin (Ok held) d (end_of d.kinds d.held_now outcome))
     → IsUntouched d ⊎ GrewOn plan.form held d
     → ((n : List ℕ) → w.faults_now n ≡ w.faults_before n)
     → IsDue w d words (end_of d.kinds d.held_now outcome)
 output_due w d words slice plan contents held outcome same_words same_contents planned are output grown calm =
-    let P : List Content → Type 0 = λ l. IsOutput plan.form (Ok l) d (end_of d.kinds d.held_now outcome) in
+    let P : List Content → Type 0 = λ l. IsOutput plan.form plan.origin (Ok l) d (end_of d.kinds d.held_now outcome) in
     let Q : List Content → Type 0 = λ l. IsUntouched d ⊎ GrewOn plan.form l d in
     let R : List (List ℕ) → Type 0 = λ l. plan_of l ≡ Ok plan in
     planned_due w d words plan contents outcome (subst R same_words (sym planned)) are

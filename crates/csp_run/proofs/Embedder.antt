@@ -1,12 +1,12 @@
 -- What `embed` asks for, by what its words are read as.
-use Rattle.std.proofs.Common.{◌≡◌, ◌≢◌, ◌∙◌, sym, ap, ℕ, Bool, cond, List, ◌∷◌, length, Option, Some, None, Result, Ok, Err, ok_or}
+use Rattle.std.proofs.Common.{◌≡◌, ◌≢◌, ◌∙◌, sym, ap, ℕ, cond, List, ◌∷◌, length, Option, Some, None, Ok, Err, ok_or}
 use Rattle.std.specs.Prelude.{◌==◌}
 use Rattle.csp_model.specs.declared.url.Origin.{Origin}
 use Rattle.csp_url.specs.Origins.{origin_of}
 use Rattle.csp_url.specs.declared.error.OriginError.{OriginError}
 use Rattle.csp_url.specs.declared.error.OriginError.TheVariants as origin_error
 use Rattle.csp_run.specs.Shown.{origin_fault}
-use Rattle.csp_run.specs.Words.{Plan, embed_plan, origin_for, with_embedder, with_origin}
+use Rattle.csp_run.specs.Words.{embed_plan, origin_for, with_embedder, with_origin}
 use Rattle.csp_run.specs.declared.fault.Fault.{Fault}
 use Rattle.csp_run.specs.declared.fault.Fault.TheVariants as fault
 use Rattle.csp_run.specs.declared.plan.Form.TheVariants.{Embed}

@@ -2,19 +2,25 @@
 use Rattle.std.proofs.Common.{◌≡◌, ℕ, Bool, true, false, List, [], ◌∷◌, Option, Some, None, Result, Ok, Err, inl, inr, refl, ap, sym, ◌∙◌}
 use Rattle.std.proofs.Common.{cond, map}
 use Rattle.std.proofs.lemmas.Bool.{false≢true}
+use Rattle.std.specs.Prelude.{nat_le, length}
+use Rattle.csp_learn.specs.Logs.{lesson_of}
+use Rattle.csp_learn.specs.Needs.{need_limit}
+use Rattle.csp_learn.specs.Policies.{policy_for}
+use Rattle.csp_learn.specs.declared.learnt.Place.{Place}
 use Rattle.csp_model.specs.declared.policy.Policy.{Policy}
 use Rattle.csp_model.specs.declared.policy.PolicyList.{PolicyList}
 use Rattle.csp_model.specs.declared.url.Origin.{Origin}
 use Rattle.csp_output.specs.Embeddings.{IsEmbedding}
 use Rattle.csp_model.specs.declared.verdict.Described.{Described}
 use Rattle.csp_model.specs.declared.verdict.Violation.{Violation}
+use Rattle.csp_request.specs.Requests.{requests_of}
 use Rattle.csp_request.specs.declared.error.RequestError.{RequestError}
 use Rattle.csp_run.specs.declared.fault.Fault.{Fault}
 use Rattle.csp_run.specs.declared.files.Content.{Content}
 use Rattle.csp_run.specs.declared.files.Content.TheVariants as content
 use Rattle.csp_output.specs.declared.built.Built.{Built}
 use Rattle.csp_run.specs.declared.plan.Form.{Form}
-use Rattle.csp_run.specs.declared.plan.Form.TheVariants.{Judge, Report, Compare, Check, Drill, Embed}
+use Rattle.csp_run.specs.declared.plan.Form.TheVariants.{Judge, Report, Compare, Check, Drill, Embed, Learn, Order}
 use Rattle.csp_output.specs.declared.status.Status.{Status}
 use Rattle.csp_output.specs.declared.status.Status.TheVariants.{Clean, Found}
 use Rattle.csp_output.specs.Checks.{checked}
@@ -22,8 +28,9 @@ use Rattle.csp_output.specs.Comparisons.{IsAnswerWith}
 use Rattle.csp_run.specs.Desk.{Desk}
 use Rattle.csp_run.specs.Due.{IsEndOf}
 use Rattle.csp_run.specs.Files.{World}
+use Rattle.csp_output.specs.Learnt.{learnt_output}
 use Rattle.csp_output.specs.Lines.{judgment}
-use Rattle.csp_run.specs.Outputs.{IsOutput, IsReportOn, judged}
+use Rattle.csp_run.specs.Outputs.{IsOutput, IsReportOn, judged, learnt, learnt_or_fault}
 use Rattle.csp_run.specs.Words.{Plan}
 
 -- the statuses of outputs
@@ -65,28 +72,43 @@ embedded_done embedder policy block list built is = elim is [
   | inr own ↦ ap is_done own.1.status ∙ compared_done own.1.compared.status _ _ _ own.1.answer
 ]
 
-printed_done : (form : Form) (found : Result (List Content) Fault) (desk : Desk) (built : Built)
-    → IsOutput form found desk (Ok built)
+limited_done : (few : Bool) (policy : Policy) (left : List Place) (built : Built)
+    → Ok built ≡ learnt_or_fault (cond few (Some (learnt_output policy left)) None) → is_done built.status ≡ true
+limited_done true policy left built is =
+    let same : built ≡ learnt_output policy left = cc is in ap (λ (b : Built). is_done b.status) same
+limited_done false policy left built is = absurd (cc is)
+
+learnt_done : (o : Origin) (described : Result (List Described) RequestError) (built : Built)
+    → Ok built ≡ learnt o described → is_done built.status ≡ true
+learnt_done o (Ok log) built is =
+    limited_done (nat_le (length (lesson_of log).needs) need_limit) (policy_for o (lesson_of log).needs)
+    (lesson_of log).left built is
+learnt_done o (Err refused) built is = absurd (cc is)
+
+printed_done : (form : Form) (o : Origin) (found : Result (List Content) Fault) (desk : Desk) (built : Built)
+    → IsOutput form o found desk (Ok built)
     → is_done built.status ≡ true
-printed_done form (Err f) desk built is = absurd (cc is.0)
-printed_done Judge (Ok (content.Policies list ∷ content.Requests bytes ∷ [])) desk built is =
+printed_done form o (Err f) desk built is = absurd (cc is.0)
+printed_done Judge o (Ok (content.Policies list ∷ content.Requests bytes ∷ [])) desk built is =
     judged_done list _ built is.0
-printed_done Report (Ok (content.Policies list ∷ content.Requests bytes ∷ [])) desk built is =
+printed_done Report o (Ok (content.Policies list ∷ content.Requests bytes ∷ [])) desk built is =
     reported_done _ desk built is
-printed_done Compare (Ok (content.Policies first ∷ content.Policies second ∷ [])) desk built is =
+printed_done Compare o (Ok (content.Policies first ∷ content.Policies second ∷ [])) desk built is =
     compared_done built.status first second built.text is.0
-printed_done Check (Ok (content.Policies first ∷ content.Policies second ∷ content.Proof text ∷ [])) desk built is =
+printed_done Check o (Ok (content.Policies first ∷ content.Policies second ∷ content.Proof text ∷ [])) desk built is =
     ap (λ (b : Built). is_done b.status) is.0.output ∙ checked_status _
-printed_done (Drill pairs) (Ok []) desk built is = ap is_done is.0.status
-printed_done (Embed embedder) (Ok (content.Required policy ∷ content.Response block list ∷ [])) desk built is =
+printed_done (Drill pairs) o (Ok []) desk built is = ap is_done is.0.status
+printed_done (Embed embedder) o (Ok (content.Required policy ∷ content.Response block list ∷ [])) desk built is =
     embedded_done embedder policy block list built is.0
-printed_done form (Ok contents) desk built is = absurd is
+printed_done Learn o (Ok (content.Requests bytes ∷ [])) desk built is = learnt_done o (requests_of bytes) built is.0
+printed_done Order o (Ok contents) desk built is = ap is_done is.0.2.status
+printed_done form o (Ok contents) desk built is = absurd is
 
 ended_done : (w : World) (desk : Desk) (asked : Result Plan Fault) (built : Built)
     → IsEndOf w desk asked (Ok built)
     → is_done built.status ≡ true
 ended_done w desk (Err f) built is = absurd (cc is.0)
-ended_done w desk (Ok plan) built is = printed_done plan.form is.0 desk built is.2
+ended_done w desk (Ok plan) built is = printed_done plan.form plan.origin is.0 desk built is.2
 
 -- another status is none of an output
 pub no_output : (w : World) (desk : Desk) (asked : Result Plan Fault) (built : Built) (status : Status)

@@ -2,6 +2,7 @@
 use Rattle.std.proofs.Common.{◌≡◌, ◌≢◌, ℕ, true, false, List, [], ◌∷◌, Result, Ok, Err, inl, inr, sym, ap, ◌∙◌}
 use Rattle.std.proofs.lemmas.Bool.{false≢true}
 use Rattle.csp_model.specs.declared.verdict.Violation.{Violation}
+use Rattle.csp_model.specs.declared.url.Origin.{Origin}
 use Rattle.csp_request.specs.Requests.{requests_of}
 use Rattle.csp_request.specs.declared.error.RequestError.{RequestError}
 use Rattle.csp_run.specs.declared.fault.Fault.{Fault}
@@ -10,7 +11,7 @@ use Rattle.csp_run.specs.declared.files.Content.{Content}
 use Rattle.csp_run.specs.declared.files.Content.TheVariants as content
 use Rattle.csp_output.specs.declared.built.Built.{Built}
 use Rattle.csp_run.specs.declared.plan.Form.{Form}
-use Rattle.csp_run.specs.declared.plan.Form.TheVariants.{Judge, Report, Compare, Check, Drill, Embed}
+use Rattle.csp_run.specs.declared.plan.Form.TheVariants.{Judge, Report, Compare, Check, Drill, Embed, Learn, Order}
 use Rattle.csp_run.specs.Desk.{Desk, IsUntouched}
 use Rattle.csp_run.specs.Due.{End, IsDue, IsEndOf, HasGrown, end_status}
 use Rattle.csp_run.specs.Files.{World}
@@ -29,6 +30,8 @@ not_grown Compare contents desk other grew = grew
 not_grown Check contents desk other grew = grew
 not_grown (Drill pairs) contents desk other grew = grew
 not_grown (Embed embedder) contents desk other grew = grew
+not_grown Learn contents desk other grew = grew
+not_grown Order contents desk other grew = grew
 
 by_words : (w : World) (desk : Desk) (asked : Result Plan Fault) → HasGrown w desk asked → is_report asked ≡ false
     → IsUntouched desk
@@ -54,23 +57,25 @@ by_report (Ok all) desk (Err (fault.Refused reporter)) is other = absurd (cc oth
 by_report (Ok all) desk (Err f) is other = absurd is
 by_report (Err refused) desk end is other = is.1
 
-by_output : (form : Form) (found : Result (List Content) Fault) (desk : Desk) (end : End)
-    → IsOutput form found desk end → may_follow_violations (end_status end) ≡ false → IsUntouched desk
-by_output form (Err f) desk end is other = is.1
-by_output Judge (Ok (content.Policies list ∷ content.Requests bytes ∷ [])) desk end is other = is.1
-by_output Report (Ok (content.Policies list ∷ content.Requests bytes ∷ [])) desk end is other =
+by_output : (form : Form) (o : Origin) (found : Result (List Content) Fault) (desk : Desk) (end : End)
+    → IsOutput form o found desk end → may_follow_violations (end_status end) ≡ false → IsUntouched desk
+by_output form o (Err f) desk end is other = is.1
+by_output Judge o (Ok (content.Policies list ∷ content.Requests bytes ∷ [])) desk end is other = is.1
+by_output Report o (Ok (content.Policies list ∷ content.Requests bytes ∷ [])) desk end is other =
     by_report (violations_in list (requests_of bytes)) desk end is other
-by_output Compare (Ok (content.Policies first ∷ content.Policies second ∷ [])) desk end is other = is.1
-by_output Check (Ok (content.Policies first ∷ content.Policies second ∷ content.Proof text ∷ [])) desk end is other =
+by_output Compare o (Ok (content.Policies first ∷ content.Policies second ∷ [])) desk end is other = is.1
+by_output Check o (Ok (content.Policies first ∷ content.Policies second ∷ content.Proof text ∷ [])) desk end is other =
     is.1
-by_output (Drill pairs) (Ok []) desk end is other = is.1
-by_output (Embed embedder) (Ok (content.Required policy ∷ content.Response block list ∷ [])) desk end is other = is.1
-by_output form (Ok contents) desk end is other = absurd is
+by_output (Drill pairs) o (Ok []) desk end is other = is.1
+by_output (Embed embedder) o (Ok (content.Required policy ∷ content.Response block list ∷ [])) desk end is other = is.1
+by_output Learn o (Ok (content.Requests bytes ∷ [])) desk end is other = is.1
+by_output Order o (Ok contents) desk end is other = is.1
+by_output form o (Ok contents) desk end is other = absurd is
 
 by_status : (w : World) (desk : Desk) (asked : Result Plan Fault) (end : End) → IsEndOf w desk asked end
     → may_follow_violations (end_status end) ≡ false → IsUntouched desk
 by_status w desk (Err f) end is other = is.2
-by_status w desk (Ok plan) end is other = by_output plan.form is.0 desk end is.2 other
+by_status w desk (Ok plan) end is other = by_output plan.form plan.origin is.0 desk end is.2 other
 
 not_memory : (end : End) → may_follow_violations (end_status end) ≡ false
     → ◌≢◌ {A = End} end (Err fault.Memory)

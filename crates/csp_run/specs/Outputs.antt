@@ -1,7 +1,8 @@
 -- What each command prints of what its files hold.
-use Rattle.std.specs.Prelude.{◌≡◌, ℕ, List, [], ◌∷◌, map, Result, Ok, Err}
+use Rattle.std.specs.Prelude.{◌≡◌, ℕ, List, [], ◌∷◌, map, Option, Some, None, Result, Ok, Err}
 use Rattle.csp_desk.specs.Growth.{GrewInPart}
 use Rattle.csp_model.specs.declared.policy.PolicyList.{PolicyList}
+use Rattle.csp_model.specs.declared.url.Origin.{Origin}
 use Rattle.csp_model.specs.declared.verdict.Described.{Described}
 use Rattle.csp_model.specs.declared.verdict.Violation.{Violation}
 use Rattle.csp_proof.specs.Texts.{IsRefused}
@@ -16,13 +17,15 @@ use Rattle.csp_run.specs.declared.files.Content.{Content}
 use Rattle.csp_run.specs.declared.files.Content.TheVariants as content
 use Rattle.csp_output.specs.declared.built.Built.{Built}
 use Rattle.csp_run.specs.declared.plan.Form.{Form}
-use Rattle.csp_run.specs.declared.plan.Form.TheVariants.{Judge, Report, Compare, Check, Drill, Embed}
+use Rattle.csp_run.specs.declared.plan.Form.TheVariants.{Judge, Report, Compare, Check, Drill, Embed, Learn, Order}
 use Rattle.csp_output.specs.Checks.{IsChecked}
 use Rattle.csp_output.specs.Comparisons.{IsComparison}
 use Rattle.csp_run.specs.Desk.{Desk, IsUntouched}
 use Rattle.csp_output.specs.Drills.{IsDrill}
 use Rattle.csp_output.specs.Embeddings.{IsEmbedding}
+use Rattle.csp_output.specs.Learnt.{learning}
 use Rattle.csp_output.specs.Lines.{judgment}
+use Rattle.csp_output.specs.Orders.{IsOrdering}
 use Rattle.csp_run.specs.Reports.{violations_in, IsReport}
 
 -- the fault of what a request file is refused for
@@ -54,22 +57,41 @@ abbrev pub IsBuilt : (Built → Type 0) → Result Built Fault → Type 0
 IsBuilt is (Ok built) = is built
 IsBuilt is (Err f) = ⊥
 
--- What ends a command after its files, and what it does to the desk: their fault, or its output on what they
--- hold. Only `report` hands anything to the desk.
-abbrev pub IsOutput : Form → Result (List Content) Fault → Desk → Result Built Fault → Type 0
-IsOutput form (Err f) desk end = (end ≡ Err f) × IsUntouched desk
-IsOutput Judge (Ok (content.Policies list ∷ content.Requests bytes ∷ [])) desk end =
+-- the output of `learn`; there is none where the requests need too many sources
+abbrev pub learnt_or_fault : Option Built → Result Built Fault
+learnt_or_fault (Some built) = Ok built
+learnt_or_fault None = Err (fault.TooLarge role.Requests limit.Sources)
+
+-- what ends `learn` on these requests, or on the fault of their file
+abbrev pub learnt : Origin → Result (List Described) RequestError → Result Built Fault
+learnt origin (Ok log) = learnt_or_fault (learning origin log)
+learnt origin (Err refused) = Err (request_fault refused)
+
+-- what ends `order` on the lists that these files hold
+abbrev pub IsOrdered : List Content → Result Built Fault → Type 0
+IsOrdered contents end =
+    (lists : List PolicyList) × (contents ≡ map (λ list. content.Policies list) lists)
+    × IsBuilt (IsOrdering lists) end
+
+-- What ends a command after its files, whose policies are of this origin, and what it does to the desk: the
+-- files' fault, or its output on what they hold. Only `report` hands anything to the desk.
+abbrev pub IsOutput : Form → Origin → Result (List Content) Fault → Desk → Result Built Fault → Type 0
+IsOutput form origin (Err f) desk end = (end ≡ Err f) × IsUntouched desk
+IsOutput Judge origin (Ok (content.Policies list ∷ content.Requests bytes ∷ [])) desk end =
     (end ≡ judged list (requests_of bytes)) × IsUntouched desk
-IsOutput Report (Ok (content.Policies list ∷ content.Requests bytes ∷ [])) desk end =
+IsOutput Report origin (Ok (content.Policies list ∷ content.Requests bytes ∷ [])) desk end =
     IsReportOn (violations_in list (requests_of bytes)) desk end
-IsOutput Compare (Ok (content.Policies first ∷ content.Policies second ∷ [])) desk end =
+IsOutput Compare origin (Ok (content.Policies first ∷ content.Policies second ∷ [])) desk end =
     IsBuilt (IsComparison first second) end × IsUntouched desk
-IsOutput Check (Ok (content.Policies first ∷ content.Policies second ∷ content.Proof text ∷ [])) desk end =
+IsOutput Check origin (Ok (content.Policies first ∷ content.Policies second ∷ content.Proof text ∷ [])) desk end =
     IsCheck first second text end × IsUntouched desk
-IsOutput (Drill pairs) (Ok []) desk end = IsBuilt (IsDrill pairs) end × IsUntouched desk
-IsOutput (Embed embedder) (Ok (content.Required policy ∷ content.Response block list ∷ [])) desk end =
+IsOutput (Drill pairs) origin (Ok []) desk end = IsBuilt (IsDrill pairs) end × IsUntouched desk
+IsOutput (Embed embedder) origin (Ok (content.Required policy ∷ content.Response block list ∷ [])) desk end =
     IsBuilt (IsEmbedding embedder policy block list) end × IsUntouched desk
-IsOutput form (Ok contents) desk end = ⊥
+IsOutput Learn origin (Ok (content.Requests bytes ∷ [])) desk end =
+    (end ≡ learnt origin (requests_of bytes)) × IsUntouched desk
+IsOutput Order origin (Ok contents) desk end = IsOrdered contents end × IsUntouched desk
+IsOutput form origin (Ok contents) desk end = ⊥
 
 -- Each reporter took a first part of the violations of the requests that the files have, if they have some.
 abbrev pub GrewOn : Form → List Content → Desk → Type 0

@@ -1,9 +1,9 @@
 -- What clauses of private functions cite: plans as contracts see them, contents that fit a form, verdicts on
 -- single descriptions, requests described in part, what is printed, and what is left where the handing out of
 -- violations stops.
-use Rattle.std.specs.Prelude.{◌≡◌, ℕ, ◌≤◌, ⊤, Bool, true, false, List, [], ◌∷◌, length, Result, Ok, Err}
+use Rattle.std.specs.Prelude.{◌≡◌, ℕ, ◌≤◌, ⊤, Bool, true, false, ◌&&◌, List, [], ◌∷◌, length, Result, Ok, Err}
 use Rattle.serde_json.specs.Data.{Data}
-use Rattle.std.specs.List.{flat_map}
+use Rattle.std.specs.List.{flat_map, list_all}
 use Rattle.csp_embed.specs.Decisions.{alone}
 use Rattle.csp_desk.specs.Growth.{GrewInPart, StopsAt}
 use Rattle.csp_desk.specs.Tellings.{section_text}
@@ -11,23 +11,28 @@ use Rattle.csp_desk.specs.Texts.{desk_text}
 use Rattle.csp_desk.specs.declared.reporter.Kind.{Kind}
 use Rattle.csp_desk.specs.declared.desk.DeskError.{DeskError}
 use Rattle.csp_desk.specs.declared.desk.DeskError.TheVariants.{Refused, Memory}
+use Rattle.csp_learn.specs.Logs.{Lesson, lesson_of}
+use Rattle.csp_learn.specs.declared.error.LearnError.{LearnError}
+use Rattle.csp_learn.specs.declared.error.LearnError.TheVariants as learn_error
 use Rattle.csp_model.specs.Policies.{IsReadable}
 use Rattle.csp_model.specs.declared.policy.Disposition.TheVariants.{Enforce}
 use Rattle.csp_run.specs.declared.fault.Fault.{Fault}
 use Rattle.csp_run.specs.declared.fault.Fault.TheVariants as fault
-use Rattle.csp_run.specs.declared.fault.Role.TheVariants.{Proof}
+use Rattle.csp_run.specs.declared.fault.Limit.TheVariants.{Sources}
+use Rattle.csp_run.specs.declared.fault.Role.TheVariants.{Proof, Requests}
 use Rattle.csp_run.specs.declared.files.Content.{Content}
 use Rattle.csp_run.specs.declared.files.Content.TheVariants as content
 use Rattle.csp_output.specs.declared.built.Built.{Built}
 use Rattle.csp_run.specs.declared.output.Outcome.{Outcome}
 use Rattle.csp_run.specs.declared.output.Outcome.TheVariants.{Text, Reporters}
 use Rattle.csp_run.specs.declared.plan.Form.{Form}
-use Rattle.csp_run.specs.declared.plan.Form.TheVariants.{Judge, Report, Compare, Check, Drill, Embed}
+use Rattle.csp_run.specs.declared.plan.Form.TheVariants.{Judge, Report, Compare, Check, Drill, Embed, Learn, Order}
 use Rattle.csp_run.specs.declared.plan.Plan.{Plan as Held}
 use Rattle.csp_run.specs.declared.printed.Printed.{Printed}
 use Rattle.csp_run.specs.declared.printed.Printed.TheVariants as printed
 use Rattle.csp_output.specs.declared.status.Status.TheVariants.{Clean}
 use Rattle.csp_model.specs.Verdict.{verdict_of}
+use Rattle.csp_model.specs.declared.check.Digests.{Digests}
 use Rattle.csp_model.specs.declared.policy.PolicyList.{PolicyList}
 use Rattle.csp_model.specs.declared.verdict.Described.{Described}
 use Rattle.csp_model.specs.declared.verdict.Verdict.{Verdict}
@@ -41,7 +46,7 @@ use Rattle.csp_url.specs.declared.error.OriginError.{OriginError}
 use Rattle.csp_url.specs.declared.error.OriginError.TheVariants as origin_error
 use Rattle.csp_run.specs.Desk.{Desk}
 use Rattle.csp_run.specs.Files.{file_limit}
-use Rattle.csp_run.specs.Words.{Plan, File, files_from}
+use Rattle.csp_run.specs.Words.{Plan, File, files_from, takes}
 
 abbrev pub files_of : Held → List File
 files_of plan = files_from plan.form 0 plan.names.now
@@ -58,6 +63,11 @@ IsSound (content.Proof bytes) = length bytes ≤ file_limit Proof
 IsSound (content.Required policy) = (policy.disposition ≡ Enforce) × IsReadable (alone policy)
 IsSound (content.Response block list) = IsReadable list
 
+-- the policies of a file
+abbrev pub is_list : Content → Bool
+is_list (content.Policies list) = true
+is_list other = false
+
 -- what a form's files hold is of these kinds
 abbrev pub fits : Form → List Content → Bool
 fits Judge (content.Policies list ∷ content.Requests bytes ∷ []) = true
@@ -66,12 +76,28 @@ fits Compare (content.Policies first ∷ content.Policies second ∷ []) = true
 fits Check (content.Policies first ∷ content.Policies second ∷ content.Proof bytes ∷ []) = true
 fits (Drill pairs) [] = true
 fits (Embed embedder) (content.Required policy ∷ content.Response block list ∷ []) = true
+fits Learn (content.Requests bytes ∷ []) = true
+fits Order contents = takes Order (length contents) && list_all is_list contents
 fits form contents = false
 
 -- the verdict on the description of this number, or its refusal
 abbrev pub verdict_on : PolicyList → ℕ → Result Described DescriptionError → Result Verdict RequestError
 verdict_on list number (Ok found) = Ok (verdict_of list found.checks)
 verdict_on list number (Err refused) = Err (refused_at number refused)
+
+-- no digest of a source is computed
+abbrev pub hashed_not : List ℕ → Digests
+hashed_not source = digests_for source (record { sha256 = false; sha384 = false; sha512 = false })
+
+-- what is learnt of these requests, or the refusal of their file
+abbrev pub lesson_in : Result (List Described) RequestError → Result Lesson RequestError
+lesson_in (Ok log) = Ok (lesson_of log)
+lesson_in (Err refused) = Err refused
+
+-- the fault of a log from which no policy is learnt
+abbrev pub learn_fault : LearnError → Fault
+learn_fault learn_error.TooManySources = fault.TooLarge Requests Sources
+learn_fault learn_error.Memory = fault.Memory
 
 -- How a run ends with what a command prints, where reporters of these kinds hold these violations.
 abbrev pub end_of : List Kind → List (List Violation) → Result Outcome Fault → Result Built Fault

@@ -11,14 +11,21 @@ use Rattle.csp_run.specs.declared.fault.Fault.TheVariants as fault
 use Rattle.csp_output.specs.declared.status.Status.{Status}
 use Rattle.csp_output.specs.declared.status.Status.TheVariants as status
 
-unfoldable pub role_text : Role → List ℕ
-role_text role.Policy = codes "policy"
-role_text role.Requests = codes "requests"
-role_text role.First = codes "first"
-role_text role.Second = codes "second"
-role_text role.Proof = codes "proof"
-role_text role.Required = codes "required"
-role_text role.Response = codes "response"
+-- the name of a file's role, without its number
+unfoldable pub role_word : Role → List ℕ
+role_word role.Policy = codes "policy"
+role_word role.Requests = codes "requests"
+role_word role.First = codes "first"
+role_word role.Second = codes "second"
+role_word role.Proof = codes "proof"
+role_word role.Required = codes "required"
+role_word role.Response = codes "response"
+role_word (role.List number) = codes "list "
+
+-- its number, where there are many of its kind
+unfoldable pub role_number : Role → List ℕ
+role_number (role.List number) = decimal number
+role_number file = []
 
 unfoldable pub limit_text : Limit → List ℕ
 limit_text limit.Bytes = codes "bytes"
@@ -33,21 +40,24 @@ unfoldable pub fault_pieces : Fault → List (List ℕ)
 fault_pieces fault.Usage =
     codes "usage: judge ORIGIN POLICY REQUESTS" ∷ codes " | report ORIGIN POLICY REQUESTS"
     ∷ codes " | compare ORIGIN FIRST SECOND" ∷ codes " | check ORIGIN FIRST SECOND PROOF"
-    ∷ codes " | drill N | embed EMBEDDER ORIGIN REQUIRED RESPONSE\n" ∷ []
-fault_pieces fault.BadOrigin = codes "bad origin" ∷ [] ∷ [] ∷ [] ∷ codes "\n" ∷ []
+    ∷ codes " | drill N | embed EMBEDDER ORIGIN REQUIRED RESPONSE"
+    ∷ codes " | learn ORIGIN REQUESTS | order ORIGIN LISTS\n" ∷ []
+fault_pieces fault.BadOrigin = codes "bad origin" ∷ [] ∷ [] ∷ [] ∷ [] ∷ codes "\n" ∷ []
 fault_pieces (fault.BadPolicy file line) =
-    codes "bad policy: " ∷ role_text file ∷ codes " line " ∷ decimal line ∷ codes "\n" ∷ []
+    codes "bad policy: " ∷ role_word file ∷ role_number file ∷ codes " line " ∷ decimal line ∷ codes "\n" ∷ []
 fault_pieces (fault.TooLarge file limit) =
-    codes "too large: " ∷ role_text file ∷ codes " " ∷ limit_text limit ∷ codes "\n" ∷ []
-fault_pieces fault.NotJson = codes "bad requests: not a JSON array" ∷ [] ∷ [] ∷ [] ∷ codes "\n" ∷ []
+    codes "too large: " ∷ role_word file ∷ role_number file ∷ codes " " ∷ limit_text limit ∷ codes "\n" ∷ []
+fault_pieces fault.NotJson = codes "bad requests: not a JSON array" ∷ [] ∷ [] ∷ [] ∷ [] ∷ codes "\n" ∷ []
 fault_pieces (fault.BadRequest request field) =
-    codes "bad requests: request " ∷ decimal request ∷ codes " " ∷ field_text field ∷ codes "\n" ∷ []
-fault_pieces (fault.BadProof line) = codes "bad proof: line " ∷ decimal line ∷ [] ∷ [] ∷ codes "\n" ∷ []
-fault_pieces fault.BadRequired = codes "bad required policy" ∷ [] ∷ [] ∷ [] ∷ codes "\n" ∷ []
-fault_pieces (fault.Read file) = codes "read fault: " ∷ role_text file ∷ [] ∷ [] ∷ codes "\n" ∷ []
+    codes "bad requests: request " ∷ decimal request ∷ codes " " ∷ field_text field ∷ [] ∷ codes "\n" ∷ []
+fault_pieces (fault.BadProof line) =
+    codes "bad proof: line " ∷ decimal line ∷ [] ∷ [] ∷ [] ∷ codes "\n" ∷ []
+fault_pieces fault.BadRequired = codes "bad required policy" ∷ [] ∷ [] ∷ [] ∷ [] ∷ codes "\n" ∷ []
+fault_pieces (fault.Read file) =
+    codes "read fault: " ∷ role_word file ∷ role_number file ∷ [] ∷ [] ∷ codes "\n" ∷ []
 fault_pieces (fault.Refused reporter) =
-    codes "reporter fault: " ∷ decimal reporter ∷ [] ∷ [] ∷ codes "\n" ∷ []
-fault_pieces fault.Memory = codes "no memory" ∷ [] ∷ [] ∷ [] ∷ codes "\n" ∷ []
+    codes "reporter fault: " ∷ decimal reporter ∷ [] ∷ [] ∷ [] ∷ codes "\n" ∷ []
+fault_pieces fault.Memory = codes "no memory" ∷ [] ∷ [] ∷ [] ∷ [] ∷ codes "\n" ∷ []
 
 -- the line
 abbrev pub fault_text : Fault → List ℕ

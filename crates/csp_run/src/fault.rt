@@ -3,6 +3,7 @@ ghost use Rattle.std.specs.Prelude.{◌≡◌};
 ghost use Rattle.csp_run.specs.Texts as texts;
 
 use csp_desk::DeskError;
+use csp_learn::LearnError;
 use csp_model::Memory;
 use csp_output::Status;
 use csp_request::{Field, RequestError};
@@ -25,6 +26,8 @@ pub enum Role {
     Required,
     /// The header block of the response of which it is required.
     Response,
+    /// The header block of the list of this number, counted from 1.
+    List { number: usize },
 }
 
 /// What is limited.
@@ -34,7 +37,7 @@ pub enum Limit {
     Bytes,
     /// The policies of a list: 64.
     Policies,
-    /// The value tokens of a list: 1,024.
+    /// The value tokens of a list: 1,024, or 1,023 that a log needs.
     Sources,
     /// The bytes of a directive's name or a value token: 4,096.
     Token,
@@ -135,6 +138,22 @@ impl From<DeskError> for Fault {
         match error {
             DeskError::Refused { reporter } => Fault::Refused { reporter },
             DeskError::Memory => Fault::Memory,
+        }
+    }
+}
+
+impl From<LearnError> for Fault {
+    ghost use Rattle.csp_run.specs.Shown.{learn_fault};
+
+    ghost from_gives = { λ error made. made ≡ learn_fault error };
+
+    fn from(error: LearnError) -> Fault {
+        match error {
+            LearnError::TooManySources => Fault::TooLarge {
+                file: Role::Requests,
+                limit: Limit::Sources,
+            },
+            LearnError::Memory => Fault::Memory,
         }
     }
 }

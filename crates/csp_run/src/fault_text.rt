@@ -10,9 +10,9 @@ use csp_io::{Failed, Sink, write_all};
 use csp_request::Field;
 use itoa::Buffer;
 
-#[tactic(auto, unfolding(crate::specs::Texts::role_text))]
-fn role_text<'a>(role: Role) -> &'a str
-    ensures { result.now ≡ texts.role_text role }
+#[tactic(auto, unfolding(crate::specs::Texts::role_word))]
+fn role_word<'a>(role: Role) -> &'a str
+    ensures { result.now ≡ texts.role_word role }
 {
     match role {
         Role::Policy => "policy",
@@ -22,6 +22,18 @@ fn role_text<'a>(role: Role) -> &'a str
         Role::Proof => "proof",
         Role::Required => "required",
         Role::Response => "response",
+        Role::List { .. } => "list ",
+    }
+}
+
+// The number of a role, where there are many of its kind, printed into the buffer.
+#[tactic(auto, unfolding(crate::specs::Texts::role_number))]
+fn role_number<'a>(role: Role, digits: &'a mut Buffer) -> &'a str
+    ensures { result.now ≡ texts.role_number role }
+{
+    match role {
+        Role::List { number } => digits.format(number),
+        _ => "",
     }
 }
 
@@ -63,9 +75,9 @@ fn write_pieces<S: Sink>(out: &mut S, pieces: &[&str]) -> Result<(), Failed>
     Ok(())
 }
 
-// The pieces of a fault's text. A number is printed into the buffer.
+// The pieces of a fault's text. The number of a role and another number are printed into the buffers.
 #[tactic(auto, unfolding(crate::specs::Texts::fault_pieces))]
-fn pieces<'a>(fault: Fault, digits: &'a mut Buffer) -> [&'a str; 5]
+fn pieces<'a>(fault: Fault, list: &'a mut Buffer, digits: &'a mut Buffer) -> [&'a str; 6]
     ensures { map (λ piece. piece.now) result ≡ texts.fault_pieces fault }
 {
     match fault {
@@ -74,36 +86,54 @@ fn pieces<'a>(fault: Fault, digits: &'a mut Buffer) -> [&'a str; 5]
             " | report ORIGIN POLICY REQUESTS",
             " | compare ORIGIN FIRST SECOND",
             " | check ORIGIN FIRST SECOND PROOF",
-            " | drill N | embed EMBEDDER ORIGIN REQUIRED RESPONSE\n",
+            " | drill N | embed EMBEDDER ORIGIN REQUIRED RESPONSE",
+            " | learn ORIGIN REQUESTS | order ORIGIN LISTS\n",
         ],
-        Fault::BadOrigin => ["bad origin", "", "", "", "\n"],
-        Fault::BadPolicy { file, line } => {
-            [
-                "bad policy: ",
-                role_text(file),
-                " line ",
-                digits.format(line),
-                "\n",
-            ]
-        }
-        Fault::TooLarge { file, limit } => {
-            ["too large: ", role_text(file), " ", limit_text(limit), "\n"]
-        }
-        Fault::NotJson => ["bad requests: not a JSON array", "", "", "", "\n"],
+        Fault::BadOrigin => ["bad origin", "", "", "", "", "\n"],
+        Fault::BadPolicy { file, line } => [
+            "bad policy: ",
+            role_word(file),
+            role_number(file, list),
+            " line ",
+            digits.format(line),
+            "\n",
+        ],
+        Fault::TooLarge { file, limit } => [
+            "too large: ",
+            role_word(file),
+            role_number(file, list),
+            " ",
+            limit_text(limit),
+            "\n",
+        ],
+        Fault::NotJson => ["bad requests: not a JSON array", "", "", "", "", "\n"],
         Fault::BadRequest { request, field } => [
             "bad requests: request ",
             digits.format(request),
             " ",
             field_text(field),
+            "",
             "\n",
         ],
-        Fault::BadProof { line } => ["bad proof: line ", digits.format(line), "", "", "\n"],
-        Fault::BadRequired => ["bad required policy", "", "", "", "\n"],
-        Fault::Read { file } => ["read fault: ", role_text(file), "", "", "\n"],
-        Fault::Refused { reporter } => {
-            ["reporter fault: ", digits.format(reporter), "", "", "\n"]
-        }
-        Fault::Memory => ["no memory", "", "", "", "\n"],
+        Fault::BadProof { line } => ["bad proof: line ", digits.format(line), "", "", "", "\n"],
+        Fault::BadRequired => ["bad required policy", "", "", "", "", "\n"],
+        Fault::Read { file } => [
+            "read fault: ",
+            role_word(file),
+            role_number(file, list),
+            "",
+            "",
+            "\n",
+        ],
+        Fault::Refused { reporter } => [
+            "reporter fault: ",
+            digits.format(reporter),
+            "",
+            "",
+            "",
+            "\n",
+        ],
+        Fault::Memory => ["no memory", "", "", "", "", "\n"],
     }
 }
 
@@ -115,7 +145,8 @@ pub fn write_fault<S: Sink>(out: &mut S, fault: Fault) -> Result<(), Failed>
     ensures later { S.faults out.old ≤ S.faults out.new }
     ensures cause { OnErr result (Rose (S.faults out.old) (S.faults out.new)) }
 {
+    let mut list = Buffer::new();
     let mut digits = Buffer::new();
-    let pieces = pieces(fault, &mut digits);
+    let pieces = pieces(fault, &mut list, &mut digits);
     write_pieces(out, &pieces)
 }

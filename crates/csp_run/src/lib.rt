@@ -7,6 +7,8 @@ mod fault_text;
 mod files;
 mod gathered;
 pub mod laws;
+mod lists;
+mod log;
 mod output;
 mod plan;
 mod printed;

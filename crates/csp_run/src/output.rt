@@ -15,7 +15,9 @@ ghost use Rattle.csp_run.specs.Shown.{fits, IsSound, end_of, verdict_on};
 
 use crate::fault::{Fault, Role};
 use crate::files::Content;
-use crate::plan::Form;
+use crate::lists::order_lists;
+use crate::log::learn;
+use crate::plan::{Form, Plan};
 use crate::report::report;
 use csp_desk::Reporter;
 use csp_json::{Scratch, Value};
@@ -38,21 +40,22 @@ pub(crate) enum Outcome {
 // The output of a command on what its files hold, and what it does to the desk.
 pub(crate) fn output(
     alloc: Global,
-    form: &Form,
+    plan: &Plan<'_>,
     contents: &[Content],
     desk: &mut Vec<Box<dyn Reporter>>,
 ) -> Result<Outcome, Fault>
-    requires fits { IsTrue (fits form.now contents.now) }
+    requires fits { IsTrue (fits plan.now.form contents.now) }
     requires sound { All IsSound contents.now }
     requires few { length desk.old.items < 2 ^ 32 }
     ensures end { let d = lent (λ b. kind b) (λ b. held b) (λ b. faults b) desk.old.items desk.new.items in
-        result ≢ Err Fault.Memory → IsOutput form.now (Ok contents.now) d (end_of d.kinds d.held_now result) }
+        result ≢ Err Fault.Memory → IsOutput plan.now.form plan.now.origin (Ok contents.now) d
+        (end_of d.kinds d.held_now result) }
     ensures grown { let d = lent (λ b. kind b) (λ b. held b) (λ b. faults b) desk.old.items desk.new.items in
-        IsUntouched d ⊎ GrewOn form.now contents.now d }
+        IsUntouched d ⊎ GrewOn plan.now.form contents.now d }
     ensures kinds { map (λ b. kind b) desk.new.items ≡ map (λ b. kind b) desk.old.items }
     ensures later { NoneFell (map (λ b. faults b) desk.old.items) (map (λ b. faults b) desk.new.items) }
 {
-    match (form, contents) {
+    match (&plan.form, contents) {
         (Form::Judge, [Content::Policies(list), Content::Requests(bytes)]) => {
             output_of(judge(alloc, list, bytes.as_slice()))
         }
@@ -81,6 +84,13 @@ pub(crate) fn output(
             };
             Ok(Outcome::Text(embed(alloc, embedder, policy, response)?))
         }
+        (Form::Learn, files) => {
+            let [Content::Requests(bytes)] = files else {
+                unreachable!()
+            };
+            output_of(learn(alloc, &plan.origin, bytes.as_slice()))
+        }
+        (Form::Order, files) => Ok(Outcome::Text(order_lists(alloc, files)?)),
         _ => unreachable!(),
     }
 }

@@ -1,5 +1,5 @@
 //! What the words ask for.
-ghost use Rattle.std.specs.Prelude.{◌≡◌, ◌≢◌, length, ok_or, IfOk, IsTrue};
+ghost use Rattle.std.specs.Prelude.{◌≡◌, ◌≢◌, ◌<◌, ◌^◌, length, ok_or, IfOk, IsTrue};
 ghost use Rattle.csp_model.specs.Answers.{Gives};
 ghost use Rattle.csp_model.specs.Validity.{IsValidOrigin};
 ghost use Rattle.csp_run.specs.Shown.{shown};
@@ -25,6 +25,10 @@ pub enum Form {
     Drill { pairs: u8 },
     /// What becomes of a response of which this embedder requires a policy.
     Embed { embedder: Origin },
+    /// The policy that the fetches of a request file need.
+    Learn,
+    /// Which of 2 to 16 policy files allow all that which others allow.
+    Order,
 }
 
 /// A command, the origin of the policies of its files, and the names of these in order.
@@ -37,12 +41,15 @@ pub struct Plan<'a> {
 
 // What a file at a place, counted from 0, is to a command.
 pub(crate) fn role_at(form: &Form, place: usize) -> Role
+    requires { place < 2 ^ 63 }
     ensures { result ≡ spec.role_at form.now place }
 {
     match form {
         Form::Judge | Form::Report => judged_role(place),
         Form::Compare | Form::Check | Form::Drill { .. } => compared_role(place),
         Form::Embed { .. } => embedded_role(place),
+        Form::Learn => Role::Requests,
+        Form::Order => Role::List { number: place + 1 },
     }
 }
 
@@ -184,6 +191,8 @@ fn form_of(verb: &str, word: &str) -> Option<Form>
             Some(pairs) => Some(Form::Drill { pairs }),
             None => None,
         },
+        "learn" => Some(Form::Learn),
+        "order" => Some(Form::Order),
         _ => None,
     }
 }
@@ -196,5 +205,7 @@ fn takes(form: &Form, files: usize) -> bool
         Form::Judge | Form::Report | Form::Compare | Form::Embed { .. } => files == 2,
         Form::Check => files == 3,
         Form::Drill { .. } => files == 0,
+        Form::Learn => files == 1,
+        Form::Order => 2 <= files && files <= 16,
     }
 }

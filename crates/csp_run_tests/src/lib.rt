@@ -18,9 +18,13 @@ mod inputs;
 #[cfg(test)]
 mod kinds;
 #[cfg(test)]
+mod learning;
+#[cfg(test)]
 mod limited;
 #[cfg(test)]
 mod missing;
+#[cfg(test)]
+mod ordering;
 #[cfg(test)]
 mod policies;
 #[cfg(test)]

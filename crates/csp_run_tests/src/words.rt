@@ -5,9 +5,9 @@ use std::test::Fail;
 
 const USAGE: &str = "usage: judge ORIGIN POLICY REQUESTS | report ORIGIN POLICY REQUESTS | \
     compare ORIGIN FIRST SECOND | check ORIGIN FIRST SECOND PROOF | drill N | \
-    embed EMBEDDER ORIGIN REQUIRED RESPONSE\n";
+    embed EMBEDDER ORIGIN REQUIRED RESPONSE | learn ORIGIN REQUESTS | order ORIGIN LISTS\n";
 
-const RUNS: [(&[&str], Status, &str); 20] = [
+const RUNS: [(&[&str], Status, &str); 25] = [
     (&[], Status::Usage, USAGE),
     (&["judge"], Status::Usage, USAGE),
     (
@@ -21,6 +21,13 @@ const RUNS: [(&[&str], Status, &str); 20] = [
     (&["drill", "8", "8"], Status::Usage, USAGE),
     (&["report"], Status::Usage, USAGE),
     (&["embed", "https://e.example"], Status::Usage, USAGE),
+    (&["learn", "https://a.example"], Status::Usage, USAGE),
+    (
+        &["learn", "https://a.example", "p", "r"],
+        Status::Usage,
+        USAGE,
+    ),
+    (&["order", "https://a.example", "p"], Status::Usage, USAGE),
     (
         &["embed", "e", "https://a.example", "p"],
         Status::Usage,
@@ -61,6 +68,8 @@ const RUNS: [(&[&str], Status, &str); 20] = [
         Status::BadOrigin,
         "bad origin\n",
     ),
+    (&["learn", "a", "r"], Status::BadOrigin, "bad origin\n"),
+    (&["order", "a", "p", "r"], Status::BadOrigin, "bad origin\n"),
     (
         &["judge", "https://a.example/x", "p", "r"],
         Status::BadOrigin,

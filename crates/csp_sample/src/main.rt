@@ -1,89 +1,81 @@
-//! A program that uses the library as any other would: it runs commands on example files, keeps what is
-//! printed in memory, and prints it behind the example's name.
+//! A program that uses the library as any other would: it reads header blocks, judges requests under one,
+//! compares two of them, and checks the proof that it gets. Then it runs the commands of the examples.
 #![tactic(auto)]
 
-use csp_desk::{Lines, Reporter, Tally};
-use csp_io::{FileInputs, MemorySink};
-use csp_model::{List, Memory, Text};
-use csp_run::{Status, exit_code, run};
+ghost use Rattle.std.specs.Prelude.{◌≤◌, length};
+ghost use Rattle.csp_model.specs.Policies.{IsReadable, policy_limit};
+
+use csp_checker::Checker;
+use csp_compare::{Answer, compare};
+use csp_model::{PolicyList, name_text};
+use csp_policy::read_block;
+use csp_print::check_json;
+use csp_request::read_requests;
+use csp_url::read_origin;
+use csp_verdict::CompiledList;
 use std::alloc::Global;
 
-// The words of a command behind its origin: files, of which each command takes its own number.
-const EXAMPLES: [(&str, &str, &[&str]); 10] = [
-    ("first", "judge", &["first.txt", "first.json"]),
-    ("kinds", "judge", &["kinds.txt", "kinds.json"]),
-    ("blocked", "judge", &["blocked.txt", "blocked.json"]),
-    (
-        "report-only",
-        "judge",
-        &["report-only.txt", "report-only.json"],
-    ),
-    ("report", "report", &["report.txt", "report.json"]),
-    (
-        "compare-yes",
-        "compare",
-        &["compare-yes-first.txt", "compare-yes-second.txt"],
-    ),
-    (
-        "compare-no",
-        "compare",
-        &["compare-no-first.txt", "compare-no-second.txt"],
-    ),
-    (
-        "compare-realistic",
-        "compare",
-        &[
-            "compare-realistic-first.txt",
-            "compare-realistic-second.txt",
-        ],
-    ),
-    (
-        "check-accepted",
-        "check",
-        &["check-first.txt", "check-second.txt", "check-accepted.txt"],
-    ),
-    (
-        "check-rejected",
-        "check",
-        &["check-first.txt", "check-second.txt", "check-rejected.txt"],
-    ),
-];
+mod commands;
 
-// Room for what one example prints.
-const ROOM: usize = 16_384;
+// What a server sends today, and what it is to send instead.
+const OLD: &[u8] = b"content-security-policy: default-src 'self'; img-src 'self' https:\n";
+
+const NEW: &[u8] =
+    b"content-security-policy: default-src 'self'; img-src 'self' https://img.example\n";
+
+// What the server's pages load.
+const REQUESTS: &[u8] = br#"[
+    {"kind": "fetch", "destination": "image", "url": "https://img.example/logo.png"},
+    {"kind": "fetch", "destination": "image", "url": "https://cdn.example/badge.png"},
+    {"kind": "eval"}
+]"#;
 
 fn main(rt: HostRuntime) -> anyhow::Result<()> {
-    for (name, verb, files) in EXAMPLES {
-        let mut out = MemorySink::new(rt.alloc(), ROOM, ROOM, List::new(rt.alloc()))?;
-        let words = words(rt.alloc(), verb, files)?;
-        let status = run_words(&rt, rt.alloc(), &words, &mut out)?;
-        println!(rt; "{name}, exit code {}:", exit_code(status))?;
-        print!(rt; "{}", str::from_utf8(out.taken())?)?;
+    let alloc = rt.alloc();
+    let origin = read_origin(alloc, "https://a.example")?;
+    let old = read_block(alloc, OLD, &origin)?;
+    let new = read_block(alloc, NEW, &origin)?;
+    judge(&rt, alloc, &new)?;
+    compare_lists(&rt, alloc, &new, &old)?;
+    compare_lists(&rt, alloc, &old, &new)?;
+    commands::run_all(&rt, alloc)
+}
+
+// Prints which requests a list blocks, and which directives decided.
+fn judge(rt: &impl Print, alloc: Global, list: &PolicyList) -> anyhow::Result<()>
+    requires { length list.now.policies ≤ policy_limit }
+{
+    let compiled = CompiledList::new(alloc, list)?;
+    let requests = read_requests(alloc, REQUESTS)?;
+    for request in requests.as_slice() {
+        let verdict = compiled.judge(alloc, request)?;
+        println!(rt; "blocked: {}", verdict.blocked)?;
+        for item in verdict.items.as_slice() {
+            println!(rt; "  by {}", name_text(item.governing))?;
+        }
     }
     Ok(())
 }
 
-// A command on files, for pages of `https://a.example`.
-fn words(alloc: Global, verb: &str, files: &[&str]) -> Result<List<Text>, Memory> {
-    let mut texts = List::new(alloc);
-    texts.push(Text::new(alloc, verb)?)?;
-    texts.push(Text::new(alloc, "https://a.example")?)?;
-    for file in files {
-        texts.push(Text::new(alloc, file)?)?;
-    }
-    Ok(texts)
-}
-
-// Does what the words say, with one reporter of lines and one of counts.
-fn run_words(
-    rt: &HostRuntime,
+// Prints whether the first list blocks all that the second one blocks, or a request that shows that it doesn't.
+fn compare_lists(
+    rt: &impl Print,
     alloc: Global,
-    words: &List<Text>,
-    out: &mut MemorySink,
-) -> Result<Status, Memory> {
-    let mut desk: Vec<Box<dyn Reporter>> = Vec::new(alloc);
-    desk.push(Box::new(alloc, Lines::new(alloc))?)?;
-    desk.push(Box::new(alloc, Tally::new(alloc))?)?;
-    let mut inputs = FileInputs::new(rt, alloc);
-    Ok(run(alloc, words, &mut inputs, out, &mut desk))
+    first: &PolicyList,
+    second: &PolicyList,
+) -> anyhow::Result<()>
+    requires first { IsReadable first.now }
+    requires second { IsReadable second.now }
+{
+    match compare(alloc, first, second)? {
+        Answer::Subsumed { proof } => {
+            let mut checker = Checker::new(alloc, first, second, &proof)?;
+            println!(rt; "as strict, proof accepted: {}", checker.accepts().is_ok())?;
+        }
+        Answer::Counterexample { check } => {
+            let text = check_json(alloc, &check)?;
+            println!(rt; "weaker: {}", str::from_utf8(text.as_slice())?)?;
+        }
+    }
+    Ok(())
 }

@@ -1,4 +1,4 @@
-use Rattle.std.proofs.Common.{ap, sym, ◌∙◌, ℕ, List, Result, Err}
+use Rattle.std.proofs.Common.{ap, sym, ◌∙◌, ℕ, List, Err}
 use Rattle.csp_url.specs.Origins.{origin_of}
 use Rattle.csp_run.specs.Words.{origin_for, with_origin}
 use Rattle.csp_run.specs.declared.fault.Fault.{Fault}
