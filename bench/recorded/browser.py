@@ -8,6 +8,7 @@ what the protocol tells is written as the developer tools export it, as a HAR.
 import json
 import os
 import queue
+import re
 import shutil
 import subprocess
 import tempfile
@@ -93,6 +94,7 @@ class Server(BaseHTTPRequestHandler):
         self.send_header("Content-Type", "text/event-stream" if path == "/events" else media)
         text = texts.get(path, "")
         body = (text if text == WATCH else text.format(**names)).encode()
+        body += getattr(self.server, "more", "").encode() * (path == "/")
         self.send_header("Content-Length", str(len(body)))
         self.end_headers()
         self.wfile.write(body)
@@ -297,21 +299,27 @@ def load(reports_only):
     return origin, Recorder(browser.events), json.loads(told["result"]["value"])
 
 
+def blocked_of(text, origin):
+    """The requests of a HAR, their verdicts under its own policy, enforced, and what is blocked: directives and URLs."""
+    _, policy, _ = har(text, "--arg", "part", "policy")
+    policy = re.sub("-report-only:", ":", policy, flags=re.IGNORECASE)
+    _, output, _ = har(text)
+    requests = json.loads(output)
+    verdicts = [line.split(maxsplit=2)[1:] for line in judge(output, policy, origin)[1]]
+    blocked = [
+        (verdict[1].split(":")[2].split("/")[0], request.get("urls") or [request["url"]])
+        for request, verdict in zip(requests, verdicts)
+        if verdict[0] == "blocked"
+    ]
+    return requests, verdicts, blocked
+
+
 def a_browser_says_the_same():
     """What Chromium blocks of a page, and what the program blocks of the HAR of that page."""
     for reports_only in (True, False):
         origin, network, seen = load(reports_only)
-        text = json.dumps(network.har())
-        _, policy, _ = har(text, "--arg", "part", "policy")
-        policy = policy.replace("-Report-Only:", ":")
-        _, output, _ = har(text)
-        requests = json.loads(output)
-        verdicts = [line.split(maxsplit=2)[1:] for line in judge(output, policy, origin)[1]]
-        blocked = [
-            (verdict[1].split(":")[2].split("/")[0], (request.get("urls") or [request["url"]])[0])
-            for request, verdict in zip(requests, verdicts)
-            if verdict[0] == "blocked"
-        ]
+        requests, verdicts, blocked = blocked_of(json.dumps(network.har()), origin)
+        blocked = [(directive, urls[0]) for directive, urls in blocked]
         mode = "a page whose policy only reports" if reports_only else "a page whose policy is enforced"
         print(f"{mode}: {len(requests)} requests in its HAR, {len(blocked)} blocked by the program")
         point(f"{mode}: a verdict for each request", len(requests), len(verdicts))
@@ -336,15 +344,16 @@ def a_browser_says_the_same():
                 print(f"blocked, and not in the HAR: {directive} {url}")
 
 
+def is_named(url, named):
+    """Whether a report that names this may be of that URL. Some reports name a part of a URL."""
+    return (url + "/").startswith((named + "/", named + ":"))
+
+
 def matched_away(reported, blocked):
-    """The reports and the blocked requests that don't belong together. Some reports name a part of a URL."""
+    """The reports and the blocked requests that don't belong together."""
     left, rest = [], list(blocked)
     for directive, named in sorted(reported, key=lambda report: -len(report[1])):
-        fits = (
-            one
-            for one in rest
-            if one[0] == directive and (one[1] + "/").startswith((named + "/", named + ":"))
-        )
+        fits = (one for one in rest if one[0] == directive and is_named(one[1], named))
         if fit := next(fits, None):
             rest.remove(fit)
         else:
