@@ -86,6 +86,7 @@ fn is_report_sample(source: &Source) -> bool
 }
 
 // Whether the directive decides by sources.
+#[tactic(auto, unfolding(csp_match::specs::Candidates::can_govern))]
 fn has_source_name(directive: &Directive) -> bool
     ensures { result ≡ spec.has_source_name directive.now }
 {
