@@ -1,5 +1,6 @@
 //! The tokens that may be taken away.
 ghost use Rattle.std.specs.Prelude.{◌≡◌, ◌++◌, IfOk, IsTrue, OnOk};
+ghost use Rattle.csp_match.specs.Candidates as governing;
 ghost use Rattle.csp_model.specs.Verdict.{is_enforce};
 ghost use Rattle.csp_tidy.specs.Candidates as spec;
 
@@ -86,14 +87,20 @@ fn is_report_sample(source: &Source) -> bool
 }
 
 // Whether the directive decides by sources.
-#[tactic(auto, unfolding(csp_match::specs::Candidates::can_govern))]
 fn has_source_name(directive: &Directive) -> bool
     ensures { result ≡ spec.has_source_name directive.now }
 {
-    let can_govern = names()
+    can_govern(directive) && directive.name.as_str() != name_text(Name::Sandbox)
+}
+
+// Whether the directive can govern a check.
+#[tactic(auto, unfolding(csp_match::specs::Candidates::can_govern))]
+fn can_govern(directive: &Directive) -> bool
+    ensures { result ≡ governing.can_govern directive.now }
+{
+    names()
         .iter()
-        .any(|name| directive.name.as_str() == name_text(*name));
-    can_govern && directive.name.as_str() != name_text(Name::Sandbox)
+        .any(|name| directive.name.as_str() == name_text(*name))
 }
 
 // Whether a candidate stands at the place.
