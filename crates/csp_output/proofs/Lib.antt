@@ -7,3 +7,4 @@ pub mod OneStatus
 pub mod SameItems
 pub mod OrderWritten
 pub mod Shows
+pub mod TidiedLists
