@@ -13,7 +13,7 @@ use std::process::Abort;
 use std::test::Fail;
 
 // Whether the text of the proof reads as a proof that the checker accepts.
-fn is_accepted(
+pub(crate) fn is_accepted(
     rt: &(impl Abort + AllocGlobal),
     first: &PolicyList,
     second: &PolicyList,

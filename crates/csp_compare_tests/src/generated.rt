@@ -1,5 +1,5 @@
-//! Comparisons of small lists that a generator of fixed seed puts together: each answer is confirmed, as in
-//! `comparing`.
+//! Small lists that a generator of fixed seed puts together, and comparisons of them: each answer is confirmed,
+//! as in `comparing`.
 use crate::comparing::compared;
 use csp_model::Memory;
 use rand_core::utils::NextWord;
@@ -102,7 +102,7 @@ fn push_header(alloc: Global, words: &mut Pcg32, block: &mut String) -> Result<(
 }
 
 // One or two header lines behind these.
-fn block(alloc: Global, words: &mut Pcg32, before: &str) -> Result<String, Memory> {
+pub(crate) fn block(alloc: Global, words: &mut Pcg32, before: &str) -> Result<String, Memory> {
     let mut made = String::from_str(alloc, before)?;
     for _ in 0..=below(words, 2) {
         push_header(alloc, words, &mut made)?;

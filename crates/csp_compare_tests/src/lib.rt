@@ -25,4 +25,6 @@ mod proofs;
 #[cfg(test)]
 mod runs;
 #[cfg(test)]
+mod tidying;
+#[cfg(test)]
 mod values;

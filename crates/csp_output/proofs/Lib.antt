@@ -8,3 +8,4 @@ pub mod SameItems
 pub mod LearntRead
 pub mod OrderWritten
 pub mod Shows
+pub mod TidiedLists

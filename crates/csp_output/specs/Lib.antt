@@ -6,3 +6,4 @@ pub mod Learnt
 pub mod Lines
 pub mod Orders
 pub mod Statuses
+pub mod Tidyings

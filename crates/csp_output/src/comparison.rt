@@ -53,7 +53,11 @@ pub(crate) fn difference(alloc: Global, second: &PolicyList, check: &Check) -> R
 }
 
 // Writes the line of a check as a description, which reads back to the check.
-fn push_description(alloc: Global, text: &mut Vec<u8>, check: &Check) -> Result<(), Memory>
+pub(crate) fn push_description(
+    alloc: Global,
+    text: &mut Vec<u8>,
+    check: &Check,
+) -> Result<(), Memory>
     requires { IsValidCheck check.now }
     ensures text { OnOk result
         (text.new.items ≡ text.old.items ++ (spec.description_of check.now ++ codes "\n")) }

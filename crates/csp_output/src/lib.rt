@@ -1,5 +1,5 @@
-//! What `compare`, `check`, `drill`, `embed` and `order` print of lists of policies, the lines of verdicts,
-//! what is printed of a learnt policy, and the statuses that runs end with.
+//! What `compare`, `check`, `drill`, `embed`, `tidy` and `order` print of lists of policies, the lines of
+//! verdicts, what is printed of a learnt policy, and the statuses that runs end with.
 #![tactic(auto)]
 
 mod acceptance;
@@ -13,6 +13,7 @@ mod lines;
 mod ordering;
 mod shown_items;
 mod status;
+mod tidy;
 mod verdict_lines;
 
 pub use acceptance::check;
@@ -23,4 +24,5 @@ pub use exercise::drill;
 pub use learn::print_learnt;
 pub use ordering::order;
 pub use status::{Status, exit_code};
+pub use tidy::tidy;
 pub use verdict_lines::VerdictLines;

@@ -6,7 +6,8 @@ ghost use Rattle.csp_output.specs.Statuses as spec;
 #[derive(Clone, Copy, Debug, PartialEq, Eq)]
 pub enum Status {
     /// No request is blocked, the second list allows what the first allows, the proof is accepted, the
-    /// response may be shown, or the report, the drill, the learnt policy or the order is printed.
+    /// response may be shown, or the report, the drill, the tidied list, the learnt policy or the order is
+    /// printed.
     Clean,
     /// Some request is blocked, the second list blocks what the first allows, the proof is rejected, or the
     /// response may not be shown.

@@ -20,7 +20,7 @@ use Rattle.csp_run.specs.declared.files.Content.{Content}
 use Rattle.csp_run.specs.declared.files.Content.TheVariants as content
 use Rattle.csp_output.specs.declared.built.Built.{Built}
 use Rattle.csp_run.specs.declared.plan.Form.{Form}
-use Rattle.csp_run.specs.declared.plan.Form.TheVariants.{Judge, Report, Compare, Check, Drill, Embed, Learn, Order}
+use Rattle.csp_run.specs.declared.plan.Form.TheVariants.{Judge, Report, Compare, Check, Drill, Embed, Tidy, Learn, Order}
 use Rattle.csp_output.specs.declared.status.Status.{Status}
 use Rattle.csp_output.specs.declared.status.Status.TheVariants.{Clean, Found}
 use Rattle.csp_output.specs.Checks.{checked}
@@ -100,6 +100,7 @@ printed_done Check o (Ok (content.Policies first ∷ content.Policies second ∷
 printed_done (Drill pairs) o (Ok []) desk built is = ap is_done is.0.status
 printed_done (Embed embedder) o (Ok (content.Required policy ∷ content.Response block list ∷ [])) desk built is =
     embedded_done embedder policy block list built is.0
+printed_done Tidy o (Ok (content.Policies list ∷ [])) desk built is = ap is_done is.0.status
 printed_done Learn o (Ok (content.Requests bytes ∷ [])) desk built is = learnt_done o (requests_of bytes) built is.0
 printed_done Order o (Ok contents) desk built is = ap is_done is.0.2.status
 printed_done form o (Ok contents) desk built is = absurd is

@@ -17,7 +17,7 @@ use Rattle.csp_run.specs.declared.files.Content.{Content}
 use Rattle.csp_run.specs.declared.files.Content.TheVariants as content
 use Rattle.csp_output.specs.declared.built.Built.{Built}
 use Rattle.csp_run.specs.declared.plan.Form.{Form}
-use Rattle.csp_run.specs.declared.plan.Form.TheVariants.{Judge, Report, Compare, Check, Drill, Embed, Learn, Order}
+use Rattle.csp_run.specs.declared.plan.Form.TheVariants.{Judge, Report, Compare, Check, Drill, Embed, Tidy, Learn, Order}
 use Rattle.csp_output.specs.Checks.{IsChecked}
 use Rattle.csp_output.specs.Comparisons.{IsComparison}
 use Rattle.csp_run.specs.Desk.{Desk, IsUntouched}
@@ -26,6 +26,7 @@ use Rattle.csp_output.specs.Embeddings.{IsEmbedding}
 use Rattle.csp_output.specs.Learnt.{learning}
 use Rattle.csp_output.specs.Lines.{judgment}
 use Rattle.csp_output.specs.Orders.{IsOrdering}
+use Rattle.csp_output.specs.Tidyings.{IsTidying}
 use Rattle.csp_run.specs.Reports.{violations_in, IsReport}
 
 -- the fault of what a request file is refused for
@@ -88,6 +89,7 @@ IsOutput Check origin (Ok (content.Policies first ∷ content.Policies second �
 IsOutput (Drill pairs) origin (Ok []) desk end = IsBuilt (IsDrill pairs) end × IsUntouched desk
 IsOutput (Embed embedder) origin (Ok (content.Required policy ∷ content.Response block list ∷ [])) desk end =
     IsBuilt (IsEmbedding embedder policy block list) end × IsUntouched desk
+IsOutput Tidy origin (Ok (content.Policies list ∷ [])) desk end = IsBuilt (IsTidying list) end × IsUntouched desk
 IsOutput Learn origin (Ok (content.Requests bytes ∷ [])) desk end =
     (end ≡ learnt origin (requests_of bytes)) × IsUntouched desk
 IsOutput Order origin (Ok contents) desk end = IsOrdered contents end × IsUntouched desk

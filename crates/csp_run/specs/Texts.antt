@@ -41,7 +41,7 @@ fault_pieces fault.Usage =
     codes "usage: judge ORIGIN POLICY REQUESTS" ∷ codes " | report ORIGIN POLICY REQUESTS"
     ∷ codes " | compare ORIGIN FIRST SECOND" ∷ codes " | check ORIGIN FIRST SECOND PROOF"
     ∷ codes " | drill N | embed EMBEDDER ORIGIN REQUIRED RESPONSE"
-    ∷ codes " | learn ORIGIN REQUESTS | order ORIGIN LISTS\n" ∷ []
+    ∷ codes " | tidy ORIGIN POLICY | learn ORIGIN REQUESTS | order ORIGIN LISTS\n" ∷ []
 fault_pieces fault.BadOrigin = codes "bad origin" ∷ [] ∷ [] ∷ [] ∷ [] ∷ codes "\n" ∷ []
 fault_pieces (fault.BadPolicy file line) =
     codes "bad policy: " ∷ role_word file ∷ role_number file ∷ codes " line " ∷ decimal line ∷ codes "\n" ∷ []

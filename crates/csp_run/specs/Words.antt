@@ -12,7 +12,7 @@ use Rattle.csp_run.specs.declared.fault.Fault.TheVariants.{Usage, BadOrigin}
 use Rattle.csp_run.specs.declared.fault.Role.{Role}
 use Rattle.csp_run.specs.declared.fault.Role.TheVariants as role
 use Rattle.csp_run.specs.declared.plan.Form.{Form}
-use Rattle.csp_run.specs.declared.plan.Form.TheVariants.{Judge, Report, Compare, Check, Drill, Embed, Learn, Order}
+use Rattle.csp_run.specs.declared.plan.Form.TheVariants.{Judge, Report, Compare, Check, Drill, Embed, Tidy, Learn, Order}
 
 -- how many pairs of sources a drill has: a decimal number from 1 to 200, without leading zeros
 unfoldable pub is_drill_number : List ℕ → Bool
@@ -32,6 +32,7 @@ form_of verb word =
     else if bytes_eq verb (codes "compare") then Some Compare
     else if bytes_eq verb (codes "check") then Some Check
     else if bytes_eq verb (codes "drill") then option_map (λ pairs. Drill pairs) (drill_pairs word)
+    else if bytes_eq verb (codes "tidy") then Some Tidy
     else if bytes_eq verb (codes "learn") then Some Learn
     else if bytes_eq verb (codes "order") then Some Order
     else None
@@ -50,6 +51,7 @@ takes Compare files = files == 2
 takes Check files = files == 3
 takes (Drill pairs) files = files == 0
 takes (Embed embedder) files = files == 2
+takes Tidy files = files == 1
 takes Learn files = files == 1
 takes Order files = nat_le 2 files && nat_le files 16
 
@@ -73,6 +75,7 @@ role_at Compare place = compared_role place
 role_at Check place = compared_role place
 role_at (Drill pairs) place = compared_role place
 role_at (Embed embedder) place = embedded_role place
+role_at Tidy place = role.Policy
 role_at Learn place = role.Requests
 role_at Order place = role.List (place + 1)
 

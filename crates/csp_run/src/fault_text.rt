@@ -87,7 +87,7 @@ fn pieces<'a>(fault: Fault, list: &'a mut Buffer, digits: &'a mut Buffer) -> [&'
             " | compare ORIGIN FIRST SECOND",
             " | check ORIGIN FIRST SECOND PROOF",
             " | drill N | embed EMBEDDER ORIGIN REQUIRED RESPONSE",
-            " | learn ORIGIN REQUESTS | order ORIGIN LISTS\n",
+            " | tidy ORIGIN POLICY | learn ORIGIN REQUESTS | order ORIGIN LISTS\n",
         ],
         Fault::BadOrigin => ["bad origin", "", "", "", "", "\n"],
         Fault::BadPolicy { file, line } => [

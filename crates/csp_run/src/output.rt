@@ -22,7 +22,7 @@ use crate::report::report;
 use csp_desk::Reporter;
 use csp_json::{Scratch, Value};
 use csp_model::{PolicyList, Verdict};
-use csp_output::{Built, Response, Status, VerdictLines, check, compare, drill, embed};
+use csp_output::{Built, Response, Status, VerdictLines, check, compare, drill, embed, tidy};
 use csp_proof::ProofError;
 use csp_request::{ReportTexts, RequestError, Requests, describe_for};
 use csp_verdict::CompiledList;
@@ -84,6 +84,7 @@ pub(crate) fn output(
             };
             Ok(Outcome::Text(embed(alloc, embedder, policy, response)?))
         }
+        (Form::Tidy, [Content::Policies(list)]) => Ok(Outcome::Text(tidy(alloc, list)?)),
         (Form::Learn, files) => {
             let [Content::Requests(bytes)] = files else {
                 unreachable!()

@@ -25,6 +25,8 @@ pub enum Form {
     Drill { pairs: u8 },
     /// What becomes of a response of which this embedder requires a policy.
     Embed { embedder: Origin },
+    /// A list that allows what a policy file allows, without the tokens that change nothing.
+    Tidy,
     /// The policy that the fetches of a request file need.
     Learn,
     /// Which of 2 to 16 policy files allow all that which others allow.
@@ -48,6 +50,7 @@ pub(crate) fn role_at(form: &Form, place: usize) -> Role
         Form::Judge | Form::Report => judged_role(place),
         Form::Compare | Form::Check | Form::Drill { .. } => compared_role(place),
         Form::Embed { .. } => embedded_role(place),
+        Form::Tidy => Role::Policy,
         Form::Learn => Role::Requests,
         Form::Order => Role::List { number: place + 1 },
     }
@@ -191,6 +194,7 @@ fn form_of(verb: &str, word: &str) -> Option<Form>
             Some(pairs) => Some(Form::Drill { pairs }),
             None => None,
         },
+        "tidy" => Some(Form::Tidy),
         "learn" => Some(Form::Learn),
         "order" => Some(Form::Order),
         _ => None,
@@ -205,7 +209,7 @@ fn takes(form: &Form, files: usize) -> bool
         Form::Judge | Form::Report | Form::Compare | Form::Embed { .. } => files == 2,
         Form::Check => files == 3,
         Form::Drill { .. } => files == 0,
-        Form::Learn => files == 1,
+        Form::Tidy | Form::Learn => files == 1,
         Form::Order => 2 <= files && files <= 16,
     }
 }

@@ -34,6 +34,8 @@ mod runs;
 #[cfg(test)]
 mod sinks;
 #[cfg(test)]
+mod tidying;
+#[cfg(test)]
 mod urls;
 #[cfg(test)]
 mod words;

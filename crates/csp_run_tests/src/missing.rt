@@ -20,7 +20,7 @@ const EMBEDDER: &str = "https://e.example";
 
 const REQUIRED: &str = "Content-Security-Policy: img-src https:";
 
-const MISSING: [(&[&str], &str, &str); 16] = [
+const MISSING: [(&[&str], &str, &str); 17] = [
     (&["judge", ORIGIN, GONE, HERE], "[]", "read fault: policy\n"),
     (&["judge", ORIGIN, HERE, GONE], "", "read fault: requests\n"),
     (&["judge", ORIGIN, GONE, GONE], "", "read fault: policy\n"),
@@ -73,6 +73,7 @@ const MISSING: [(&[&str], &str, &str); 16] = [
         "",
         "read fault: required\n",
     ),
+    (&["tidy", ORIGIN, GONE], "", "read fault: policy\n"),
 ];
 
 // The status of a run over these inputs, and what a stream took of it.

@@ -5,9 +5,10 @@ use std::test::Fail;
 
 const USAGE: &str = "usage: judge ORIGIN POLICY REQUESTS | report ORIGIN POLICY REQUESTS | \
     compare ORIGIN FIRST SECOND | check ORIGIN FIRST SECOND PROOF | drill N | \
-    embed EMBEDDER ORIGIN REQUIRED RESPONSE | learn ORIGIN REQUESTS | order ORIGIN LISTS\n";
+    embed EMBEDDER ORIGIN REQUIRED RESPONSE | tidy ORIGIN POLICY | learn ORIGIN REQUESTS | \
+    order ORIGIN LISTS\n";
 
-const RUNS: [(&[&str], Status, &str); 25] = [
+const RUNS: [(&[&str], Status, &str); 28] = [
     (&[], Status::Usage, USAGE),
     (&["judge"], Status::Usage, USAGE),
     (
@@ -21,6 +22,12 @@ const RUNS: [(&[&str], Status, &str); 25] = [
     (&["drill", "8", "8"], Status::Usage, USAGE),
     (&["report"], Status::Usage, USAGE),
     (&["embed", "https://e.example"], Status::Usage, USAGE),
+    (&["tidy", "https://a.example"], Status::Usage, USAGE),
+    (
+        &["tidy", "https://a.example", "p", "r"],
+        Status::Usage,
+        USAGE,
+    ),
     (&["learn", "https://a.example"], Status::Usage, USAGE),
     (
         &["learn", "https://a.example", "p", "r"],
@@ -68,6 +75,7 @@ const RUNS: [(&[&str], Status, &str); 25] = [
         Status::BadOrigin,
         "bad origin\n",
     ),
+    (&["tidy", "a", "p"], Status::BadOrigin, "bad origin\n"),
     (&["learn", "a", "r"], Status::BadOrigin, "bad origin\n"),
     (&["order", "a", "p", "r"], Status::BadOrigin, "bad origin\n"),
     (
