@@ -1,4 +1,4 @@
-use Rattle.std.proofs.Common.{ap, refl, subst, codes, ◌++◌, All}
+use Rattle.std.proofs.Common.{List, ap, refl, subst, codes, ◌++◌, All}
 use Rattle.std.specs.List.{flat_map}
 use Rattle.csp_model.specs.declared.policy.Policy.{Policy}
 use Rattle.csp_policy.specs.HeaderLines.{header_lines}
