@@ -94,15 +94,15 @@ fn hash_counts(kind: InlineKind, sources: &List<Source>) -> bool
     is_element_kind(kind) || has_keyword(sources, Keyword::UnsafeHashes)
 }
 
-// The text of a script or a style element.
-pub(crate) fn is_element_kind(kind: InlineKind) -> bool
+/// Whether inline code or style of a kind is the text of a script or a style element.
+pub fn is_element_kind(kind: InlineKind) -> bool
     ensures { result ≡ is_element_kind kind }
 {
     matches!(kind, InlineKind::Script | InlineKind::Style)
 }
 
-// Code, and no style.
-pub(crate) fn is_script_kind(kind: InlineKind) -> bool
+/// Whether inline code or style of a kind is code.
+pub fn is_script_kind(kind: InlineKind) -> bool
     ensures { result ≡ is_script_kind kind }
 {
     !matches!(kind, InlineKind::Style | InlineKind::StyleAttribute)

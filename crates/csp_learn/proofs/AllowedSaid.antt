@@ -1,6 +1,6 @@
 -- A learnt policy allows exactly what its log needs.
-use Rattle.std.proofs.Common.{arith, ◌≡◌, ◌∙◌, sym, ap, refl, subst, ℕ, Bool, true, false, ◌&&◌, ◌||◌, List, [], ◌∷◌, cond, Option, Some, None, All, Any, Contains, inl, inr, ◌⊎◌}
-use Rattle.std.specs.Prelude.{IsTrue, ◌↔◌, unwrap_or}
+use Rattle.std.proofs.Common.{◌≡◌, ◌∙◌, sym, ap, refl, subst, ℕ, Bool, true, false, ◌&&◌, ◌||◌, List, [], ◌∷◌, cond, Some, None, All, Any, Contains, inl, inr, ◌⊎◌}
+use Rattle.std.specs.Prelude.{IsTrue, unwrap_or}
 use Rattle.std.specs.Bool.{Decides}
 use Rattle.std.specs.List.{list_any, list_all, find}
 use Rattle.std.specs.Str.{bytes_eq}
@@ -22,7 +22,6 @@ use Rattle.csp_model.specs.declared.check.Group.{Group}
 use Rattle.csp_model.specs.declared.check.Group.TheVariants as group
 use Rattle.csp_model.specs.declared.name.Name.{Name}
 use Rattle.csp_model.specs.declared.name.Name.TheVariants.{ConnectSrc, BaseUri, FormAction, FrameAncestors, Sandbox}
-use Rattle.csp_model.specs.declared.source.Hash.{Hash}
 use Rattle.csp_model.specs.declared.source.Source.{Source}
 use Rattle.csp_model.specs.declared.url.Origin.{Origin}
 use Rattle.csp_model.specs.declared.url.Url.{Url}
@@ -74,21 +73,38 @@ needed_plain : (there : Url) → is_plain (needed_source there) ≡ true
 needed_plain (url.Plain scheme) = refl
 needed_plain (url.Hosted scheme host port path) = refl
 
-need_plain : Reads → (asked : Check) → IsValidCheck asked → passes_if (λ (need : Need). is_plain (source_of need.token)) (need_of asked) ≡ true
-need_plain built (check.Fetch group there redirects nonce integrity parser_inserted) valid = go (can_be_named there) refl where
+-- what passes each token by which a URL can be named passes the token of each need
+
+need_passes : (p : List ℕ → Bool) → ((there : Url) → IsValidUrl there → can_be_named there ≡ true → p (needed_token there) ≡ true)
+    → (asked : Check) → IsValidCheck asked → passes_if (λ (need : Need). p need.token) (need_of asked) ≡ true
+need_passes p each (check.Fetch group there redirects nonce integrity parser_inserted) valid = go (can_be_named there) refl where
   go : (b : Bool) → can_be_named there ≡ b
-      → passes_if (λ (need : Need). is_plain (source_of need.token)) (cond b (Some (record { directive = name_text (group_directive group); token = needed_token there })) None) ≡ true
-  go true named = ap is_plain (token_reads built there valid.0 named) ∙ needed_plain there
+      → passes_if (λ (need : Need). p need.token) (cond b (Some (record { directive = name_text (group_directive group); token = needed_token there })) None) ≡ true
+  go true named = each there valid.0 named
   go false named = refl
-need_plain built (check.Inline kind nonce digests) valid = refl
-need_plain built check.Eval valid = refl
-need_plain built check.Wasm valid = refl
-need_plain built (check.Base there) valid = refl
-need_plain built (check.Form there redirects) valid = refl
-need_plain built (check.Ancestor there) valid = refl
-need_plain built check.OpaqueAncestor valid = refl
-need_plain built (check.Capability capability) valid = refl
-need_plain built check.WorkerStart valid = refl
+need_passes p each (check.Inline kind nonce digests) valid = refl
+need_passes p each check.Eval valid = refl
+need_passes p each check.Wasm valid = refl
+need_passes p each (check.Base there) valid = refl
+need_passes p each (check.Form there redirects) valid = refl
+need_passes p each (check.Ancestor there) valid = refl
+need_passes p each check.OpaqueAncestor valid = refl
+need_passes p each (check.Capability capability) valid = refl
+need_passes p each check.WorkerStart valid = refl
+
+valid_all : {X : Type 0} (p : X → Bool) (V : X → Type 0) → ((x : X) → V x → p x ≡ true) → (xs : List X) → All V xs → list_all p xs ≡ true
+valid_all p V each [] all = refl
+valid_all p V each (x ∷ xs) all =
+    ap (λ b. b && list_all p xs) (each x (All-head V x xs all)) ∙ valid_all p V each xs (All-tail V x xs all)
+
+pub needs_pass : (p : List ℕ → Bool) → ((there : Url) → IsValidUrl there → can_be_named there ≡ true → p (needed_token there) ≡ true)
+    → (logged : List Check) → All IsValidCheck logged → list_all (λ (need : Need). p need.token) (needs_of logged) ≡ true
+needs_pass p each logged valid =
+    all_needed (λ (need : Need). p need.token) logged
+    (valid_all (λ asked. passes_if (λ (need : Need). p need.token) (need_of asked)) IsValidCheck (need_passes p each) logged valid)
+
+plain_needs : Reads → (logged : List Check) → All IsValidCheck logged → ArePlain (needs_of logged)
+plain_needs built = needs_pass (λ token. is_plain (source_of token)) (λ there valid named. ap is_plain (token_reads built there valid named) ∙ needed_plain there)
 
 -- a need that matches
 abbrev wanted : Origin → Group → Url → Bool → Need → Bool
@@ -132,16 +148,6 @@ valid_any p P V each [] all = no (Any-none P)
 valid_any p P V each (x ∷ xs) all =
     Decides-like (p x || list_any p xs) (λ (h : P x ⊎ Any P xs). elim h [ inl here ↦ Any-here P x xs here | inr later ↦ Any-later P x xs later ])
     (first_or_later P x xs) (Decides-or (p x) (list_any p xs) (each x (All-head V x xs all)) (valid_any p P V each xs (All-tail V x xs all)))
-
-valid_all : {X : Type 0} (p : X → Bool) (V : X → Type 0) → ((x : X) → V x → p x ≡ true) → (xs : List X) → All V xs → list_all p xs ≡ true
-valid_all p V each [] all = refl
-valid_all p V each (x ∷ xs) all =
-    ap (λ b. b && list_all p xs) (each x (All-head V x xs all)) ∙ valid_all p V each xs (All-tail V x xs all)
-
-plain_needs : Reads → (logged : List Check) → All IsValidCheck logged → ArePlain (needs_of logged)
-plain_needs built logged valid =
-    all_needed (λ (need : Need). is_plain (source_of need.token)) logged
-    (valid_all (λ asked. passes_if (λ (need : Need). is_plain (source_of need.token)) (need_of asked)) IsValidCheck (need_plain built) logged valid)
 
 -- of all fetches exactly those are allowed that a needed source matches
 pub allows_needed : Reads → (origin : Origin) (logged : List Check) → All IsValidCheck logged → AllowsWhatIsNeeded logged (policy_for origin (needs_of logged))

@@ -10,7 +10,6 @@ use Rattle.std.proofs.lemmas.Fmt.{decimal_by_steps}
 use Rattle.std.proofs.lemmas.List.Folds.{list_all-append}
 use Rattle.std.proofs.lemmas.List.Sums.{fold_push}
 use Rattle.std.proofs.lemmas.Slice.Eq.{bytes_eq-Decides}
-use Rattle.csp_model.specs.Ascii.{is_ascii_text}
 use Rattle.csp_model.specs.Grammar.{are_digits, decimal_value, port_numbered, port_part_of}
 use Rattle.csp_model.specs.declared.source.PortPart.TheVariants as port_part
 use Rattle.csp_learn.proofs.HostNames.{weaker}
@@ -59,10 +58,7 @@ port_read n h =
     numbered (decimal n) spells.good ∙ ap (λ m. Some (port_numbered m)) spells.value
     ∙ ap (λ b. Some (cond b (port_part.Number n) port_part.TooLarge)) small
 
-digit_ascii : (c : ℕ) → is_ascii_digit c ≡ true → nat_lt c 128 ≡ true
-digit_ascii c h = grind (arith, nat_tests)
-
-pub decimal_ascii : (n : ℕ) → n < 2 ^ 16 → is_ascii_text (decimal n) ≡ true
-decimal_ascii n h =
+pub decimal_passes : (p : ℕ → Bool) → ((c : ℕ) → is_ascii_digit c ≡ true → p c ≡ true) → (n : ℕ) → n < 2 ^ 16 → list_all p (decimal n) ≡ true
+decimal_passes p each n h =
     let good = (decimal_spells n (omega arith)).good in
-    weaker is_ascii_digit (λ c. nat_lt c 128) digit_ascii (decimal n) (grind (arith, good))
+    weaker is_ascii_digit p each (decimal n) (grind (arith, good))

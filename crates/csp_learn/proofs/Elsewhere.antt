@@ -1,5 +1,5 @@
 -- A learnt policy allows no inline code or style and no compilation, and all that no directive of it governs.
-use Rattle.std.proofs.Common.{◌≡◌, ◌∙◌, ap, refl, ℕ, Bool, true, false, ◌&&◌, ◌||◌, List, [], ◌∷◌, map, Some, None}
+use Rattle.std.proofs.Common.{◌≡◌, ◌∙◌, ap, refl, ℕ, Bool, true, false, ◌||◌, List, [], ◌∷◌, map, Some, None}
 use Rattle.std.specs.List.{list_all}
 use Rattle.csp_model.specs.DecideGoverning.{allows_by, where_governed}
 use Rattle.csp_model.specs.DecideInline.{sources_allow_inline, inline_allows, eval_allows, wasm_allows}

@@ -1,5 +1,5 @@
 -- A learnt policy allows a fetch where a token of its effective directive matches.
-use Rattle.std.proofs.Common.{arith, ◌≡◌, ◌∙◌, sym, ap, refl, ℕ, Bool, true, false, not, ◌&&◌, ◌||◌, List, [], ◌∷◌, map, filter, cond, Option, Some, None}
+use Rattle.std.proofs.Common.{arith, ◌≡◌, ◌∙◌, sym, ap, refl, ℕ, Bool, true, false, ◌&&◌, ◌||◌, List, [], ◌∷◌, map, cond, Option, Some, None}
 use Rattle.std.specs.Prelude.{codes, option_map}
 use Rattle.std.specs.List.{list_any, list_all, filter_map, cons_option, find}
 use Rattle.std.specs.Str.{bytes_eq}
@@ -9,7 +9,7 @@ use Rattle.csp_model.specs.Ascii.{is_nonempty}
 use Rattle.csp_model.specs.DecideFetch.{sources_allow, fetch_allows}
 use Rattle.csp_model.specs.DecideGoverning.{allows_by}
 use Rattle.csp_model.specs.DecideMatching.{matches, list_matches}
-use Rattle.csp_model.specs.DecideTokens.{is_keyword, has_keyword, is_nonce, nonce_matches, is_hash, integrity_matches}
+use Rattle.csp_model.specs.DecideTokens.{is_keyword, is_nonce, nonce_matches, is_hash, integrity_matches}
 use Rattle.csp_model.specs.Fetch.{is_redirected, fetch_rule}
 use Rattle.csp_model.specs.Governing.{Governor, governor, governor_named, is_named, fallbacks}
 use Rattle.csp_model.specs.Grammar.{is_scheme_char, is_label_char, is_name, host_part_of, port_part_of, path_part_of, is_base64_char, is_base64_value}
@@ -29,7 +29,7 @@ use Rattle.csp_model.specs.declared.source.Source.{Source}
 use Rattle.csp_model.specs.declared.source.Source.TheVariants as source
 use Rattle.csp_model.specs.declared.url.Origin.{Origin}
 use Rattle.csp_model.specs.declared.url.Url.{Url}
-use Rattle.csp_learn.specs.Policies.{fetch_directives, directive_of, is_for, tokens_for, where_needed, directive_for, default_none, policy_for}
+use Rattle.csp_learn.specs.Policies.{fetch_directives, is_for, tokens_for, where_needed, directive_for, default_none, policy_for}
 use Rattle.csp_learn.specs.declared.need.Need.{Need}
 use Rattle.csp_learn.proofs.Chosen.{any_chosen, all_chosen}
 

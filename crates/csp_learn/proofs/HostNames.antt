@@ -1,13 +1,13 @@
 -- A host that is made of labels is read as it is written, where it has no capital letters.
-use Rattle.std.proofs.Common.{arith, ◌≡◌, ◌∙◌, sym, ap, refl, ℕ, Bool, true, false, not, ◌&&◌, ◌||◌, List, [], ◌∷◌, ◌++◌, drop, map, Some, None, cond, inl, inr, nat_eq, slice_index}
-use Rattle.std.specs.Prelude.{codes, ◌⊎◌, ◌==◌, bytes_eq, nat_lt, if◌then◌else◌}
+use Rattle.std.proofs.Common.{arith, ◌≡◌, ◌∙◌, sym, ap, refl, ℕ, Bool, true, false, not, List, [], ◌∷◌, ◌++◌, drop, Some, cond, inl, inr, nat_eq}
+use Rattle.std.specs.Prelude.{codes, ◌⊎◌, ◌==◌, bytes_eq}
 use Rattle.std.specs.List.{list_all, slice_split, onto_first, starts_with}
 use Rattle.std.specs.Char.{to_ascii_lowercase, is_ascii_uppercase, is_ascii_digit}
 use Rattle.std.proofs.lemmas.Grind.{common_steps}
 use Rattle.std.proofs.lemmas.Bool.{false≢true}
 use Rattle.std.proofs.lemmas.Bool.Decides.{nat_tests}
 use Rattle.std.proofs.lemmas.Slice.Eq.{bytes_eq-Decides}
-use Rattle.csp_model.specs.Ascii.{lower, split_at, ends_in, without_last, without_final, is_ascii_text}
+use Rattle.csp_model.specs.Ascii.{lower, split_at, ends_in, without_last, without_final}
 use Rattle.csp_model.specs.Grammar.{is_label_char, is_label, is_name, host_part_of}
 use Rattle.csp_model.specs.Paths.{host_text}
 use Rattle.csp_model.specs.Validity.{is_domain_byte, is_domain, is_octet, is_four_numbers, is_bracketed, is_address, IsValidHost}
@@ -47,22 +47,12 @@ label_passes : (p : ℕ → Bool) → ((c : ℕ) → is_label_char c ≡ true �
 label_passes p each part h = weaker is_label_char p each part (grind arith)
 
 -- what holds of dots and of the bytes of labels holds of the bytes of a name
-name_passes : (p : ℕ → Bool) → p 46 ≡ true → ((c : ℕ) → is_label_char c ≡ true → p c ≡ true) → (s : List ℕ) → is_name s ≡ true → list_all p s ≡ true
+pub name_passes : (p : ℕ → Bool) → p 46 ≡ true → ((c : ℕ) → is_label_char c ≡ true → p c ≡ true) → (s : List ℕ) → is_name s ≡ true → list_all p s ≡ true
 unfolding is_name
 name_passes p dot each s h =
     without_final_by p (ends_in 46 s) s refl dot
     (parts_pass p dot (without_final 46 s)
     (weaker is_label (λ part. list_all p part) (label_passes p each) (slice_split (λ c. c == 46) (without_final 46 s)) h))
-
-is_small : ℕ → Bool
-is_small c = nat_lt c 128
-
-label_small : (c : ℕ) → is_label_char c ≡ true → nat_lt c 128 ≡ true
-unfolding is_label_char
-label_small c h = grind (arith, nat_tests)
-
-pub name_ascii : (s : List ℕ) → is_name s ≡ true → is_ascii_text s ≡ true
-name_ascii s h = name_passes (λ c. nat_lt c 128) refl label_small s h
 
 label_no_star : (c : ℕ) → is_label_char c ≡ true → not (c == 42) ≡ true
 unfolding is_label_char
@@ -97,9 +87,6 @@ unfolding host_part_of
 exact_host s h = rw (no_star s h, no_star_dot s h, h) refl
 
 -- capital letters
-
-is_small_letter : ℕ → Bool
-is_small_letter c = not (is_ascii_uppercase c)
 
 lower_byte : (c : ℕ) → not (is_ascii_uppercase c) ≡ true → to_ascii_lowercase c ≡ c
 lower_byte c h = grind (arith, nat_tests)

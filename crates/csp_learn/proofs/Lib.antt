@@ -7,3 +7,4 @@ pub mod Governed
 pub mod LogLaws
 pub mod Elsewhere
 pub mod AllowedSaid
+pub mod Printable

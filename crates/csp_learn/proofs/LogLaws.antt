@@ -1,7 +1,7 @@
 -- What is learnt of a log, one directive, one check and one request after the other.
-use Rattle.std.proofs.Common.{arith, ◌≡◌, ◌∙◌, sym, ap, refl, subst, ℕ, ◌+◌, ◌<◌, ◌≤◌, List, [], ◌∷◌, ◌++◌, append_assoc, append-nil, length, take, get_or, fold, All, Result, Ok, Err}
-use Rattle.std.specs.Prelude.{IfOk}
-use Rattle.std.specs.List.{filter_map, cons_option, flat_map}
+use Rattle.std.proofs.Common.{arith, ◌≡◌, ◌∙◌, sym, ap, subst, ℕ, ◌+◌, ◌<◌, ◌≤◌, List, [], ◌∷◌, ◌++◌, append_assoc, append-nil, length, take, get_or, fold, All, Result, Ok, Err}
+use Rattle.std.specs.Prelude.{IfOk, OnOk}
+use Rattle.std.specs.List.{filter_map, cons_option}
 use Rattle.std.proofs.lemmas.List.{take_more, take_all, flat_map_more, length-take-le}
 use Rattle.std.proofs.lemmas.List.Elements.{filter_map-append, All-nil, All-head, All-tail, All-append}
 use Rattle.std.proofs.lemmas.List.Sums.{fold-append}
@@ -13,7 +13,7 @@ use Rattle.csp_model.specs.declared.policy.Policy.{Policy}
 use Rattle.csp_model.specs.declared.url.Origin.{Origin}
 use Rattle.csp_model.specs.declared.verdict.Described.{Described}
 use Rattle.csp_learn.specs.Logs.{Lesson, checks_of, left_at, left_in, left_from, left_of, lesson_of}
-use Rattle.csp_learn.specs.Needs.{need_of, with_need, needs_of}
+use Rattle.csp_learn.specs.Needs.{need_limit, need_of, with_need, needs_of}
 use Rattle.csp_learn.specs.Policies.{default_none, directive_for, policy_for}
 use Rattle.csp_learn.specs.declared.error.LearnError.{LearnError}
 use Rattle.csp_learn.specs.declared.learnt.Learnt.{Learnt}
@@ -105,12 +105,13 @@ checks_valid (d ∷ log) valid =
     All-append IsValidCheck d.checks (checks_of log) (All-head (λ (d : Described). All IsValidCheck d.checks) d log valid)
     (checks_valid log (All-tail (λ (d : Described). All IsValidCheck d.checks) d log valid))
 
--- what holds of the policy of a log's needs holds of the one that is answered
+-- what holds of the policy of a log's needs, where there aren't too many, holds of the one that is answered
 pub of_answer : (P : Policy → Type 0) (origin : Origin) (log : List Described) (i : ℕ) (learning : Lesson) (answer : Result Learnt LearnError)
     → length log ≤ i → learning ≡ lesson_of (take i log) → IfOk answer (λ learnt. learnt.policy ≡ policy_for origin learning.needs)
-    → P (policy_for origin (needs_of (checks_of log))) → IfOk answer (λ learnt. P learnt.policy)
-of_answer P origin log i learning (Ok learnt) past was is holds =
+    → OnOk answer (length learning.needs ≤ need_limit)
+    → (length (needs_of (checks_of log)) ≤ need_limit → P (policy_for origin (needs_of (checks_of log)))) → IfOk answer (λ learnt. P learnt.policy)
+of_answer P origin log i learning (Ok learnt) past was is few holds =
     let needs : learning.needs ≡ needs_of (checks_of log) =
     ap (λ (l : Lesson). l.needs) was ∙ ap (λ (log : List Described). needs_of (checks_of log)) (take_all i log past) in
-    subst P (sym (is ∙ ap (policy_for origin) needs)) holds
-of_answer P origin log i learning (Err error) past was is holds = tt
+    subst P (sym (is ∙ ap (policy_for origin) needs)) (holds (subst (λ (n : List Need). length n ≤ need_limit) needs few))
+of_answer P origin log i learning (Err error) past was is few holds = tt

@@ -1,27 +1,26 @@
 -- The token of what a fetch needs is built as the source that it needs.
-use Rattle.std.proofs.Common.{arith, ◌≡◌, ◌≢◌, ◌∙◌, sym, ap, refl, ℕ, ◌<◌, ◌^◌, Bool, true, false, ◌&&◌, List, [], ◌∷◌, ◌++◌, append_assoc, append-nil, Option, Some, None, cond}
-use Rattle.std.specs.Prelude.{codes, decimal, nat_lt, unwrap_or, IsTrue}
+use Rattle.std.proofs.Common.{arith, ◌≡◌, ◌≢◌, ◌∙◌, sym, ap, refl, ℕ, ◌<◌, ◌^◌, Bool, true, false, List, [], ◌∷◌, ◌++◌, append_assoc, append-nil, Option, Some, None, cond}
+use Rattle.std.specs.Prelude.{codes, decimal, nat_lt}
 use Rattle.std.specs.List.{list_all}
 use Rattle.std.specs.Str.{bytes_eq}
-use Rattle.std.specs.Char.{is_ascii_alphabetic}
+use Rattle.std.specs.Char.{is_ascii_alphabetic, is_ascii_digit}
 use Rattle.std.proofs.lemmas.Grind.{common_steps}
 use Rattle.std.proofs.lemmas.Bool.Decides.{nat_tests}
 use Rattle.std.proofs.lemmas.List.Folds.{list_all-append}
 use Rattle.std.proofs.lemmas.Slice.Eq.{bytes_eq-Decides}
 use Rattle.csp_model.specs.Ascii.{lower, is_ascii_text}
-use Rattle.csp_model.specs.Grammar.{is_scheme, is_scheme_char, is_name, path_part_of, IsSource}
+use Rattle.csp_model.specs.Grammar.{is_label_char, is_scheme, is_scheme_char, path_part_of, IsSource}
 use Rattle.csp_model.specs.Paths.{host_text}
-use Rattle.csp_model.specs.Schemes.{scheme_text, default_port}
+use Rattle.csp_model.specs.Schemes.{scheme_text}
 use Rattle.csp_model.specs.Validity.{is_lower_scheme, IsValidUrl, IsValidPort}
 use Rattle.csp_model.specs.declared.source.PathPart.TheVariants as path_part
-use Rattle.csp_model.specs.declared.url.Host.{Host}
 use Rattle.csp_model.specs.declared.url.Scheme.{Scheme}
 use Rattle.csp_model.specs.declared.url.Scheme.TheVariants.{Http, Https, Ws, Wss, Ftp}
 use Rattle.csp_model.specs.declared.url.Url.{Url}
 use Rattle.csp_model.specs.declared.url.Url.TheVariants as url
 use Rattle.csp_learn.specs.Needs.{effective_port, needed_source, needed_token, has_named_host, can_be_named}
-use Rattle.csp_learn.proofs.HostNames.{weaker, name_ascii, host_read}
-use Rattle.csp_learn.proofs.Decimals.{port_read, decimal_ascii}
+use Rattle.csp_learn.proofs.HostNames.{weaker, name_passes, host_read}
+use Rattle.csp_learn.proofs.Decimals.{port_read, decimal_passes}
 
 port_small : (scheme : Scheme) (port : Option ℕ) → IsValidPort scheme port → effective_port scheme port < 2 ^ 16
 port_small Http None valid = omega arith
@@ -85,33 +84,50 @@ token_built (url.Hosted scheme host port path) valid named = (
   ),
 )
 
--- the token is ASCII
+-- what holds of the bytes of a scheme, of ":" and of "/" holds of all bytes of the token
+
+letter_is : (c : ℕ) → is_ascii_alphabetic c ≡ true → is_scheme_char c ≡ true
+unfolding is_scheme_char
+letter_is c h = grind (arith, nat_tests)
+
+label_is : (c : ℕ) → is_label_char c ≡ true → is_scheme_char c ≡ true
+unfolding is_label_char is_scheme_char
+label_is c h = grind (arith, nat_tests)
+
+digit_is : (c : ℕ) → is_ascii_digit c ≡ true → is_scheme_char c ≡ true
+unfolding is_scheme_char
+digit_is c h = grind (arith, nat_tests)
+
+dot_is : is_scheme_char 46 ≡ true
+unfolding is_scheme_char
+dot_is = refl
+
+module _ (p : ℕ → Bool) (each : (c : ℕ) → is_scheme_char c ≡ true → p c ≡ true) where
+  both_pass : (a b : List ℕ) → list_all p a ≡ true → list_all p b ≡ true → list_all p (a ++ b) ≡ true
+  both_pass a b h k = list_all-append p a b ∙ grind arith
+
+  scheme_passes : (s : List ℕ) → is_scheme s ≡ true → list_all p s ≡ true
+  scheme_passes [] h = refl
+  scheme_passes (c ∷ s) h = grind (arith, common_steps, letter_is c, each c, weaker is_scheme_char p each s)
+
+  pub token_passes : p 58 ≡ true → p 47 ≡ true → (there : Url) → IsValidUrl there → has_named_host there ≡ true → list_all p (needed_token there) ≡ true
+  unfolding is_lower_scheme
+  token_passes colon slash (url.Plain scheme) valid named =
+      let good = valid.0 in
+      both_pass scheme (codes ":") (scheme_passes scheme (grind (arith, good))) (rw colon refl)
+  token_passes colon slash (url.Hosted scheme host port path) valid named =
+      let digits = decimal (effective_port scheme port) in
+      both_pass (scheme_text scheme) (codes "://" ++ (host_text host ++ (codes ":" ++ digits))) (scheme_passes (scheme_text scheme) (scheme_is scheme))
+      (both_pass (codes "://") (host_text host ++ (codes ":" ++ digits)) (rw (colon, slash) refl)
+      (both_pass (host_text host) (codes ":" ++ digits) (name_passes p (each 46 dot_is) (λ c label. each c (label_is c label)) (host_text host) named)
+      (both_pass (codes ":") digits (rw colon refl) (decimal_passes p (λ c digit. each c (digit_is c digit)) (effective_port scheme port) (port_small scheme port valid.1)))))
 
 scheme_char_ascii : (c : ℕ) → is_scheme_char c ≡ true → nat_lt c 128 ≡ true
 unfolding is_scheme_char
 scheme_char_ascii c h = grind (arith, nat_tests)
 
-letter_ascii : (c : ℕ) → is_ascii_alphabetic c ≡ true → nat_lt c 128 ≡ true
-letter_ascii c h = grind (arith, nat_tests)
-
-scheme_ascii : (s : List ℕ) → is_scheme s ≡ true → is_ascii_text s ≡ true
-scheme_ascii [] h = refl
-scheme_ascii (c ∷ s) h = grind (arith, common_steps, letter_ascii c, weaker is_scheme_char (λ c. nat_lt c 128) scheme_char_ascii s)
-
-both_ascii : (a b : List ℕ) → is_ascii_text a ≡ true → is_ascii_text b ≡ true → is_ascii_text (a ++ b) ≡ true
-both_ascii a b h k = list_all-append (λ c. nat_lt c 128) a b ∙ grind arith
-
 pub token_ascii : (there : Url) → IsValidUrl there → has_named_host there ≡ true → is_ascii_text (needed_token there) ≡ true
-unfolding is_lower_scheme
-token_ascii (url.Plain scheme) valid named =
-    let good = valid.0 in
-    both_ascii scheme (codes ":") (scheme_ascii scheme (grind (arith, good))) refl
-token_ascii (url.Hosted scheme host port path) valid named =
-    let digits = decimal (effective_port scheme port) in
-    both_ascii (scheme_text scheme) (codes "://" ++ (host_text host ++ (codes ":" ++ digits))) (scheme_ascii (scheme_text scheme) (scheme_is scheme))
-    (both_ascii (codes "://") (host_text host ++ (codes ":" ++ digits)) refl
-    (both_ascii (host_text host) (codes ":" ++ digits) (name_ascii (host_text host) named)
-    (both_ascii (codes ":") digits refl (decimal_ascii (effective_port scheme port) (port_small scheme port valid.1)))))
+token_ascii there valid named = token_passes (λ c. nat_lt c 128) scheme_char_ascii refl refl there valid named
 
 pub named_host : (there : Url) → can_be_named there ≡ true → has_named_host there ≡ true
 unfolding can_be_named

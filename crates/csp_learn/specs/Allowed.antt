@@ -1,6 +1,6 @@
 -- What a learnt policy allows: a fetch exactly where a source that the log needs of its effective directive
 -- matches its URL.
-use Rattle.std.specs.Prelude.{◌≡◌, ℕ, Bool, List, ◌↔◌, ◌⊎◌, IsTrue, Any, All, Contains}
+use Rattle.std.specs.Prelude.{◌≡◌, ℕ, Bool, List, ◌↔◌, IsTrue, Any, All}
 use Rattle.csp_model.specs.DecideVerdict.{allows}
 use Rattle.csp_model.specs.Fetch.{is_redirected}
 use Rattle.csp_model.specs.Matching.{Matches}

@@ -1,6 +1,6 @@
 -- What the fetches of a log need: a source expression of their effective directive (Content Security Policy
 -- Level 3, sections 2.3.1 and 6.8.1). The rules of what is needed are this project's own.
-use Rattle.std.specs.Prelude.{ℕ, Bool, true, false, ◌&&◌, nat_le, if◌then◌else◌, List, [], ◌∷◌, ◌++◌, length, fold, Option, Some, None, unwrap_or, codes, decimal, IsTrue}
+use Rattle.std.specs.Prelude.{ℕ, Bool, true, ◌&&◌, nat_le, if◌then◌else◌, List, [], ◌++◌, length, fold, Option, Some, None, unwrap_or, codes, decimal, IsTrue}
 use Rattle.std.specs.BTreeSet.{insert_key}
 use Rattle.std.specs.Cmp.Lexicographic.{slice_cmp}
 use Rattle.std.specs.List.{list_all}

@@ -1,16 +1,19 @@
 //! Laws of what is learnt, each the contract of a function that does nothing.
-ghost use Rattle.std.specs.Prelude.{◌≡◌, ◌↔◌, All, Any, Contains, IsTrue, Some, List as Items};
+ghost use Rattle.std.specs.Prelude.{◌≡◌, ◌≤◌, ◌↔◌, All, Any, Contains, IsTrue, Some, length, List as Items};
 ghost use Rattle.csp_model.specs.DecideVerdict.{allows};
 ghost use Rattle.csp_model.specs.Reading.{source_of};
-ghost use Rattle.csp_model.specs.Validity.{IsValidCheck, IsValidUrl};
+ghost use Rattle.csp_model.specs.Validity.{IsValidCheck, IsValidOrigin, IsValidUrl};
 ghost use Rattle.csp_model.specs.declared.check.Check.{Check};
 ghost use Rattle.csp_model.specs.declared.url.Origin.{Origin};
 ghost use Rattle.csp_model.specs.declared.url.Url.{Url};
+ghost use Rattle.csp_policy.specs.HeaderLines.{IsPrintable};
 ghost use Rattle.csp_learn.specs.Allowed.{AllowsTheLog, AllowsWhatIsNeeded};
 ghost use Rattle.csp_learn.specs.Needs as spec;
 ghost use Rattle.csp_learn.specs.Policies.{policy_for};
+ghost use Rattle.csp_learn.specs.Printed.{ReadsBack};
 ghost use Rattle.csp_learn.specs.declared.need.Need.{Need};
 
+use csp_policy::laws::header_lines_read_back;
 use csp_source::laws::each_token_has_one_source;
 
 /// The needs of checks are a set: a need is among them exactly where some check has it. That each stands once
@@ -54,4 +57,16 @@ pub fn a_longer_log_allows_more()
         → IsTrue (allows (policy_for origin (spec.needs_of longer)) asked) }
 {
     each_token_has_one_source();
+}
+
+/// A learnt policy can be printed as a header line. Where it has no more sources than a policy file may have,
+/// the line reads back as the list of this policy alone.
+pub fn a_learnt_policy_reads_back()
+    ensures printable { (logged : Items Check) (origin : Origin) → IsValidOrigin origin
+        → All IsValidCheck logged → IsPrintable origin (policy_for origin (spec.needs_of logged)) }
+    ensures back { (logged : Items Check) (origin : Origin) → IsValidOrigin origin
+        → All IsValidCheck logged → length (spec.needs_of logged) ≤ spec.need_limit
+        → ReadsBack origin (policy_for origin (spec.needs_of logged)) }
+{
+    header_lines_read_back();
 }

@@ -1,15 +1,19 @@
 //! Learns a policy from a log that is there as a whole.
 ghost use Rattle.std.specs.Prelude.{◌≡◌, ◌≢◌, ◌<◌, ◌≤◌, ◌^◌, All, Any, IfOk, OnOk, length};
 ghost use Rattle.std.specs.List.Sorted.{IsStrictlySortedBy};
-ghost use Rattle.csp_model.specs.Validity.{IsValidCheck};
+ghost use Rattle.csp_model.specs.Validity.{IsValidCheck, IsValidOrigin};
 ghost use Rattle.csp_model.specs.declared.verdict.Described.{Described as Request};
 ghost use Rattle.csp_learn.specs.Allowed.{AllowsTheLog, AllowsWhatIsNeeded};
 ghost use Rattle.csp_learn.specs.Logs as logs;
 ghost use Rattle.csp_learn.specs.Needs as spec;
 ghost use Rattle.csp_learn.specs.Policies.{policy_for};
+ghost use Rattle.csp_learn.specs.Printed.{ReadsBack};
 
 use crate::error::LearnError;
-use crate::laws::{a_learnt_policy_allows_its_log, a_learnt_policy_allows_what_is_needed};
+use crate::laws::{
+    a_learnt_policy_allows_its_log, a_learnt_policy_allows_what_is_needed,
+    a_learnt_policy_reads_back,
+};
 use crate::learning::Learning;
 use crate::learnt::Learnt;
 use csp_model::{Described, List, Origin};
@@ -40,6 +44,10 @@ pub fn learn(
     ensures allows_log { IfOk result
         (λ learnt. AllowsTheLog (logs.checks_of descriptions.now) learnt.policy) }
 
+    // How it prints.
+    ensures back { IsValidOrigin origin.now → IfOk result
+        (λ learnt. ReadsBack origin.now learnt.policy) }
+
     // When too many sources are needed: each of them is counted once.
     ensures once { result ≢ Err LearnError.Memory
         → IsStrictlySortedBy spec.need_cmp (spec.needs_of (logs.checks_of descriptions.now)) }
@@ -56,5 +64,6 @@ pub fn learn(
     }
     a_learnt_policy_allows_what_is_needed();
     a_learnt_policy_allows_its_log();
+    a_learnt_policy_reads_back();
     learning.finish(alloc, origin)
 }

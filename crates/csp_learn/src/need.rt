@@ -12,6 +12,9 @@ use std::alloc::Global;
 // The longest token that a policy file may have, in bytes.
 const LONGEST_TOKEN: usize = 4096;
 
+// The longest that stands beside a host, as in `https://` and `:65535`.
+const BESIDE_HOST: usize = 14;
+
 // A directive's name and a token that is needed of it. In order they stand by their bytes, first those of the
 // directives.
 #[derive(Debug, PartialEq, Eq, PartialOrd, Ord, Drop)]
@@ -89,6 +92,7 @@ fn write_token(alloc: Global, url: &Url) -> Result<Text, Memory>
             port,
             ..
         } => {
+            token.reserve(host.as_str().len() + BESIDE_HOST)?;
             token.push_str(scheme.as_str())?;
             token.push_str("://")?;
             token.push_str(host.as_str())?;

@@ -52,10 +52,11 @@ fn grants(tokens: &List<Text>, capability: Capability) -> bool
     tokens
         .as_slice()
         .iter()
-        .any(|token| grants_by(token.as_str(), capability))
+        .any(|token| token_grants(token.as_str(), capability))
 }
 
-fn grants_by(token: &str, capability: Capability) -> bool
+/// Whether a token of a `sandbox` grants a capability, as `capability_allows` says.
+pub fn token_grants(token: &str, capability: Capability) -> bool
     ensures { result ≡ list_any (λ t. bytes_eq t (lower token.now)) (capability_tokens capability) }
 {
     if capability == Capability::TopNavigationByUserActivation {

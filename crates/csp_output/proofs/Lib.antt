@@ -5,6 +5,7 @@ pub mod Embedded
 pub mod OneEmbedding
 pub mod OneStatus
 pub mod SameItems
+pub mod LearntRead
 pub mod OrderWritten
 pub mod Shows
 pub mod TidiedLists

@@ -1,15 +1,18 @@
 -- What `learn` prints: the learnt policy as a header, and the fetches that no source can name.
-use Rattle.std.specs.Prelude.{ℕ, nat_le, if◌then◌else◌, List, [], ◌∷◌, ◌++◌, length, Option, Some, None, codes, decimal}
+use Rattle.std.specs.Prelude.{◌≡◌, ℕ, nat_le, if◌then◌else◌, List, [], ◌∷◌, ◌++◌, length, Option, Some, None, codes, decimal}
 use Rattle.std.specs.List.{flat_map}
-use Rattle.csp_learn.specs.Logs.{Lesson, lesson_of}
+use Rattle.csp_learn.specs.Allowed.{AllowsWhatIsNeeded}
+use Rattle.csp_learn.specs.Logs.{Lesson, checks_of, left_of, lesson_of}
 use Rattle.csp_learn.specs.Needs.{need_limit}
 use Rattle.csp_learn.specs.Policies.{policy_for}
+use Rattle.csp_learn.specs.Printed.{ReadsBack}
 use Rattle.csp_learn.specs.declared.learnt.Learnt.{Learnt}
 use Rattle.csp_learn.specs.declared.learnt.Place.{Place}
 use Rattle.csp_model.specs.Policies.{policy_text}
 use Rattle.csp_model.specs.declared.policy.Policy.{Policy}
 use Rattle.csp_model.specs.declared.url.Origin.{Origin}
 use Rattle.csp_model.specs.declared.verdict.Described.{Described}
+use Rattle.csp_policy.specs.HeaderLines.{header_line}
 use Rattle.csp_output.specs.declared.built.Built.{Built}
 use Rattle.csp_output.specs.declared.status.Status.TheVariants.{Clean}
 
@@ -44,3 +47,11 @@ lesson_output origin lesson =
 -- the output of `learn` on a log
 abbrev pub learning : Origin → List Described → Option Built
 learning origin log = lesson_output origin (lesson_of log)
+
+-- the header line of a policy, and a line for each fetch that no source can name. The header line reads back to
+-- the policy, which allows exactly the fetches that the log needs.
+pub record IsLearntText (origin : Origin) (log : List Described) (text : List ℕ) : Type 0 where
+  pub policy : Policy
+  pub lines : text ≡ header_line policy ++ flat_map left_line (left_of log)
+  pub back : ReadsBack origin policy
+  pub allows : AllowsWhatIsNeeded (checks_of log) policy

@@ -1,15 +1,16 @@
 //! Laws of outputs and statuses, each the contract of a function with no body.
-ghost use Rattle.std.specs.Prelude.{◌≡◌, ◌↔◌, ◌⊎◌, ℕ, List, [], ◌∷◌, Any, Ok, codes};
+ghost use Rattle.std.specs.Prelude.{◌≡◌, ◌↔◌, ◌⊎◌, ℕ, List, [], ◌∷◌, All, Any, Some, Ok, codes};
 ghost use Rattle.csp_embed.specs.AllowFrom.{AllowsBlanketEnforcement};
 ghost use Rattle.csp_embed.specs.Decisions.{Upholds, alone};
 ghost use Rattle.csp_model.specs.Inclusion.{Subsumes};
 ghost use Rattle.csp_model.specs.Policies.{IsReadable};
-ghost use Rattle.csp_model.specs.Validity.{IsValidOrigin};
+ghost use Rattle.csp_model.specs.Validity.{IsValidCheck, IsValidOrigin};
 ghost use Rattle.csp_model.specs.Verdict.{verdict_of};
 ghost use Rattle.csp_model.specs.declared.policy.Disposition.TheVariants.{Enforce};
 ghost use Rattle.csp_model.specs.declared.policy.Policy.{Policy};
 ghost use Rattle.csp_model.specs.declared.policy.PolicyList.{PolicyList};
 ghost use Rattle.csp_model.specs.declared.url.Origin.{Origin};
+ghost use Rattle.csp_model.specs.declared.verdict.Described.{Described};
 ghost use Rattle.csp_model.specs.declared.verdict.Item.{Item};
 ghost use Rattle.csp_policy.specs.HeaderLines.{header_lines};
 ghost use Rattle.csp_policy.specs.Refusal.{list_of};
@@ -17,6 +18,7 @@ ghost use Rattle.csp_proof.specs.Texts.{IsRefused};
 ghost use Rattle.csp_output.specs.Checks.{IsChecked};
 ghost use Rattle.csp_output.specs.Comparisons.{IsComparison, IsDifference};
 ghost use Rattle.csp_output.specs.Embeddings.{IsEmbedding, IsEnforcedList, first_line};
+ghost use Rattle.csp_output.specs.Learnt.{IsLearntText, learning};
 ghost use Rattle.csp_output.specs.Statuses.{exit_code};
 ghost use Rattle.csp_output.specs.Tidyings.{IsTidying};
 ghost use Rattle.csp_output.specs.declared.built.Built.{Built};
@@ -24,6 +26,7 @@ ghost use Rattle.csp_output.specs.declared.status.Status.{Status};
 ghost use Rattle.csp_output.specs.declared.status.Status.TheVariants as status;
 
 use csp_embed::laws::what_is_enforced_upholds_the_requirement;
+use csp_learn::laws::{a_learnt_policy_allows_what_is_needed, a_learnt_policy_reads_back};
 use csp_model::laws::a_verdict_blocks_what_the_list_refuses;
 use csp_policy::laws::{header_lines_read_back, what_is_read_can_be_printed};
 use csp_proof::laws::{a_text_is_of_one_proof, what_is_accepted_is_so};
@@ -99,6 +102,17 @@ pub fn an_embedding_upholds_the_requirement()
         → IsEnforcedList embedder required block response list → Upholds list required }
 {
     what_is_enforced_upholds_the_requirement();
+}
+
+/// What `learn` prints of a log begins with a header line that reads back to a policy, and this policy allows
+/// exactly the fetches that the log needs. The lines after it are of the fetches that no source can name.
+pub fn what_learn_prints_reads_back()
+    ensures { (origin : Origin) (log : List Described) (built : Built) → IsValidOrigin origin
+        → All (λ (d : Described). All IsValidCheck d.checks) log → learning origin log ≡ Some built
+        → IsLearntText origin log built.text }
+{
+    a_learnt_policy_allows_what_is_needed();
+    a_learnt_policy_reads_back();
 }
 
 /// What `tidy` prints of a header block between the line `tidied` and the first line `needed` are the header

@@ -8,7 +8,7 @@ use csp_run::{Status, exit_code, run};
 use std::alloc::Global;
 
 // Examples, with the words of their commands.
-const EXAMPLES: [(&str, &str); 13] = [
+const EXAMPLES: [(&str, &str); 16] = [
     ("first", "judge https://a.example first.txt first.json"),
     ("kinds", "judge https://a.example kinds.txt kinds.json"),
     (
@@ -51,6 +51,12 @@ const EXAMPLES: [(&str, &str); 13] = [
     (
         "embed-refused",
         "embed https://e.example https://a.example embed-required.txt embed-refused.txt",
+    ),
+    ("learn", "learn https://a.example learn.json"),
+    ("learnt", "judge https://a.example learnt.txt learn.json"),
+    (
+        "order",
+        "order https://a.example order-report-only.txt order-nothing.txt order-none.txt",
     ),
 ];
 

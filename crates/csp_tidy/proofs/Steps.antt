@@ -12,6 +12,7 @@ use Rattle.csp_model.specs.declared.policy.Disposition.{Disposition}
 use Rattle.csp_model.specs.declared.policy.Policy.{Policy}
 use Rattle.csp_model.specs.declared.policy.PolicyList.{PolicyList}
 use Rattle.csp_model.specs.declared.source.Source.{Source}
+use Rattle.csp_match.specs.Candidates.{can_govern}
 use Rattle.csp_tidy.specs.Candidates.{has_source_name, is_report_sample, IsCandidateIn, IsCandidateOf, IsCandidate, change_at, directive_without, policy_without, without}
 use Rattle.csp_tidy.specs.Thinnings.{Thins, is_candidate, IsThinnedDirective, IsThinnedPolicy, IsThinning}
 use Rattle.csp_tidy.specs.declared.place.Place.{Place}
@@ -59,6 +60,7 @@ thins_one may_go (token ∷ old) (t ∷ new) (suc n) (inl (rest, is, thins)) may
 thins_one may_go (token ∷ old) new n (inr (goes, thins)) may = inr (goes, thins_one may_go old new n thins may)
 
 named_alike : (d e : Directive) → e.name ≡ d.name → has_source_name e ≡ has_source_name d
+unfolding can_govern
 named_alike d e same = rw same refl
 
 token_at : (may : Source → Bool) (tokens : List (List ℕ)) (n : ℕ) → MatchOption (slice_get (map source_of tokens) n) ⊥ (λ (s : Source). may s ≡ true)

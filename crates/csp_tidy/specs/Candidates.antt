@@ -1,10 +1,10 @@
 -- The tokens of a list of policies that may be taken away, by their places.
-use Rattle.std.specs.Prelude.{◌≡◌, ℕ, zero, suc, ◌+◌, Bool, true, false, not, if◌then◌else◌, List, [], ◌∷◌, ◌++◌, IsTrue, MatchOption, slice_get}
-use Rattle.std.specs.List.{list_any, remove}
+use Rattle.std.specs.Prelude.{◌≡◌, ℕ, zero, suc, ◌+◌, Bool, true, false, not, ◌&&◌, if◌then◌else◌, List, [], ◌∷◌, ◌++◌, IsTrue, MatchOption, slice_get}
+use Rattle.std.specs.List.{remove}
 use Rattle.csp_model.specs.Governing.{is_named}
 use Rattle.csp_model.specs.Verdict.{is_enforce}
-use Rattle.csp_model.specs.declared.name.Name.{Name}
-use Rattle.csp_model.specs.declared.name.Name.TheVariants.{ConnectSrc, FontSrc, FrameSrc, ImgSrc, ManifestSrc, MediaSrc, ObjectSrc, StyleSrcElem, ScriptSrcElem, WorkerSrc, ScriptSrcAttr, StyleSrcAttr, ScriptSrc, StyleSrc, ChildSrc, DefaultSrc, BaseUri, FormAction, FrameAncestors}
+use Rattle.csp_match.specs.Candidates.{can_govern}
+use Rattle.csp_model.specs.declared.name.Name.TheVariants.{Sandbox}
 use Rattle.csp_model.specs.declared.policy.Directive.{Directive}
 use Rattle.csp_model.specs.declared.policy.Policy.{Policy}
 use Rattle.csp_model.specs.declared.policy.PolicyList.{PolicyList}
@@ -13,16 +13,9 @@ use Rattle.csp_model.specs.declared.source.Source.{Source}
 use Rattle.csp_model.specs.declared.source.Source.TheVariants.{Word}
 use Rattle.csp_tidy.specs.declared.place.Place.{Place}
 
--- the names of directives that decide by sources: those that can govern a check, but for `sandbox`
-abbrev pub source_names : List Name
-source_names =
-    ConnectSrc ∷ FontSrc ∷ FrameSrc ∷ ImgSrc ∷ ManifestSrc ∷ MediaSrc ∷ ObjectSrc ∷ StyleSrcElem ∷ ScriptSrcElem
-    ∷ WorkerSrc ∷ ScriptSrcAttr ∷ StyleSrcAttr ∷ ScriptSrc ∷ StyleSrc ∷ ChildSrc ∷ DefaultSrc ∷ BaseUri
-    ∷ FormAction ∷ FrameAncestors ∷ []
-
--- the directive decides by sources
+-- the directive decides by sources: it can govern a check, and isn't `sandbox`
 abbrev pub has_source_name : Directive → Bool
-has_source_name d = list_any (λ name. is_named name d) source_names
+has_source_name d = can_govern d && not (is_named Sandbox d)
 
 -- 'report-sample' allows nothing: it asks that reports show samples
 abbrev pub is_report_sample : Source → Bool

@@ -1,9 +1,11 @@
 //! The tokens that may be taken away.
 ghost use Rattle.std.specs.Prelude.{◌≡◌, ◌++◌, IfOk, IsTrue, OnOk};
+ghost use Rattle.csp_match.specs.Candidates as governing;
 ghost use Rattle.csp_model.specs.Verdict.{is_enforce};
 ghost use Rattle.csp_tidy.specs.Candidates as spec;
 
 use crate::place::Place;
+use csp_match::names;
 use csp_model::{
     Directive, Disposition, Keyword, Memory, Name, Policy, PolicyList, Source, name_text,
 };
@@ -88,36 +90,17 @@ fn is_report_sample(source: &Source) -> bool
 fn has_source_name(directive: &Directive) -> bool
     ensures { result ≡ spec.has_source_name directive.now }
 {
-    source_names()
-        .iter()
-        .any(|name| directive.name.as_str() == name_text(*name))
+    can_govern(directive) && directive.name.as_str() != name_text(Name::Sandbox)
 }
 
-// The names of directives that decide by sources.
-fn source_names() -> &'static [Name]
-    ensures { result.now ≡ spec.source_names }
+// Whether the directive can govern a check.
+#[tactic(auto, unfolding(csp_match::specs::Candidates::can_govern))]
+fn can_govern(directive: &Directive) -> bool
+    ensures { result ≡ governing.can_govern directive.now }
 {
-    &[
-        Name::ConnectSrc,
-        Name::FontSrc,
-        Name::FrameSrc,
-        Name::ImgSrc,
-        Name::ManifestSrc,
-        Name::MediaSrc,
-        Name::ObjectSrc,
-        Name::StyleSrcElem,
-        Name::ScriptSrcElem,
-        Name::WorkerSrc,
-        Name::ScriptSrcAttr,
-        Name::StyleSrcAttr,
-        Name::ScriptSrc,
-        Name::StyleSrc,
-        Name::ChildSrc,
-        Name::DefaultSrc,
-        Name::BaseUri,
-        Name::FormAction,
-        Name::FrameAncestors,
-    ]
+    names()
+        .iter()
+        .any(|name| directive.name.as_str() == name_text(*name))
 }
 
 // Whether a candidate stands at the place.

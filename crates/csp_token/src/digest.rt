@@ -103,8 +103,8 @@ pub fn digests_match(digests: &Digests, sources: &List<Source>) -> bool
         .any(|source| is_hash_of(source, digests))
 }
 
-// The source is a hash-source that stands for one of the digests.
-fn is_hash_of(source: &Source, digests: &Digests) -> bool
+/// Whether a source is a hash-source that stands for the digest of its algorithm.
+pub fn is_hash_of(source: &Source, digests: &Digests) -> bool
     ensures { result ≡ tests.is_hash_of digests.now source.now }
 {
     match source {

@@ -20,8 +20,8 @@ pub fn has_keyword(sources: &List<Source>, word: Keyword) -> bool
         .any(|source| is_keyword(source, word))
 }
 
-// The source is this keyword.
-fn is_keyword(source: &Source, word: Keyword) -> bool
+/// Whether a source is a keyword.
+pub fn is_keyword(source: &Source, word: Keyword) -> bool
     ensures { result ≡ spec.is_keyword word source.now }
 {
     match source {

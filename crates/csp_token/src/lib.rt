@@ -12,8 +12,10 @@ pub mod laws;
 mod matching;
 mod size;
 
-pub use digest::{Algorithms, digest_matches, digests, digests_for, digests_match, hash_of};
+pub use digest::{
+    Algorithms, digest_matches, digests, digests_for, digests_match, hash_of, is_hash_of,
+};
 pub use index::TokenIndex;
 pub use integrity::{integrity_text, read_integrity};
-pub use keyword::has_keyword;
-pub use matching::{integrity_matches, nonce_matches};
+pub use keyword::{has_keyword, is_keyword};
+pub use matching::{integrity_matches, is_hash, is_nonce, nonce_matches};

@@ -101,8 +101,9 @@ fn is_base(check: &Check) -> bool
     matches!(check, Check::Base { .. })
 }
 
-// The directive that a check asks for.
-pub(crate) fn effective_name(check: &Check) -> Name
+/// The effective directive of a check: the one that a policy is asked for first (Content Security Policy Level 3,
+/// sections 6.8.1 and 6.8.2).
+pub fn effective_name(check: &Check) -> Name
     ensures { result ≡ spec.effective_name check.now }
 {
     match check {

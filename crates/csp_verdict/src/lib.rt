@@ -14,5 +14,6 @@ mod violation;
 
 pub use allowed::{allows, list_allows};
 pub use compiled_list::CompiledList;
+pub use item::effective_name;
 pub use verdict::judge;
 pub use violation::violations;
