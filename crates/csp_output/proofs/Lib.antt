@@ -9,3 +9,4 @@ pub mod LearntRead
 pub mod OrderWritten
 pub mod Shows
 pub mod TidiedLists
+pub mod Reasons

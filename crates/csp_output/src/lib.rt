@@ -13,7 +13,7 @@ mod lines;
 mod ordering;
 mod shown_items;
 mod status;
-mod tidy;
+mod tidying;
 mod verdict_lines;
 
 pub use acceptance::check;
@@ -24,5 +24,5 @@ pub use exercise::drill;
 pub use learn::print_learnt;
 pub use ordering::order;
 pub use status::{Status, exit_code};
-pub use tidy::tidy;
+pub use tidying::tidy;
 pub use verdict_lines::VerdictLines;

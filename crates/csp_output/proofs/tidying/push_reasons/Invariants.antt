@@ -1,7 +1,7 @@
 use Rattle.std.proofs.Common.{◌≡◌, ◌++◌, All, take}
 use Rattle.std.specs.List.{flat_map}
 use Rattle.csp_output.specs.Tidyings.{IsReadBack, reason_text}
-use Rattle.csp_output.proofs.tidy.push_reasons.Given as goal
+use Rattle.csp_output.proofs.tidying.push_reasons.Given as goal
 
 abbrev pub invariant-loop-entry : goal.invariant-loop-entry
 invariant-loop-entry l = record {

@@ -83,10 +83,24 @@ fn push_reasons(
     ensures read_back { OnOk result (All spec.IsReadBack needed.now) }
 {
     for entry in needed {
-        push_token(text, list, entry)?;
-        push_description(alloc, text, &entry.check)?;
+        push_reason(alloc, text, list, entry)?;
     }
     Ok(())
+}
+
+// Writes why a token stays: its line, and the check.
+fn push_reason(
+    alloc: Global,
+    text: &mut Vec<u8>,
+    list: &PolicyList,
+    needed: &Needed,
+) -> Result<(), Memory>
+    requires { IsValidCheck needed.now.check }
+    ensures text { OnOk result (text.new.items ≡ text.old.items ++ spec.reason_text list.now needed.now) }
+    ensures read_back { OnOk result (spec.IsReadBack needed.now) }
+{
+    push_token(text, list, needed)?;
+    push_description(alloc, text, &needed.check)
 }
 
 // Writes the line of a token that stays.
@@ -102,18 +116,14 @@ fn push_token(text: &mut Vec<u8>, list: &PolicyList, needed: &Needed) -> Result<
     let Some(token) = directive.tokens.get(needed.token as usize) else {
         return Ok(());
     };
-    push_all(
-        text,
-        &[
-            "needed ",
-            Buffer::new().format(needed.policy),
-            " ",
-            directive.name.as_str(),
-            " ",
-            token.as_str(),
-            which_allows(needed.allowed_with),
-        ],
-    )
+    text.extend_from_slice(b"needed ")?;
+    text.extend_from_slice(Buffer::new().format(needed.policy).as_bytes())?;
+    text.push(b' ')?;
+    text.extend_from_slice(directive.name.as_str().as_bytes())?;
+    text.push(b' ')?;
+    text.extend_from_slice(token.as_str().as_bytes())?;
+    text.extend_from_slice(which_allows(needed.allowed_with).as_bytes())?;
+    Ok(())
 }
 
 // Which list allows the check: the one with the token, or the one without it.
