@@ -109,7 +109,7 @@ fn confirmed(rt: &(impl Abort + AllocGlobal), block: &str) -> Result<String, Fai
 }
 
 // A header block, and the header lines that come of it.
-const ROWS: [(&str, &str); 11] = [
+const ROWS: [(&str, &str); 12] = [
     ("", ""),
     (
         "Content-Security-Policy: img-src https: https://b.example 'none'",
@@ -134,7 +134,12 @@ const ROWS: [(&str, &str); 11] = [
         "Content-Security-Policy: img-src https://b.example https://b.example:443",
         "Content-Security-Policy: img-src https://b.example\n",
     ),
-    // A hash that no digest can have is taken, and 'unsafe-inline' comes to life.
+    // Without the nonce 'unsafe-inline' would count, so the nonce can go only once that is gone.
+    (
+        "Content-Security-Policy: script-src-attr 'unsafe-inline' 'nonce-abc'",
+        "Content-Security-Policy: script-src-attr\n",
+    ),
+    // No code has this hash, but an integrity attribute can.
     (
         "Content-Security-Policy: script-src 'unsafe-inline' 'sha256-x'",
         "Content-Security-Policy: script-src 'sha256-x'\n",

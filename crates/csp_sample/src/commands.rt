@@ -8,7 +8,7 @@ use csp_run::{Status, exit_code, run};
 use std::alloc::Global;
 
 // Examples, with the words of their commands.
-const EXAMPLES: [(&str, &str); 16] = [
+const EXAMPLES: [(&str, &str); 17] = [
     ("first", "judge https://a.example first.txt first.json"),
     ("kinds", "judge https://a.example kinds.txt kinds.json"),
     (
@@ -52,6 +52,7 @@ const EXAMPLES: [(&str, &str); 16] = [
         "embed-refused",
         "embed https://e.example https://a.example embed-required.txt embed-refused.txt",
     ),
+    ("tidy", "tidy https://shop.example tidy.txt"),
     ("learn", "learn https://a.example learn.json"),
     ("learnt", "judge https://a.example learnt.txt learn.json"),
     (
