@@ -1,10 +1,10 @@
 -- The token that is told allows alone, with what its rule needs.
-use Rattle.std.proofs.Common.{◌≡◌, ℕ, Bool, true, false, not, ◌&&◌, ◌||◌, List, [], ◌∷◌, Option, Some, None, is_none, refl, sym, subst, inl, inr}
+use Rattle.std.proofs.Common.{◌≡◌, ℕ, Bool, true, false, not, ◌&&◌, List, [], ◌∷◌, Option, Some, None, is_none, refl, sym, subst, inl, inr}
 use Rattle.std.specs.Prelude.{position, slice_get}
 use Rattle.std.specs.List.{list_any, list_all, filter, cons_option}
 use Rattle.std.proofs.lemmas.Bool.{and_parts, and_from, or_left, or_right, or_from, or_cases, not_from_false, false≢true}
 use Rattle.csp_model.specs.Ascii.{is_nonempty}
-use Rattle.csp_model.specs.DecideFetch.{sources_allow, dynamic_or_listed}
+use Rattle.csp_model.specs.DecideFetch.{sources_allow}
 use Rattle.csp_model.specs.DecideInline.{allows_all_inline, hash_counts, sources_allow_inline}
 use Rattle.csp_model.specs.DecideMatching.{matches, list_matches}
 use Rattle.csp_model.specs.DecideNavigation.{grants}
@@ -13,7 +13,6 @@ use Rattle.csp_model.specs.DecideVerdict.{allows}
 use Rattle.csp_model.specs.Fetch.{fetch_rule, is_redirected}
 use Rattle.csp_model.specs.Governing.{Governor}
 use Rattle.csp_model.specs.Inline.{is_element_kind, is_script_kind, is_nonce_or_hash}
-use Rattle.csp_model.specs.declared.check.Capability.{Capability}
 use Rattle.csp_model.specs.declared.check.Capability.TheVariants as capability
 use Rattle.csp_model.specs.declared.check.Check.{Check}
 use Rattle.csp_model.specs.declared.check.Check.TheVariants as check
@@ -32,16 +31,14 @@ use Rattle.csp_model.specs.declared.url.Origin.{Origin}
 use Rattle.csp_model.specs.declared.url.Url.{Url}
 use Rattle.csp_why.specs.Allowances.{only_where, source_token, keyword_token, nonce_token, is_some_hash, integrity_token, digest_token, token_grants, grant_token, is_for_worker, worker_token, by, fetch_allowances, inline_allowances, allowances}
 use Rattle.csp_why.specs.Displacement.{displaces_sources, displacement}
-use Rattle.csp_why.specs.Laws.{needs, needs_grant, alone, with_changed}
-use Rattle.csp_why.specs.Reasons.{acting, governed_reason, reason_of, reason_by, reason}
+use Rattle.csp_why.specs.Laws.{needs, alone, with_changed}
+use Rattle.csp_why.specs.Reasons.{acting, governed_reason, reason_by, reason}
 use Rattle.csp_why.specs.declared.reason.Allowance.{Allowance}
-use Rattle.csp_why.specs.declared.reason.Reason.{Reason}
-use Rattle.csp_why.specs.declared.reason.Reason.TheVariants.{Ungoverned, Allows, Blocks}
+use Rattle.csp_why.specs.declared.reason.Reason.TheVariants.{Ungoverned, Allows}
 use Rattle.csp_why.specs.declared.reason.Rule.{Rule}
 use Rattle.csp_why.specs.declared.reason.Rule.TheVariants as rule
-use Rattle.csp_why.specs.declared.reason.Word.{Word}
 use Rattle.csp_model.specs.Reading.{first_of}
-use Rattle.csp_why.proofs.Finding.{Each, Placed, any_kept, none_kept, first_holds, position_placed}
+use Rattle.csp_why.proofs.Finding.{Each, any_kept, none_kept, first_holds, position_placed}
 use Rattle.csp_why.proofs.Governed.{test, allows_changed}
 
 -- A rule that is told
@@ -165,26 +162,36 @@ module _ (group : Group) (there : Url) (redirects : ℕ) (nonce : List ℕ) (int
 
   fetch_alone : (which : FetchRule) → Each (Allowed which) (fetch_allowances which sources nonce integrity parser_inserted
       (only_where (is_none (displaces_sources which sources)) (source_token self there (is_redirected redirects) sources)))
-  fetch_alone fetch.Script =
-      ( of_by (Allowed fetch.Script) rule.Nonce (nonce_token nonce sources) (λ i found.
-        or_left (nonce_matches nonce (beside (at rule.Nonce i))) _ (nonce_alone i found))
-      , ( of_by (Allowed fetch.Script) rule.Integrity (integrity_token integrity sources) (λ i found.
-        or_right (nonce_matches nonce (beside (at rule.Integrity i))) _
-        (or_left (integrity_matches integrity (beside (at rule.Integrity i))) _
-        (integrity_alone integrity (slice_get sources i) sources
-        (of_where (integrity_matches integrity sources) (position (is_some_hash integrity) sources) i found).0)))
-      , ( of_by (Allowed fetch.Script) rule.StrictDynamic (only_where (not parser_inserted) (keyword_token keyword.StrictDynamic sources)) dynamic_alone
-      , ( of_by (Allowed fetch.Script) rule.Source (only_where (is_none (displaces_sources fetch.Script sources))
-        (source_token self there (is_redirected redirects) sources)) (λ i found.
-        script_source_alone i (of_where (is_none (displaces_sources fetch.Script sources))
-        (source_token self there (is_redirected redirects) sources) i found).1)
-      , tt ))))
-  fetch_alone fetch.Style =
-      ( of_by (Allowed fetch.Style) rule.Nonce (nonce_token nonce sources) (λ i found.
-        or_left (nonce_matches nonce (beside (at rule.Nonce i))) _ (nonce_alone i found))
-      , ( of_by (Allowed fetch.Style) rule.Source (source_token self there (is_redirected redirects) sources) (λ i found.
-        or_right (nonce_matches nonce (beside (at rule.Source i))) _ (source_alone i found))
-      , tt ))
+  fetch_alone fetch.Script = (
+    of_by (Allowed fetch.Script) rule.Nonce (nonce_token nonce sources) (λ i found.
+        or_left (nonce_matches nonce (beside (at rule.Nonce i))) _ (nonce_alone i found)),
+    (
+      of_by (Allowed fetch.Script) rule.Integrity (integrity_token integrity sources) (λ i found.
+          or_right (nonce_matches nonce (beside (at rule.Integrity i))) _
+          (or_left (integrity_matches integrity (beside (at rule.Integrity i))) _
+          (integrity_alone integrity (slice_get sources i) sources
+          (of_where (integrity_matches integrity sources) (position (is_some_hash integrity) sources) i found).0))),
+      (
+        of_by (Allowed fetch.Script) rule.StrictDynamic (only_where (not parser_inserted) (keyword_token keyword.StrictDynamic sources)) dynamic_alone,
+        (
+          of_by (Allowed fetch.Script) rule.Source (only_where (is_none (displaces_sources fetch.Script sources))
+              (source_token self there (is_redirected redirects) sources)) (λ i found.
+              script_source_alone i (of_where (is_none (displaces_sources fetch.Script sources))
+              (source_token self there (is_redirected redirects) sources) i found).1),
+          tt,
+        ),
+      ),
+    ),
+  )
+  fetch_alone fetch.Style = (
+    of_by (Allowed fetch.Style) rule.Nonce (nonce_token nonce sources) (λ i found.
+        or_left (nonce_matches nonce (beside (at rule.Nonce i))) _ (nonce_alone i found)),
+    (
+      of_by (Allowed fetch.Style) rule.Source (source_token self there (is_redirected redirects) sources) (λ i found.
+          or_right (nonce_matches nonce (beside (at rule.Source i))) _ (source_alone i found)),
+      tt,
+    ),
+  )
   fetch_alone fetch.List =
       (of_by (Allowed fetch.List) rule.Source (source_token self there (is_redirected redirects) sources) source_alone, tt)
 
@@ -253,12 +260,17 @@ module _ (kind : InlineKind) (nonce : List ℕ) (digests : Digests) (sources : L
       (and_from (digests_match digests these) (hash_counts kind these) (alone_passes (is_hash_of digests) sources _ i parts.1) counts))
 
   inline_alone : (counts : Bool) → Each InlineAllowed (inline_allowances counts kind nonce digests sources)
-  inline_alone counts =
-      ( of_by InlineAllowed rule.UnsafeInline (only_where counts (keyword_token keyword.UnsafeInline sources)) (λ i found.
-        unsafe_inline_alone i (of_where counts (keyword_token keyword.UnsafeInline sources) i found).1)
-      , ( of_by InlineAllowed rule.Nonce (only_where (is_element_kind kind) (nonce_token nonce sources)) inline_nonce_alone
-      , ( of_by InlineAllowed rule.Hash (only_where (hash_counts kind sources) (digest_token digests sources)) hash_alone
-      , tt )))
+  inline_alone counts = (
+    of_by InlineAllowed rule.UnsafeInline (only_where counts (keyword_token keyword.UnsafeInline sources)) (λ i found.
+        unsafe_inline_alone i (of_where counts (keyword_token keyword.UnsafeInline sources) i found).1),
+    (
+      of_by InlineAllowed rule.Nonce (only_where (is_element_kind kind) (nonce_token nonce sources)) inline_nonce_alone,
+      (
+        of_by InlineAllowed rule.Hash (only_where (hash_counts kind sources) (digest_token digests sources)) hash_alone,
+        tt,
+      ),
+    ),
+  )
 
 -- Each check
 
@@ -294,42 +306,45 @@ each_alone self (check.Fetch group there redirects nonce integrity parser_insert
     fetch_alone group there redirects nonce integrity parser_inserted self g.directive.sources (fetch_rule group g.name)
 each_alone self (check.Inline kind nonce digests) g =
     inline_alone kind nonce digests g.directive.sources (is_none (displacement (check.Inline kind nonce digests) g.name g.directive.sources))
-each_alone self check.Eval g =
-    ( of_by (Passes self check.Eval g) rule.UnsafeEval (keyword_token keyword.UnsafeEval g.directive.sources) (λ i found.
-      alone_passes (is_keyword keyword.UnsafeEval) g.directive.sources _ i found)
-    , tt
-    )
-each_alone self check.Wasm g =
-    ( of_by (Passes self check.Wasm g) rule.UnsafeEval (keyword_token keyword.UnsafeEval g.directive.sources) (λ i found.
-      or_left _ _ (alone_passes (is_keyword keyword.UnsafeEval) g.directive.sources _ i found))
-    , ( of_by (Passes self check.Wasm g) rule.WasmUnsafeEval (keyword_token keyword.WasmUnsafeEval g.directive.sources) (λ i found.
-      or_right _ _ (alone_passes (is_keyword keyword.WasmUnsafeEval) g.directive.sources _ i found))
-    , tt ))
-each_alone self (check.Base there) g =
-    ( of_by (Passes self (check.Base there) g) rule.Source (source_token self there false g.directive.sources)
-      (listed_alone self there false g.directive.sources _)
-    , tt
-    )
-each_alone self (check.Form there redirects) g =
-    ( of_by (Passes self (check.Form there redirects) g) rule.Source (source_token self there (is_redirected redirects) g.directive.sources)
-      (listed_alone self there (is_redirected redirects) g.directive.sources _)
-    , tt
-    )
-each_alone self (check.Ancestor there) g =
-    ( of_by (Passes self (check.Ancestor there) g) rule.Source (source_token self there false g.directive.sources)
-      (listed_alone self there false g.directive.sources _)
-    , tt
-    )
+each_alone self check.Eval g = (
+  of_by (Passes self check.Eval g) rule.UnsafeEval (keyword_token keyword.UnsafeEval g.directive.sources) (λ i found.
+      alone_passes (is_keyword keyword.UnsafeEval) g.directive.sources _ i found),
+  tt,
+)
+each_alone self check.Wasm g = (
+  of_by (Passes self check.Wasm g) rule.UnsafeEval (keyword_token keyword.UnsafeEval g.directive.sources) (λ i found.
+      or_left _ _ (alone_passes (is_keyword keyword.UnsafeEval) g.directive.sources _ i found)),
+  (
+    of_by (Passes self check.Wasm g) rule.WasmUnsafeEval (keyword_token keyword.WasmUnsafeEval g.directive.sources) (λ i found.
+        or_right _ _ (alone_passes (is_keyword keyword.WasmUnsafeEval) g.directive.sources _ i found)),
+    tt,
+  ),
+)
+each_alone self (check.Base there) g = (
+  of_by (Passes self (check.Base there) g) rule.Source (source_token self there false g.directive.sources)
+      (listed_alone self there false g.directive.sources _),
+  tt,
+)
+each_alone self (check.Form there redirects) g = (
+  of_by (Passes self (check.Form there redirects) g) rule.Source (source_token self there (is_redirected redirects) g.directive.sources)
+      (listed_alone self there (is_redirected redirects) g.directive.sources _),
+  tt,
+)
+each_alone self (check.Ancestor there) g = (
+  of_by (Passes self (check.Ancestor there) g) rule.Source (source_token self there false g.directive.sources)
+      (listed_alone self there false g.directive.sources _),
+  tt,
+)
 each_alone self check.OpaqueAncestor g = tt
-each_alone self (check.Capability asked) g =
-    ( of_by (Passes self (check.Capability asked) g) rule.Capability (grant_token asked g.directive.tokens) (λ i found.
-      alone_passes (token_grants asked) g.directive.tokens _ i found)
-    , tt
-    )
-each_alone self check.WorkerStart g =
-    ( of_by (Passes self check.WorkerStart g) rule.Capability (worker_token g.directive.tokens) (worker_alone g.directive.tokens)
-    , tt
-    )
+each_alone self (check.Capability asked) g = (
+  of_by (Passes self (check.Capability asked) g) rule.Capability (grant_token asked g.directive.tokens) (λ i found.
+      alone_passes (token_grants asked) g.directive.tokens _ i found),
+  tt,
+)
+each_alone self check.WorkerStart g = (
+  of_by (Passes self check.WorkerStart g) rule.Capability (worker_token g.directive.tokens) (worker_alone g.directive.tokens),
+  tt,
+)
 
 -- The law
 

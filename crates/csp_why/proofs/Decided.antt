@@ -2,7 +2,6 @@
 use Rattle.std.proofs.Common.{◌≡◌, ℕ, Bool, true, false, not, ◌&&◌, ◌||◌, cond, List, [], ◌∷◌, Option, Some, None, is_none, refl, sym, ◌∙◌, ap, subst}
 use Rattle.std.specs.Prelude.{position, is_some}
 use Rattle.std.specs.List.{list_any, list_all}
-use Rattle.std.specs.Option.{option_map}
 use Rattle.std.proofs.lemmas.Bool.{and_parts, or_left, false≢true}
 use Rattle.csp_model.specs.Ascii.{is_nonempty}
 use Rattle.csp_model.specs.DecideFetch.{sources_allow}
@@ -33,10 +32,9 @@ use Rattle.csp_model.specs.declared.url.Url.{Url}
 use Rattle.csp_why.specs.Allowances.{only_where, source_token, keyword_token, nonce_token, is_some_hash, integrity_token, digest_token, token_grants, grant_token, is_for_worker, worker_token, by, fetch_allowances, inline_allowances, allowances}
 use Rattle.csp_why.specs.Displacement.{is_nonce_source, is_hash_source, displaces_sources, displaces_unsafe_inline, displacement}
 use Rattle.csp_why.specs.Near.{near_word, near_from}
-use Rattle.csp_why.specs.Reasons.{acting, governed_reason, reason_of, reason_by, reason, is_allowing}
+use Rattle.csp_why.specs.Reasons.{acting, governed_reason, reason_by, reason, is_allowing}
 use Rattle.csp_why.specs.declared.reason.Allowance.{Allowance}
 use Rattle.csp_why.specs.declared.reason.Near.{Near}
-use Rattle.csp_why.specs.declared.reason.Reason.{Reason}
 use Rattle.csp_why.specs.declared.reason.Reason.TheVariants.{Allows, Blocks}
 use Rattle.csp_why.specs.declared.reason.Rule.{Rule}
 use Rattle.csp_why.specs.declared.reason.Rule.TheVariants as rule
@@ -280,22 +278,26 @@ reason_at p asked g o acts first =
 
 -- what is told of what was computed
 
+counts_where : (counts displaced : Bool) → displaced ≡ not counts → counts ≡ not displaced
+counts_where true displaced e = sym (ap not e)
+counts_where false displaced e = sym (ap not e)
+
 first_by : (p : Policy) (asked : Check) (g : Governor) (displaced : Option Word) (counts : Bool) (found o : Option Allowance)
-    → displaced ≡ displacement asked g.name g.directive.sources → counts ≡ is_none displaced
+    → displaced ≡ displacement asked g.name g.directive.sources → is_some displaced ≡ not counts
     → found ≡ first_of (allowances p.origin asked counts g) → found ≡ o
     → first_of (allowances p.origin asked (is_none (displacement asked g.name g.directive.sources)) g) ≡ o
 first_by p asked g displaced counts found o is_displaced counted allowed is =
     subst (λ (x : Option Word). first_of (allowances p.origin asked (is_none x) g) ≡ o) is_displaced
-    (subst (λ (b : Bool). first_of (allowances p.origin asked b g) ≡ o) counted (sym allowed ∙ is))
+    (subst (λ (b : Bool). first_of (allowances p.origin asked b g) ≡ o) (counts_where counts (is_some displaced) counted) (sym allowed ∙ is))
 
 pub told_allows : (p : Policy) (asked : Check) (g : Governor) (displaced : Option Word) (counts : Bool) (found : Option Allowance) (a : Allowance)
-    → acting p asked ≡ Some g → displaced ≡ displacement asked g.name g.directive.sources → counts ≡ is_none displaced
+    → acting p asked ≡ Some g → displaced ≡ displacement asked g.name g.directive.sources → is_some displaced ≡ not counts
     → found ≡ first_of (allowances p.origin asked counts g) → found ≡ Some a → Allows g.name a ≡ reason p asked
 told_allows p asked g displaced counts found a acts is_displaced counted allowed is =
     sym (reason_at p asked g (Some a) acts (first_by p asked g displaced counts found (Some a) is_displaced counted allowed is))
 
 pub told_blocks : (p : Policy) (asked : Check) (g : Governor) (displaced : Option Word) (counts : Bool) (found : Option Allowance) (near : List Near)
-    → acting p asked ≡ Some g → displaced ≡ displacement asked g.name g.directive.sources → counts ≡ is_none displaced
+    → acting p asked ≡ Some g → displaced ≡ displacement asked g.name g.directive.sources → is_some displaced ≡ not counts
     → found ≡ first_of (allowances p.origin asked counts g) → found ≡ None
     → near ≡ near_from (near_word p.origin asked displaced) 0 g.directive.sources → Blocks g.name near ≡ reason p asked
 told_blocks p asked g displaced counts found near acts is_displaced counted allowed is these =

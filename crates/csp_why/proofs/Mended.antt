@@ -1,9 +1,9 @@
 -- A token that nearly allows does so where what its word tells of is mended.
 use Rattle.std.proofs.Common.{◌≡◌, ℕ, zero, suc, ◌+◌, Bool, true, false, not, ◌&&◌, ◌||◌, cond, List, [], ◌∷◌, Option, Some, None, All, is_none, refl, sym, ◌∙◌, subst, inl, inr, ◌⊎◌, arith}
 use Rattle.std.specs.Prelude.{slice_get, unwrap_or}
-use Rattle.std.specs.List.{list_any, find, filter, cons_option}
+use Rattle.std.specs.List.{list_any, filter, cons_option}
 use Rattle.std.specs.Option.{option_map}
-use Rattle.std.proofs.lemmas.Bool.{cases_Bool, cond-true, cond-false, and_parts, and_from, or_left, or_right, or_from, or_parts, not-true, not_from_false, not_from_true, false≢true}
+use Rattle.std.proofs.lemmas.Bool.{cases_Bool, cond-true, cond-false, and_from, or_left, or_right, or_from, or_parts, not-true, not_from_false, false≢true}
 use Rattle.std.proofs.lemmas.List.Elements.{All-nil, All-cons}
 use Rattle.csp_model.specs.DecideFetch.{sources_allow}
 use Rattle.csp_model.specs.DecideInline.{allows_all_inline, hash_counts, sources_allow_inline}
@@ -32,10 +32,9 @@ use Rattle.csp_why.specs.Allowances.{allowances}
 use Rattle.csp_why.specs.Displacement.{is_nonce_source, is_hash_source, displaces_sources, displaces_unsafe_inline, displacement}
 use Rattle.csp_why.specs.Laws.{change_at, fitted, is_dynamic, mended, mended_directive, with_changed}
 use Rattle.csp_why.specs.Near.{changed, some_matches, parts, wrong_part, near_source, near_inline, near_word, near_from}
-use Rattle.csp_why.specs.Reasons.{acting, governed_reason, reason_of, reason_by, reason}
+use Rattle.csp_why.specs.Reasons.{acting, governed_reason, reason_by, reason}
 use Rattle.csp_why.specs.declared.reason.Allowance.{Allowance}
 use Rattle.csp_why.specs.declared.reason.Near.{Near}
-use Rattle.csp_why.specs.declared.reason.Reason.{Reason}
 use Rattle.csp_why.specs.declared.reason.Reason.TheVariants.{Ungoverned, Allows, Blocks}
 use Rattle.csp_why.specs.declared.reason.Word.{Word}
 use Rattle.csp_why.specs.declared.reason.Word.TheVariants as word

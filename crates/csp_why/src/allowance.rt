@@ -15,9 +15,7 @@ use csp_model::{
     Url,
 };
 use csp_nav::token_grants;
-use csp_token::{
-    has_keyword, integrity_matches, is_hash, is_hash_of, is_keyword, is_nonce,
-};
+use csp_token::{has_keyword, integrity_matches, is_hash, is_hash_of, is_keyword, is_nonce};
 
 // The first rule by which what governs allows a check, with its first token. `counts` says that nothing takes the
 // place of its source expressions, or of `'unsafe-inline'`.
@@ -50,8 +48,15 @@ pub(crate) fn allowance(
             nonce,
             digests,
         } => inline_allowance(counts, *kind, nonce, digests, sources),
-        Check::Eval => by(Rule::UnsafeEval, keyword_token(Keyword::UnsafeEval, sources)),
-        Check::Wasm => by(Rule::UnsafeEval, keyword_token(Keyword::UnsafeEval, sources)).or(by(
+        Check::Eval => by(
+            Rule::UnsafeEval,
+            keyword_token(Keyword::UnsafeEval, sources),
+        ),
+        Check::Wasm => by(
+            Rule::UnsafeEval,
+            keyword_token(Keyword::UnsafeEval, sources),
+        )
+        .or(by(
             Rule::WasmUnsafeEval,
             keyword_token(Keyword::WasmUnsafeEval, sources),
         )),
@@ -59,11 +64,17 @@ pub(crate) fn allowance(
             by(Rule::Source, source_token(origin, url, false, sources))
         }
         Check::Form { url, redirects } => {
-            by(Rule::Source, source_token(origin, url, *redirects != 0, sources))
+            by(
+                Rule::Source,
+                source_token(origin, url, *redirects != 0, sources),
+            )
         }
         Check::OpaqueAncestor => None,
         Check::Capability { capability } => {
-            by(Rule::Capability, grant_token(*capability, &directive.tokens))
+            by(
+                Rule::Capability,
+                grant_token(*capability, &directive.tokens),
+            )
         }
         Check::WorkerStart => by(Rule::Capability, worker_token(&directive.tokens)),
     }

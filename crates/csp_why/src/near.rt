@@ -129,12 +129,7 @@ fn matches_changed(
 }
 
 // A host-source with one part changed so that it fits the URL. None where it has no such part.
-fn changed(
-    alloc: Global,
-    part: Word,
-    url: &Url,
-    source: &Source,
-) -> Result<Option<Source>, Memory>
+fn changed(alloc: Global, part: Word, url: &Url, source: &Source) -> Result<Option<Source>, Memory>
     ensures { IfOk result (λ made. made ≡ spec.changed part url.now source.now) }
 {
     let Source::Hosted {

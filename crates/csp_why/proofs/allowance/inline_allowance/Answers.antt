@@ -7,5 +7,5 @@ use Rattle.csp_why.proofs.allowance.inline_allowance.Goals as goal
 pub returns : goal.returns
 returns c =
     let e : option_or (option_or c.by.result c.by-2.result) c.by-3.result ≡ first_of (c.by.result ∷ c.by-2.result ∷ c.by-3.result ∷ []) =
-        first_of_three c.by.result c.by-2.result c.by-3.result in
+    first_of_three c.by.result c.by-2.result c.by-3.result in
     cc
