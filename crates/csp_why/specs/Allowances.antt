@@ -1,6 +1,7 @@
--- The rules by which a directive that governs can allow a check, each with the first token that it allows by.
--- They stand in the order of the standard's own steps (Content Security Policy Level 3): for a script those of
--- section 6.7.1.1, for a style those of section 6.1, and for inline code and style those of section 6.7.3.3.
+-- The rules by which a directive that governs can allow a check, each with the first token that it allows
+-- by. They stand in the order of the standard's own steps (Content Security Policy Level 3): for a script
+-- those of section 6.7.1.1, for a style those of section 6.1, and for inline code and style those of
+-- section 6.7.3.3.
 use Rattle.std.specs.Prelude.{ℕ, Bool, false, not, ◌&&◌, ◌||◌, if◌then◌else◌, List, [], ◌∷◌, Option, None, position}
 use Rattle.std.specs.List.{list_any}
 use Rattle.std.specs.Option.{option_map}
@@ -97,8 +98,8 @@ inline_allowances counts kind nonce digests sources =
     ∷ by rule.Hash (only_where (hash_counts kind sources) (digest_token digests sources))
     ∷ []
 
--- What governs allows the check by the first of these that is there. `counts` says that nothing takes the place of
--- the source expressions, or of 'unsafe-inline'.
+-- What governs allows the check by the first of these that is there. `counts` says that nothing takes the
+-- place of the source expressions, or of 'unsafe-inline'.
 abbrev pub allowances : Origin → Check → Bool → Governor → List (Option Allowance)
 allowances self (check.Fetch group there redirects nonce integrity parser_inserted) counts g =
     fetch_allowances (fetch_rule group g.name) g.directive.sources nonce integrity parser_inserted

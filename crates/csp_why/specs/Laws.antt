@@ -39,7 +39,8 @@ with_changed name change policy = record {
 
 -- what a rule needs beside the token that is told: the other hashes of the metadata, or 'unsafe-hashes'
 abbrev pub needs : Rule → Check → Source → Bool
-needs rule.Integrity (check.Fetch group there redirects nonce integrity parser_inserted) s = is_some_hash integrity s
+needs rule.Integrity (check.Fetch group there redirects nonce integrity parser_inserted) s =
+    is_some_hash integrity s
 needs rule.Hash asked s = is_keyword keyword.UnsafeHashes s
 needs which asked s = false
 
@@ -72,8 +73,8 @@ fitted which None s = s
 abbrev pub is_dynamic : Source → Bool
 is_dynamic s = is_keyword keyword.StrictDynamic s
 
--- the sources without what the word tells of: what takes the token's place is gone, or 'unsafe-hashes' is there, or
--- the token has the part changed so that it fits
+-- the sources without what the word tells of: what takes the token's place is gone, or 'unsafe-hashes' is
+-- there, or the token has the part changed so that it fits
 abbrev pub mended : Word → Option Url → ℕ → List Source → List Source
 mended word.StrictDynamic there token sources = filter (λ s. not (is_dynamic s)) sources
 mended word.Nonce there token sources = filter (λ s. not (is_nonce_or_hash s || is_dynamic s)) sources

@@ -24,8 +24,8 @@ use Rattle.csp_why.specs.declared.reason.Word.TheVariants as word
 
 -- One part of a host-source
 
--- a host-source with one part changed so that it fits the URL: its scheme is the URL's, its port any, its path
--- none, or its host the suffix itself; none where there is no such part to change
+-- a host-source with one part changed so that it fits the URL: its scheme is the URL's, its port any, its
+-- path none, or its host the suffix itself; none where there is no such part to change
 abbrev pub changed : Word → Url → Source → Option Source
 changed word.Scheme (url.Hosted scheme h p pieces) (source.Hosted part host_part port_part path_part) =
     Some (source.Hosted (Some (scheme_text scheme)) host_part port_part path_part)

@@ -24,7 +24,8 @@ asks_sandbox asked = false
 -- what governs the check; the sandbox of a policy that only reports does nothing
 abbrev pub acting : Policy → Check → Option Governor
 acting policy asked =
-    if asks_sandbox asked && is_report policy.disposition then None else governor policy (effective_name asked)
+    if asks_sandbox asked && is_report policy.disposition then None
+    else governor policy (effective_name asked)
 
 -- why what governs blocks the check, or allows it by this
 abbrev pub governed_reason : Policy → Check → Option Word → Governor → Option Allowance → Reason

@@ -17,8 +17,8 @@ use csp_model::{
 use csp_nav::token_grants;
 use csp_token::{has_keyword, integrity_matches, is_hash, is_hash_of, is_keyword, is_nonce};
 
-// The first rule by which what governs allows a check, with its first token. `counts` says that nothing takes the
-// place of its source expressions, or of `'unsafe-inline'`.
+// The first rule by which what governs allows a check, with its first token. `counts` says that nothing
+// takes the place of its source expressions, or of `'unsafe-inline'`.
 pub(crate) fn allowance(
     origin: &Origin,
     check: &Check,
@@ -80,7 +80,8 @@ pub(crate) fn allowance(
     }
 }
 
-// The first rule of a fetch, where `listed` is the first source expression that counts and matches its URL.
+// The first rule of a fetch, where `listed` is the first source expression that counts and matches its
+// URL.
 fn fetch_allowance(
     rule: FetchRule,
     sources: &List<Source>,

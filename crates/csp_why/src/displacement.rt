@@ -8,7 +8,8 @@ use csp_inline::is_script_kind;
 use csp_model::{Check, FetchRule, Keyword, List, Name, Source};
 use csp_token::has_keyword;
 
-// What takes the place of source expressions, or of `'unsafe-inline'`, in a directive that governs under this name.
+// What takes the place of source expressions, or of `'unsafe-inline'`, in a directive that governs under
+// this name.
 pub(crate) fn displacement(check: &Check, governing: Name, sources: &List<Source>) -> Option<Word>
     ensures { result ≡ spec.displacement check.now governing sources.now }
 {

@@ -14,14 +14,14 @@ use csp_model::{Check, Disposition, Memory, Policy};
 use csp_verdict::effective_name;
 use std::alloc::Global;
 
-/// Why a policy allows or blocks a check, whatever its disposition: the directive that governs, and the first token
-/// that it allows by with the rule, or else each token that nearly allows.
+/// Why a policy allows or blocks a check, whatever its disposition: by which token of the directive that
+/// governs, and by which rule, or else which tokens nearly allow it.
 ///
-/// Where several rules allow, the first in the order of the standard's own steps is told (Content Security Policy
-/// Level 3, sections 6.7.1.1 and 6.7.3.3). A token nearly allows if one part of it alone, or one other token of
-/// the directive, keeps it from allowing. Tokens are told by their index in the directive's value.
+/// Where several rules allow, the first in the order of the standard's own steps is told, with its first
+/// token (Content Security Policy Level 3, sections 6.7.1.1 and 6.7.3.3). A token nearly allows if one
+/// part of it, or what else the directive has, alone keeps it from allowing.
 ///
-/// The tokens are gone through once for each rule. Memory is taken only for the tokens of a directive that blocks.
+/// The tokens are gone through once for each rule. Memory is taken only where the directive blocks.
 #[tactic(auto, using(crate::proofs::Decided::reason_decided))]
 pub fn explain(alloc: Global, policy: &Policy, check: &Check) -> Result<Reason, Memory>
     ensures reason { IfOk result (λ made. made ≡ spec.reason policy.now check.now) }

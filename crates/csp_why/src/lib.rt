@@ -1,5 +1,5 @@
-//! Why a policy allows or blocks a check: which token of which directive decided, and which tokens nearly did
-//! (Content Security Policy Level 3, sections 6.7.1 to 6.7.3).
+//! Why a policy allows or blocks a check: which token of which directive decided, and which tokens nearly
+//! did (Content Security Policy Level 3, sections 6.7.1 to 6.7.3).
 #![tactic(auto)]
 
 mod allowance;

@@ -11,7 +11,8 @@ use csp_model::{
 use csp_token::{is_hash_of, is_keyword};
 use std::alloc::Global;
 
-// The tokens of a list that nearly allow a check, in order, where `displaced` is what takes the place of others.
+// The tokens of a list that nearly allow a check, in order, where `displaced` is what takes the place of
+// others.
 pub(crate) fn near_tokens(
     alloc: Global,
     origin: &Origin,
@@ -53,7 +54,8 @@ fn near_word(
     }
 }
 
-// Of a source expression that matches what takes its place, and of another one the part that alone doesn't fit.
+// What takes the place of a source expression that matches, or the one part by which another doesn't
+// match.
 fn near_source(
     alloc: Global,
     displaced: Option<Word>,
