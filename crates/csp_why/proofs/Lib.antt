@@ -1,0 +1,5 @@
+pub mod Alone
+pub mod Decided
+pub mod Finding
+pub mod Governed
+pub mod Mended

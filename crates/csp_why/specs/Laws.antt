@@ -1,0 +1,90 @@
+-- Words of the laws: a policy in which the directive that governs is another one.
+use Rattle.std.specs.Prelude.{ℕ, zero, suc, Bool, false, not, ◌||◌, if◌then◌else◌, List, [], ◌∷◌, map, Option, Some, None, slice_get, unwrap_or}
+use Rattle.std.specs.List.{cons_option, filter}
+use Rattle.csp_model.specs.DecideTokens.{is_keyword}
+use Rattle.csp_model.specs.Governing.{is_named}
+use Rattle.csp_model.specs.Inline.{is_nonce_or_hash}
+use Rattle.csp_model.specs.Parts.{checked_url}
+use Rattle.csp_model.specs.declared.check.Check.{Check}
+use Rattle.csp_model.specs.declared.check.Check.TheVariants as check
+use Rattle.csp_model.specs.declared.name.Name.{Name}
+use Rattle.csp_model.specs.declared.policy.Directive.{Directive}
+use Rattle.csp_model.specs.declared.policy.Policy.{Policy}
+use Rattle.csp_model.specs.declared.source.Keyword.TheVariants as keyword
+use Rattle.csp_model.specs.declared.source.Source.{Source}
+use Rattle.csp_model.specs.declared.source.Source.TheVariants as source
+use Rattle.csp_model.specs.declared.url.Url.{Url}
+use Rattle.csp_why.specs.Allowances.{is_some_hash, is_for_worker}
+use Rattle.csp_why.specs.Near.{changed}
+use Rattle.csp_why.specs.declared.reason.Allowance.{Allowance}
+use Rattle.csp_why.specs.declared.reason.Near.{Near}
+use Rattle.csp_why.specs.declared.reason.Rule.{Rule}
+use Rattle.csp_why.specs.declared.reason.Rule.TheVariants as rule
+use Rattle.csp_why.specs.declared.reason.Word.{Word}
+use Rattle.csp_why.specs.declared.reason.Word.TheVariants as word
+
+abbrev pub change_named : Name → (Directive → Directive) → Directive → Directive
+change_named name change d = if is_named name d then change d else d
+
+-- the policy with the directives of a name changed, all else as it is
+abbrev pub with_changed : Name → (Directive → Directive) → Policy → Policy
+with_changed name change policy = record {
+  disposition = policy.disposition;
+  meta = policy.meta;
+  origin = policy.origin;
+  directives = map (change_named name change) policy.directives;
+}
+
+-- One token alone
+
+-- what a rule needs beside the token that is told: the other hashes of the metadata, or 'unsafe-hashes'
+abbrev pub needs : Rule → Check → Source → Bool
+needs rule.Integrity (check.Fetch group there redirects nonce integrity parser_inserted) s =
+    is_some_hash integrity s
+needs rule.Hash asked s = is_keyword keyword.UnsafeHashes s
+needs which asked s = false
+
+-- what a worker needs of a sandbox
+abbrev pub needs_grant : Check → List ℕ → Bool
+needs_grant check.WorkerStart token = is_for_worker token
+needs_grant asked token = false
+
+-- the directive with the token that is told alone, and with what its rule needs
+abbrev pub alone : Check → Allowance → Directive → Directive
+alone asked told d = record {
+  name = d.name;
+  tokens = cons_option (slice_get d.tokens told.token) (filter (needs_grant asked) d.tokens);
+  sources = cons_option (slice_get d.sources told.token) (filter (needs told.rule asked) d.sources);
+}
+
+-- One token changed
+
+-- the items with another one at this place, made of the one that stands there
+abbrev pub change_at : {A : Type 0} → (A → A) → ℕ → List A → List A
+change_at f place [] = []
+change_at f zero (x ∷ xs) = f x ∷ xs
+change_at f (suc place) (x ∷ xs) = x ∷ change_at f place xs
+
+-- the source with the part changed so that it fits the check's URL
+abbrev pub fitted : Word → Option Url → Source → Source
+fitted which (Some there) s = unwrap_or (changed which there s) s
+fitted which None s = s
+
+abbrev pub is_dynamic : Source → Bool
+is_dynamic s = is_keyword keyword.StrictDynamic s
+
+-- the sources without what the word tells of: what takes the token's place is gone, or 'unsafe-hashes' is
+-- there, or the token has the part changed so that it fits
+abbrev pub mended : Word → Option Url → ℕ → List Source → List Source
+mended word.StrictDynamic there token sources = filter (λ s. not (is_dynamic s)) sources
+mended word.Nonce there token sources = filter (λ s. not (is_nonce_or_hash s || is_dynamic s)) sources
+mended word.Hash there token sources = filter (λ s. not (is_nonce_or_hash s || is_dynamic s)) sources
+mended word.UnsafeHashes there token sources = source.Word keyword.UnsafeHashes ∷ sources
+mended which there token sources = change_at (fitted which there) token sources
+
+abbrev pub mended_directive : Check → Near → Directive → Directive
+mended_directive asked n d = record {
+  name = d.name;
+  tokens = d.tokens;
+  sources = mended n.word (checked_url asked) n.token d.sources;
+}

@@ -1,0 +1,6 @@
+pub mod Allowances
+pub mod Displacement
+pub mod Laws
+pub mod Near
+pub mod Reasons
+pub mod Words

@@ -1,0 +1,82 @@
+-- The tokens of a directive that nearly allow a check that it blocks.
+use Rattle.std.specs.Prelude.{ℕ, ◌+◌, Bool, false, if◌then◌else◌, List, [], ◌∷◌, Option, Some, None}
+use Rattle.std.specs.List.{find, cons_option}
+use Rattle.std.specs.Option.{option_map}
+use Rattle.csp_model.specs.DecideMatching.{matches}
+use Rattle.csp_model.specs.DecideTokens.{is_keyword, is_hash_of}
+use Rattle.csp_model.specs.Fetch.{is_redirected}
+use Rattle.csp_model.specs.Schemes.{scheme_text}
+use Rattle.csp_model.specs.declared.check.Check.{Check}
+use Rattle.csp_model.specs.declared.check.Check.TheVariants as check
+use Rattle.csp_model.specs.declared.check.Digests.{Digests}
+use Rattle.csp_model.specs.declared.source.HostPart.TheVariants as host
+use Rattle.csp_model.specs.declared.source.Keyword.TheVariants as keyword
+use Rattle.csp_model.specs.declared.source.PathPart.TheVariants as path
+use Rattle.csp_model.specs.declared.source.PortPart.TheVariants as port
+use Rattle.csp_model.specs.declared.source.Source.{Source}
+use Rattle.csp_model.specs.declared.source.Source.TheVariants as source
+use Rattle.csp_model.specs.declared.url.Origin.{Origin}
+use Rattle.csp_model.specs.declared.url.Url.{Url}
+use Rattle.csp_model.specs.declared.url.Url.TheVariants as url
+use Rattle.csp_why.specs.declared.reason.Near.{Near}
+use Rattle.csp_why.specs.declared.reason.Word.{Word}
+use Rattle.csp_why.specs.declared.reason.Word.TheVariants as word
+
+-- One part of a host-source
+
+-- a host-source with one part changed so that it fits the URL: its scheme is the URL's, its port any, its
+-- path none, or its host the suffix itself; none where there is no such part to change
+abbrev pub changed : Word → Url → Source → Option Source
+changed word.Scheme (url.Hosted scheme h p pieces) (source.Hosted part host_part port_part path_part) =
+    Some (source.Hosted (Some (scheme_text scheme)) host_part port_part path_part)
+changed word.Port there (source.Hosted part host_part port_part path_part) =
+    Some (source.Hosted part host_part port.Any path_part)
+changed word.Path there (source.Hosted part host_part port_part path_part) =
+    Some (source.Hosted part host_part port_part path.Absent)
+changed word.Suffix there (source.Hosted part (host.Under suffix) port_part path_part) =
+    Some (source.Hosted part (host.Exact suffix) port_part path_part)
+changed which there s = None
+
+abbrev pub some_matches : Option Source → Origin → Url → Bool → Bool
+some_matches (Some s) self there redirected = matches s self there redirected
+some_matches None self there redirected = false
+
+abbrev pub parts : List Word
+parts = word.Scheme ∷ word.Port ∷ word.Path ∷ word.Suffix ∷ []
+
+-- of a source that doesn't match, the part that alone keeps it from matching
+abbrev pub wrong_part : Origin → Url → Bool → Source → Option Word
+wrong_part self there redirected s =
+    find (λ part. some_matches (changed part there s) self there redirected) parts
+
+-- The word for each token
+
+-- a source that matches and doesn't count, or one that fails by one part
+abbrev pub near_source : Option Word → Origin → Url → Bool → Source → Option Word
+near_source None self there redirected s = wrong_part self there redirected s
+near_source (Some by) self there redirected s = if matches s self there redirected then Some by else None
+
+-- 'unsafe-inline' that doesn't count, or a hash of the very text
+abbrev pub near_inline : Option Word → Digests → Source → Option Word
+near_inline displaced digests s =
+    if is_keyword keyword.UnsafeInline s then displaced
+    else if is_hash_of digests s then Some word.UnsafeHashes
+    else None
+
+-- what keeps a token from allowing a check that its directive blocks
+abbrev pub near_word : Origin → Check → Option Word → Source → Option Word
+near_word self (check.Fetch group there redirects nonce integrity parser_inserted) displaced s =
+    near_source displaced self there (is_redirected redirects) s
+near_word self (check.Inline kind nonce digests) displaced s = near_inline displaced digests s
+near_word self (check.Base there) displaced s = near_source displaced self there false s
+near_word self (check.Form there redirects) displaced s =
+    near_source displaced self there (is_redirected redirects) s
+near_word self (check.Ancestor there) displaced s = near_source displaced self there false s
+near_word self asked displaced s = None
+
+-- the tokens with a word, where the first has this number
+abbrev pub near_from : (Source → Option Word) → ℕ → List Source → List Near
+near_from word_of number [] = []
+near_from word_of number (s ∷ sources) =
+    cons_option (option_map (λ w. record { token = number; word = w }) (word_of s))
+    (near_from word_of (number + 1) sources)

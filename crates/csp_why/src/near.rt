@@ -1,0 +1,174 @@
+//! The tokens of a directive that nearly allow a check that it blocks.
+ghost use Rattle.std.specs.Prelude.{◌≡◌, IfOk};
+ghost use Rattle.csp_why.specs.Near as spec;
+
+use crate::reason::{Near, Word};
+use csp_match::source_matches;
+use csp_model::{
+    Check, Digests, Duplicate, HostPart, Keyword, List, Memory, Origin, PathPart, PortPart, Source,
+    Text, Url,
+};
+use csp_token::{is_hash_of, is_keyword};
+use std::alloc::Global;
+
+// The tokens of a list that nearly allow a check, in order, where `displaced` is what takes the place of
+// others.
+pub(crate) fn near_tokens(
+    alloc: Global,
+    origin: &Origin,
+    check: &Check,
+    displaced: Option<Word>,
+    sources: &List<Source>,
+) -> Result<List<Near>, Memory>
+    ensures { IfOk result (λ made.
+        made ≡ spec.near_from (spec.near_word origin.now check.now displaced) 0 sources.now) }
+{
+    let mut near = List::new(alloc);
+    for (token, source) in sources.as_slice().iter().enumerate() {
+        if let Some(word) = near_word(alloc, origin, check, displaced, source)? {
+            near.push(Near { token, word })?;
+        }
+    }
+    Ok(near)
+}
+
+// What keeps a token from allowing a check, if it is one thing.
+fn near_word(
+    alloc: Global,
+    origin: &Origin,
+    check: &Check,
+    displaced: Option<Word>,
+    source: &Source,
+) -> Result<Option<Word>, Memory>
+    ensures { IfOk result (λ made. made ≡ spec.near_word origin.now check.now displaced source.now) }
+{
+    match check {
+        Check::Fetch { url, redirects, .. } | Check::Form { url, redirects } => {
+            near_source(alloc, displaced, origin, url, *redirects != 0, source)
+        }
+        Check::Base { url } | Check::Ancestor { url } => {
+            near_source(alloc, displaced, origin, url, false, source)
+        }
+        Check::Inline { digests, .. } => Ok(near_inline(displaced, digests, source)),
+        _ => Ok(None),
+    }
+}
+
+// What takes the place of a source expression that matches, or the one part by which another doesn't
+// match.
+fn near_source(
+    alloc: Global,
+    displaced: Option<Word>,
+    origin: &Origin,
+    url: &Url,
+    redirected: bool,
+    source: &Source,
+) -> Result<Option<Word>, Memory>
+    ensures { IfOk result (λ made.
+        made ≡ spec.near_source displaced origin.now url.now redirected source.now) }
+{
+    match displaced {
+        None => wrong_part(alloc, origin, url, redirected, source),
+        Some(by) if source_matches(source, origin, url, redirected) => Ok(Some(by)),
+        Some(_) => Ok(None),
+    }
+}
+
+// What keeps `'unsafe-inline'`, or a hash of the very text, from counting.
+fn near_inline(displaced: Option<Word>, digests: &Digests, source: &Source) -> Option<Word>
+    ensures { result ≡ spec.near_inline displaced digests.now source.now }
+{
+    if is_keyword(source, Keyword::UnsafeInline) {
+        displaced
+    } else if is_hash_of(source, digests) {
+        Some(Word::UnsafeHashes)
+    } else {
+        None
+    }
+}
+
+// The parts of a host-source.
+fn parts() -> &'static [Word]
+    ensures { result.now ≡ spec.parts }
+{
+    &[Word::Scheme, Word::Port, Word::Path, Word::Suffix]
+}
+
+// The part that alone keeps a source that doesn't match from matching.
+fn wrong_part(
+    alloc: Global,
+    origin: &Origin,
+    url: &Url,
+    redirected: bool,
+    source: &Source,
+) -> Result<Option<Word>, Memory>
+    ensures { IfOk result (λ made. made ≡ spec.wrong_part origin.now url.now redirected source.now) }
+{
+    for part in parts() {
+        if matches_changed(alloc, *part, origin, url, redirected, source)? {
+            return Ok(Some(*part));
+        }
+    }
+    Ok(None)
+}
+
+// Whether a host-source with the part changed so that it fits matches the URL.
+fn matches_changed(
+    alloc: Global,
+    part: Word,
+    origin: &Origin,
+    url: &Url,
+    redirected: bool,
+    source: &Source,
+) -> Result<bool, Memory>
+    ensures { IfOk result (λ made. made
+        ≡ spec.some_matches (spec.changed part url.now source.now) origin.now url.now redirected) }
+{
+    match changed(alloc, part, url, source)? {
+        Some(changed) => Ok(source_matches(&changed, origin, url, redirected)),
+        None => Ok(false),
+    }
+}
+
+// A host-source with one part changed so that it fits the URL. None where it has no such part.
+fn changed(alloc: Global, part: Word, url: &Url, source: &Source) -> Result<Option<Source>, Memory>
+    ensures { IfOk result (λ made. made ≡ spec.changed part url.now source.now) }
+{
+    let Source::Hosted {
+        scheme,
+        host,
+        port,
+        path,
+    } = source
+    else {
+        return Ok(None);
+    };
+    let port = *port;
+    match (part, url, host) {
+        (Word::Scheme, Url::Hosted { scheme: there, .. }, _) => Ok(Some(Source::Hosted {
+            scheme: Some(Text::new(alloc, there.as_str())?),
+            host: host.copy(alloc)?,
+            port,
+            path: path.copy(alloc)?,
+        })),
+        (Word::Port, _, _) => Ok(Some(Source::Hosted {
+            scheme: scheme.copy(alloc)?,
+            host: host.copy(alloc)?,
+            port: PortPart::Any,
+            path: path.copy(alloc)?,
+        })),
+        (Word::Path, _, _) => Ok(Some(Source::Hosted {
+            scheme: scheme.copy(alloc)?,
+            host: host.copy(alloc)?,
+            port,
+            path: PathPart::Absent,
+        })),
+        (Word::Suffix, _, HostPart::Under(suffix)) => Ok(Some(Source::Hosted {
+            scheme: scheme.copy(alloc)?,
+            host: HostPart::Exact(suffix.copy(alloc)?),
+            port,
+            path: path.copy(alloc)?,
+        })),
+        _ => Ok(None),
+    }
+}
