@@ -84,7 +84,12 @@ pub(crate) fn output(
             };
             Ok(Outcome::Text(embed(alloc, embedder, policy, response)?))
         }
-        (Form::Tidy, [Content::Policies(list)]) => Ok(Outcome::Text(tidy(alloc, list)?)),
+        (Form::Tidy, files) => {
+            let [Content::Policies(list)] = files else {
+                unreachable!()
+            };
+            Ok(Outcome::Text(tidy(alloc, list)?))
+        }
         (Form::Learn, files) => {
             let [Content::Requests(bytes)] = files else {
                 unreachable!()
