@@ -2,9 +2,7 @@
 use crate::runs::{inputs, texts, written};
 use csp_io::MemorySink;
 use csp_model::{List, Memory};
-use csp_policy::read_block;
 use csp_run::{Status, run};
-use csp_url::read_origin;
 use std::alloc::Global;
 use std::test::Fail;
 
@@ -67,18 +65,13 @@ const LEARNT: [(&str, &str); 9] = [
     ),
 ];
 
-// The line of the policy is read back as one policy.
 #[test]
 fn runs_of_learn(rt: HostRuntime) -> Result<(), Fail> {
-    let origin = read_origin(rt.alloc(), ORIGIN)?;
     for &(requests, wanted) in &LEARNT {
         let files = inputs(rt.alloc(), "", requests, &[])?;
         let (status, text) = written(rt.alloc(), &WORDS, files, 400, &[])?;
         assert_eq!(rt; status, Status::Clean, "at {requests}");
         assert_eq!(rt; text.as_slice(), wanted.as_bytes(), "at {requests}");
-        let (line, _) = wanted.split_once('\n').ok_or("no line")?;
-        let read = read_block(rt.alloc(), line.as_bytes(), &origin)?;
-        assert_eq!(rt; read.policies.len(), 1, "at {requests}");
     }
     Ok(())
 }

@@ -13,8 +13,12 @@ const NAMES: [&str; 17] = [
 
 // The words of a run on so many lists.
 fn words(alloc: Global, count: usize) -> Result<Vec<&'static str>, Memory> {
-    let mut words = Vec::from_slice(alloc, &["order", "https://a.example"])?;
-    words.extend_from_slice(NAMES.get(..count).unwrap_or(&[]))?;
+    let mut words = Vec::new(alloc);
+    words.push("order")?;
+    words.push("https://a.example")?;
+    for name in NAMES.iter().take(count) {
+        words.push(*name)?;
+    }
     Ok(words)
 }
 
