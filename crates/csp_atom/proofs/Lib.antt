@@ -1,5 +1,4 @@
 pub mod HoldingDecided
-pub mod LastPieces
 pub mod OrderLaws
 pub mod Own
 pub mod Refutes

@@ -7,7 +7,7 @@ ghost use Rattle.csp_cell.specs.Lookup as spec;
 use crate::wanted::{Wanted, compare_wanted};
 use csp_atom::order::compare;
 use csp_atom::{Atom, Literal};
-use csp_model::{Bytes, Host};
+use csp_model::Host;
 
 // What the literals say of the atom. Each that can decide it is looked for by a binary search.
 pub(crate) fn look_up(literals: &[Literal], atom: &Atom) -> Option<bool>
@@ -26,7 +26,7 @@ pub(crate) fn look_up(literals: &[Literal], atom: &Atom) -> Option<bool>
                 || has_above(literals, suffix.as_str().as_bytes()),
         ),
         Atom::PathIs(path) | Atom::PathUnder(path) => false_where(
-            has(literals, Wanted::Itself(atom)) || has_front(literals, path.as_slice()),
+            has(literals, Wanted::Itself(atom)) || has_front(literals, path.as_front().as_bytes()),
         ),
         _ => kept(literals, Wanted::Itself(atom)),
     }
@@ -83,12 +83,12 @@ fn has_above(literals: &[Literal], text: &[u8]) -> bool
 }
 
 // Whether there is one of the path's first pieces, not all of them.
-fn has_front(literals: &[Literal], path: &[Bytes]) -> bool
+fn has_front(literals: &[Literal], path: &[u8]) -> bool
     requires { spec.Rises literals.now }
-    ensures { result ≡ spec.has_front literals.now path.now (length path.now) }
+    ensures { result ≡ spec.has_front literals.now (front_pieces path.now) (length (front_pieces path.now)) }
 {
-    for count in 0..path.len() {
-        if has(literals, Wanted::Beyond(&path[..count])) {
+    for end in 1..path.len() {
+        if path[end - 1] == b'/' && has(literals, Wanted::Beyond(&path[..end])) {
             return true;
         }
     }

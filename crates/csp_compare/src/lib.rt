@@ -5,7 +5,6 @@
 mod comparing;
 mod difference;
 mod draft;
-mod enforced;
 mod kinds;
 mod numbers;
 mod pair;

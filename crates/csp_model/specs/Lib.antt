@@ -21,7 +21,6 @@ pub mod Matching
 pub mod Names
 pub mod Navigation
 pub mod Parts
-pub mod PathKeys
 pub mod Paths
 pub mod Policies
 pub mod Reading

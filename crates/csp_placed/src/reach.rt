@@ -145,8 +145,17 @@ fn compare_start(atom: &Atom, front: &Path) -> Ordering
     ensures { result ≡ spec.start_cmp (spec.path_of atom.now) front.now }
 {
     match atom {
-        Atom::PathIs(path) | Atom::PathUnder(path) => path.compare_start(front),
-        _ if front.as_slice().is_empty() => Ordering::Equal,
+        Atom::PathIs(path) | Atom::PathUnder(path) => {
+            compare_texts(path.as_front().as_bytes(), front.as_front().as_bytes())
+        }
+        _ if front.is_empty() => Ordering::Equal,
         _ => Ordering::Less,
     }
+}
+
+// The order of a text, cut to the length of the other, and the other.
+fn compare_texts(text: &[u8], other: &[u8]) -> Ordering
+    ensures { result ≡ slice_cmp nat_cmp (take (length other.now) text.now) other.now }
+{
+    text[..text.len().min(other.len())].cmp(other)
 }

@@ -3,7 +3,7 @@ use Rattle.std.specs.Prelude.{◌==◌}
 use Rattle.std.proofs.lemmas.Iterator.Consumers.{YieldsList-end, YieldsList-at}
 use Rattle.std.proofs.lemmas.Iterator.Splits.{YieldsList-from_slice_split}
 use Rattle.percent_encoding.specs.Percent.{percent_decode}
-use Rattle.csp_model.proofs.path.pieces_of.Goals as goal
+use Rattle.csp_model.proofs.path.Path.read.Goals as goal
 
 pub returns : goal.returns
 returns c =
