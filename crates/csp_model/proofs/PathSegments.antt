@@ -63,7 +63,9 @@ all_decoded (piece ∷ pieces) read = sym (ap (map percent_decode) (split_at-pat
 
 each_kept : (pieces : List (List ℕ)) → map percent_decode (map (percent_encode ESCAPED) pieces) ≡ pieces → All IsKept pieces
 each_kept [] same = All-nil IsKept
-each_kept (piece ∷ pieces) same = All-cons IsKept piece pieces cc (each_kept pieces cc)
+each_kept (piece ∷ pieces) same =
+    let rest : map percent_decode (map (percent_encode ESCAPED) pieces) ≡ pieces = cc in
+    All-cons IsKept piece pieces (cc) (each_kept pieces rest)
 
 -- ---- "." and ".."
 

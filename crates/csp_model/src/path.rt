@@ -132,7 +132,7 @@ impl Path {
         self.text
             .as_bytes()
             .split(|b| *b == b'/')
-            .any(|segment| matches!(segment, b"." | b".."))
+            .any(|segment| is_dot_segment(segment))
     }
 
     /// Whether the path begins with the pieces of another. Every path begins with its own.
@@ -165,6 +165,12 @@ impl PartialEq for Path {
 
 impl Eq for Path {
     ghost laws = { Prim.search (comparing, rules) };
+}
+
+fn is_dot_segment(segment: &[u8]) -> bool
+    ensures { result ≡ spec.is_dot_segment segment.now }
+{
+    matches!(segment, b"." | b"..")
 }
 
 // Adds a piece with its escapes, and a slash behind it.
