@@ -137,9 +137,12 @@ some_pieces text none =
 begun_by : (path front : List (List ℕ)) (behind : List (List ℕ)) → behind ≢ [] → path ++ [] ∷ [] ≡ front ++ behind → (more : List (List ℕ)) × (path ≡ front ++ more)
 begun_by path front behind some is = elim (last_view behind) [
   | inl none ↦ absurd (some none)
-  | inr (init, last, e) ↦ (init, sym (without_last-push path [])
-      ∙ ap without_last (is ∙ ap (λ ps. front ++ ps) e ∙ sym (append_assoc front init (last ∷ [])))
-      ∙ without_last-push (front ++ init) last)
+  | inr (init, last, e) ↦ (
+    init,
+    sym (without_last-push path [])
+        ∙ ap without_last (is ∙ ap (λ ps. front ++ ps) e ∙ sym (append_assoc front init (last ∷ [])))
+        ∙ without_last-push (front ++ init) last,
+  )
 ]
 
 pub begun_from_text : (path front : List (List ℕ)) (rest : List ℕ) → IsRead path → IsRead front
@@ -155,7 +158,6 @@ further [] = []
 further (piece ∷ pieces) = percent_encode ESCAPED piece ++ (path_text pieces ++ 47 ∷ [])
 
 pub further_text : (front more : List (List ℕ)) → front_text (front ++ more) ≡ front_text front ++ further more
-
 further_text front [] = ap front_text (append-nil front) ∙ sym (append-nil (front_text front))
 further_text front (piece ∷ pieces) =
     let encoded = percent_encode ESCAPED piece in
@@ -185,7 +187,6 @@ begins_by_views text front r is also e =
 
 -- it has more of them where its text is longer
 longer_text : (front more : List (List ℕ)) → more ≢ [] → length (front_text front) < length (front_text (front ++ more))
-
 longer_text front [] some = absurd (some refl)
 longer_text front (piece ∷ pieces) some =
     let rest = further (piece ∷ pieces) in

@@ -10,6 +10,7 @@ pub mod DecideNavigation
 pub mod DecideNonces
 pub mod DecideTokens
 pub mod DecideVerdict
+pub mod Destinations
 pub mod Ends
 pub mod Fetch
 pub mod Governing

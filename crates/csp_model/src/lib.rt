@@ -3,6 +3,8 @@
 
 mod check;
 mod copies;
+mod destination;
+mod element;
 mod ends;
 mod grammar;
 pub mod laws;
@@ -18,6 +20,8 @@ mod verdict;
 
 pub use check::{Capability, Check, CheckPart, Digest, Digests, FetchRule, Group, InlineKind};
 pub use copies::Duplicate;
+pub use destination::{Destination, effective};
+pub use element::{Element, element_nonce, nonceable};
 pub use ends::is_subdomain;
 pub use grammar::{are_digits, decimal_value, is_scheme, is_scheme_char};
 pub use list::List;

@@ -114,7 +114,11 @@ impl Path {
     pub fn len(&self) -> usize
         ensures { result ≡ length self.now }
     {
-        self.as_str().as_bytes().iter().filter(|b| **b == b'/').count()
+        self.as_str()
+            .as_bytes()
+            .iter()
+            .filter(|b| **b == b'/')
+            .count()
     }
 
     /// Whether there is no piece.

@@ -5,7 +5,8 @@ ghost use Rattle.csp_model.specs.Ascii.{lower, is_nonempty};
 ghost use Rattle.csp_model.specs.Inline.{IsNonceable, IsElementNonce, nonce_attribute};
 ghost use Rattle.csp_model.specs.DecideNonces as spec;
 
-use csp_model::{List, Text};
+use crate::list::List;
+use crate::text::Text;
 
 /// An element of a page, as far as its nonce needs it.
 #[derive(Debug, PartialEq, Eq, Drop)]

@@ -2,7 +2,7 @@ use Rattle.std.proofs.Common.{rules, ◌≡◌, ◌↔◌, IsTrue, Bool, not, sy
 use Rattle.csp_model.specs.DecideNonces.{is_nonceable}
 use Rattle.csp_model.specs.Inline.{IsNonceable}
 use Rattle.csp_model.proofs.NoncesDecided.{nonceable_decides}
-use Rattle.csp_inline.proofs.element.nonceable.Goals as goal
+use Rattle.csp_model.proofs.element.nonceable.Goals as goal
 
 pub returns-else-ne-clause-nonceable : goal.returns-else-ne-clause-nonceable
 returns-else-ne-clause-nonceable c =

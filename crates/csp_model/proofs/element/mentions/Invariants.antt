@@ -2,7 +2,7 @@ use Rattle.std.proofs.Common.{◌≡◌, ◌<◌, length}
 use Rattle.std.specs.Slice.Iter.{windows_rest, windows_size}
 use Rattle.csp_model.specs.Ascii.{lower}
 use Rattle.csp_model.specs.DecideNonces.{has_word}
-use Rattle.csp_inline.proofs.element.mentions.Given as goal
+use Rattle.csp_model.proofs.element.mentions.Given as goal
 
 -- what is left has the word in it where the text has
 abbrev pub invariant-loop-window : goal.invariant-loop-window

@@ -4,8 +4,8 @@ use Rattle.std.specs.List.{find}
 use Rattle.std.specs.Str.{bytes_eq}
 use Rattle.csp_model.specs.declared.check.Group.{Group}
 use Rattle.csp_model.specs.declared.check.Group.TheVariants as group
-use Rattle.csp_fetch.specs.declared.destination.Destination.{Destination}
-use Rattle.csp_fetch.specs.declared.destination.Destination.TheVariants.{Empty, Manifest, Object, Embed, Frame, Iframe, Audio, Track, Video, Font, Image, Style, Script, Audioworklet, Paintworklet, Worker, Serviceworker, Sharedworker, Report}
+use Rattle.csp_model.specs.declared.destination.Destination.{Destination}
+use Rattle.csp_model.specs.declared.destination.Destination.TheVariants.{Empty, Manifest, Object, Embed, Frame, Iframe, Audio, Track, Video, Font, Image, Style, Script, Audioworklet, Paintworklet, Worker, Serviceworker, Sharedworker, Report}
 
 -- a destination as it is written
 abbrev pub destination_text : Destination → List ℕ

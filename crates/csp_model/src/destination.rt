@@ -1,8 +1,8 @@
 //! Destinations of requests, and the groups of fetches that one directive governs.
 ghost use Rattle.std.specs.Prelude.{◌≡◌};
-ghost use Rattle.csp_fetch.specs.Destinations as spec;
+ghost use Rattle.csp_model.specs.Destinations as spec;
 
-use csp_model::Group;
+use crate::check::Group;
 
 /// What a request is for (Fetch Standard, section 2.2.5).
 #[derive(Clone, Copy, Debug, PartialEq, Eq)]

@@ -3,8 +3,8 @@ use Rattle.std.proofs.lemmas.Bool.{false≢true}
 use Rattle.std.specs.Slice.Iter.{windows_rest}
 use Rattle.csp_model.specs.Ascii.{lower}
 use Rattle.csp_model.specs.DecideNonces.{has_word}
-use Rattle.csp_inline.proofs.Windows.{first_window_is, first_window_isn't, no_window_is}
-use Rattle.csp_inline.proofs.element.mentions.Goals as goal
+use Rattle.csp_model.proofs.Windows.{first_window_is, first_window_isn't, no_window_is}
+use Rattle.csp_model.proofs.element.mentions.Goals as goal
 
 pub returns-then-eq_ignore_ascii_case : goal.returns-then-eq_ignore_ascii_case
 returns-then-eq_ignore_ascii_case c =
