@@ -2,6 +2,7 @@
 ghost use Rattle.std.specs.Prelude.{◌≡◌, ◌≤◌, length, true, false};
 ghost use Rattle.std.specs.List.Sorted.{IsPartitionPoint};
 ghost use Rattle.csp_atom.specs.Follows as answers;
+ghost use Rattle.csp_model.specs.Paths.{front_pieces, front_text};
 ghost use Rattle.csp_cell.specs.Lookup as spec;
 
 use crate::wanted::{Wanted, compare_wanted};
@@ -40,7 +41,8 @@ fn false_where(test: bool) -> Option<bool>
 
 // The sign of the literal of this atom, where there is one.
 fn kept(literals: &[Literal], wanted: Wanted) -> Option<bool>
-    requires { spec.Rises literals.now }
+    requires rises { spec.Rises literals.now }
+    requires wanted { spec.IsWanted wanted }
     ensures { result ≡ spec.kept literals.now (spec.atom_of wanted.entry) }
 {
     let place = literals.partition_point(|literal| compare_wanted(&literal.atom, wanted).is_lt());
@@ -53,6 +55,7 @@ fn kept(literals: &[Literal], wanted: Wanted) -> Option<bool>
 
 // The literal's sign, where its atom is this one.
 fn sign_of(literal: &Literal, wanted: Wanted) -> Option<bool>
+    requires { spec.IsWanted wanted }
     ensures { result ≡ spec.sign_of literal.now (spec.atom_of wanted.entry) }
 {
     if compare_wanted(&literal.atom, wanted).is_eq() {
@@ -63,7 +66,8 @@ fn sign_of(literal: &Literal, wanted: Wanted) -> Option<bool>
 }
 
 fn has(literals: &[Literal], wanted: Wanted) -> bool
-    requires { spec.Rises literals.now }
+    requires rises { spec.Rises literals.now }
+    requires wanted { spec.IsWanted wanted }
     ensures { result ≡ spec.has literals.now (spec.atom_of wanted.entry) }
 {
     kept(literals, wanted).is_some()
@@ -84,7 +88,8 @@ fn has_above(literals: &[Literal], text: &[u8]) -> bool
 
 // Whether there is one of the path's first pieces, not all of them.
 fn has_front(literals: &[Literal], path: &[u8]) -> bool
-    requires { spec.Rises literals.now }
+    requires rises { spec.Rises literals.now }
+    requires text { path.now ≡ front_text (front_pieces path.now) }
     ensures { result ≡ spec.has_front literals.now (front_pieces path.now) (length (front_pieces path.now)) }
 {
     for end in 1..path.len() {

@@ -2,6 +2,7 @@
 ghost use Rattle.std.specs.Prelude.{◌≡◌};
 ghost use Rattle.csp_cell.specs.Lookup as spec;
 ghost use Rattle.csp_atom.specs.Order.{atom_cmp};
+ghost use Rattle.csp_model.specs.Paths.{front_pieces, front_text};
 ghost use Rattle.csp_atom.specs.declared.atom.Atom.TheVariants.{HostUnder, PathUnder};
 
 use csp_atom::Atom;
@@ -17,6 +18,7 @@ pub(crate) enum Wanted<'a> {
 }
 
 pub(crate) fn compare_wanted(atom: &Atom, wanted: Wanted) -> Ordering
+    requires { spec.IsWanted wanted }
     ensures { result ≡ atom_cmp atom.now (spec.atom_of wanted.entry) }
 {
     match wanted {
@@ -36,7 +38,7 @@ fn compare_suffix(atom: &Atom, suffix: &[u8]) -> Ordering
 }
 
 fn compare_front(atom: &Atom, front: &[u8]) -> Ordering
-    requires { IsRead (front_pieces front.now) }
+    requires { front.now ≡ front_text (front_pieces front.now) }
     ensures { result ≡ atom_cmp atom.now (PathUnder (front_pieces front.now)) }
 {
     match atom {

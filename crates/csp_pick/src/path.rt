@@ -6,7 +6,7 @@ ghost use Rattle.csp_model.specs.Validity.{is_piece};
 ghost use Rattle.csp_model.specs.declared.check.CheckPart.TheVariants as part;
 ghost use Rattle.csp_pick.specs.Fresh.{ListsEach};
 ghost use Rattle.csp_pick.specs.Parts.{MeetPart, path_holds};
-ghost use Rattle.csp_pick.specs.Said.{front_of, last_piece_of, path_of};
+ghost use Rattle.csp_pick.specs.Said.{front_of, last_piece_of, last_segment_of, path_of};
 
 use crate::fresh::{fresh_text, is_among};
 use csp_atom::{Atom, Literal};

@@ -1,5 +1,7 @@
 //! Lists of atoms that ascend: the places of an atom, and of those that the denial of a front can decide.
-ghost use Rattle.std.specs.Prelude.{◌≡◌, ◌≤◌, ◌<◌, ◌↔◌, ◌-◌, IsTrue, length};
+ghost use Rattle.std.specs.Prelude.{◌≡◌, ◌≤◌, ◌<◌, ◌↔◌, ◌-◌, IsTrue, length, take};
+ghost use Rattle.std.specs.Cmp.Lexicographic.{slice_cmp};
+ghost use Rattle.std.specs.Ordering.{nat_cmp};
 ghost use Rattle.csp_placed.specs.Facts.{Ascends, ArePlacesOf};
 ghost use Rattle.csp_placed.specs.Fronts as spec;
 
