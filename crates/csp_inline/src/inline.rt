@@ -66,8 +66,9 @@ fn sources_allow_inline(
         || (digests_match(digests, sources) && hash_counts(kind, sources))
 }
 
-// Whether `'unsafe-inline'` acts: no nonce, no hash and, for code, no `'strict-dynamic'` takes its place.
-fn allows_all_inline(kind: InlineKind, sources: &List<Source>) -> bool
+/// Whether `'unsafe-inline'` is in a list and acts for a kind: no nonce, no hash and, for code, no
+/// `'strict-dynamic'` takes its place (Content Security Policy Level 3, section 6.7.3.2).
+pub fn allows_all_inline(kind: InlineKind, sources: &List<Source>) -> bool
     ensures { result ≡ spec.allows_all_inline kind sources.now }
 {
     has_keyword(sources, Keyword::UnsafeInline)
@@ -87,22 +88,23 @@ fn is_nonce_or_hash(source: &Source) -> bool
     matches!(source, Source::Nonce { .. } | Source::Digest { .. })
 }
 
-// Whether a hash counts for the kind: for elements, and with `'unsafe-hashes'` for all.
-fn hash_counts(kind: InlineKind, sources: &List<Source>) -> bool
+/// Whether a hash of a list counts for a kind: for elements, and with `'unsafe-hashes'` for all (Content
+/// Security Policy Level 3, section 6.7.3.3).
+pub fn hash_counts(kind: InlineKind, sources: &List<Source>) -> bool
     ensures { result ≡ spec.hash_counts kind sources.now }
 {
     is_element_kind(kind) || has_keyword(sources, Keyword::UnsafeHashes)
 }
 
-// The text of a script or a style element.
-pub(crate) fn is_element_kind(kind: InlineKind) -> bool
+/// Whether it is the text of a script or a style element.
+pub fn is_element_kind(kind: InlineKind) -> bool
     ensures { result ≡ is_element_kind kind }
 {
     matches!(kind, InlineKind::Script | InlineKind::Style)
 }
 
-// Code, and no style.
-pub(crate) fn is_script_kind(kind: InlineKind) -> bool
+/// Whether it is code, and no style.
+pub fn is_script_kind(kind: InlineKind) -> bool
     ensures { result ≡ is_script_kind kind }
 {
     !matches!(kind, InlineKind::Style | InlineKind::StyleAttribute)

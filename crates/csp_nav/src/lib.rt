@@ -9,4 +9,4 @@ mod listed;
 mod sandbox;
 
 pub use listed::{ancestor_allows, base_allows, form_allows, opaque_ancestor_allows};
-pub use sandbox::{capability_allows, worker_start_allows};
+pub use sandbox::{capability_allows, grants_by, worker_start_allows};

@@ -55,7 +55,9 @@ fn grants(tokens: &List<Text>, capability: Capability) -> bool
         .any(|token| grants_by(token.as_str(), capability))
 }
 
-fn grants_by(token: &str, capability: Capability) -> bool
+/// Whether a token of `sandbox`, in letters of either case, leaves a capability to a document (HTML Standard,
+/// section 7.1.5).
+pub fn grants_by(token: &str, capability: Capability) -> bool
     ensures { result ≡ list_any (λ t. bytes_eq t (lower token.now)) (capability_tokens capability) }
 {
     if capability == Capability::TopNavigationByUserActivation {

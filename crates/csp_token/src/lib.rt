@@ -16,4 +16,4 @@ pub use digest::{Algorithms, digest_matches, digests, digests_for, digests_match
 pub use index::TokenIndex;
 pub use integrity::{integrity_text, read_integrity};
 pub use keyword::has_keyword;
-pub use matching::{integrity_matches, nonce_matches};
+pub use matching::{integrity_matches, is_hash, is_nonce, nonce_matches};

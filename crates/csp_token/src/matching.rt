@@ -7,8 +7,8 @@ ghost use Rattle.csp_model.specs.Tokens.{NonceMatches, IntegrityMatches};
 
 use csp_model::{Hash, List, Source, Text};
 
-// The source is a nonce-source of this value.
-fn is_nonce(source: &Source, nonce: &str) -> bool
+/// Whether a source is a nonce-source of this value, which is compared byte by byte.
+pub fn is_nonce(source: &Source, nonce: &str) -> bool
     ensures { result ≡ spec.is_nonce nonce.now source.now }
 {
     match source {
@@ -36,8 +36,8 @@ pub fn nonce_matches(nonce: &Text, sources: &List<Source>) -> bool
     !nonce.as_str().is_empty() && has_nonce(sources, nonce.as_str())
 }
 
-// The source is the hash-source of this pair.
-fn is_hash(source: &Source, pair: &Hash) -> bool
+/// Whether a source is the hash-source of this pair of algorithm and value, which is compared byte by byte.
+pub fn is_hash(source: &Source, pair: &Hash) -> bool
     ensures { result ≡ spec.is_hash pair.now source.now }
 {
     match source {
