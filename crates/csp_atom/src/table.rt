@@ -86,7 +86,9 @@ fn follows_true(known: &Atom, asked: &Atom) -> Option<bool>
             lies_within(known.as_str(), asked.as_str()),
             lies_within(asked.as_str(), known.as_str()),
         ),
-        (Atom::HostUnder(suffix), Atom::HostIs(host)) => false_where(!host.is_under(suffix.as_str())),
+        (Atom::HostUnder(suffix), Atom::HostIs(host)) => false_where(!host.is_under(
+            suffix.as_str(),
+        )),
         (Atom::HostDomain, Atom::HostIs(host)) => false_where(!host.is_domain()),
         (Atom::PortIs(known), Atom::PortIs(asked)) => Some(known == asked),
         (Atom::PathIs(known), Atom::PathIs(asked)) => Some(known == asked),
@@ -115,7 +117,9 @@ fn follows_false(known: &Atom, asked: &Atom) -> Option<bool>
             asked.as_str(),
             known.as_str(),
         )),
-        (Atom::HostUnder(suffix), Atom::HostIs(host)) => false_where(host.is_under(suffix.as_str())),
+        (Atom::HostUnder(suffix), Atom::HostIs(host)) => false_where(host.is_under(
+            suffix.as_str(),
+        )),
         (Atom::HostDomain, Atom::HostDomain | Atom::HostUnder(_)) => Some(false),
         (Atom::HostDomain, Atom::HostIs(host)) => false_where(host.is_domain()),
         (Atom::PortIs(known), Atom::PortIs(asked)) => false_where(known == asked),

@@ -34,11 +34,11 @@ then_le : (x y : ℕ) (o : Ordering) → is_le (ordering_then (nat_cmp x y) o) �
 then_le x y o h = elim (cases_lt x y) [
   | inl less ↦ inl less
   | inr over ↦ elim (cases_lt y x) [
-      | inl more ↦ absurd (false≢true (rw (greater_is x y more) at h))
-      | inr under ↦
-          let same : x ≡ y = omega arith in
-          inr (same, rw (ap (nat_cmp x) (sym same) ∙ level_is x) at h)
-    ]
+    | inl more ↦ absurd (false≢true (rw (greater_is x y more) at h))
+    | inr under ↦
+        let same : x ≡ y = omega arith in
+        inr (same, rw (ap (nat_cmp x) (sym same) ∙ level_is x) at h)
+  ]
 ]
 
 -- what begins a text is not behind it
@@ -54,15 +54,15 @@ between (x ∷ front) [] more low high = absurd (false≢true low)
 between (x ∷ front) (y ∷ middle) more low high =
     elim (then_le x y (text_cmp front middle) low) [
       | inl less ↦ elim (then_le y x (text_cmp middle (front ++ more)) high) [
-          | inl more ↦ absurd (omega arith)
-          | inr level ↦ absurd (let e = level.0 in omega arith)
-        ]
+        | inl more ↦ absurd (omega arith)
+        | inr level ↦ absurd (let e = level.0 in omega arith)
+      ]
       | inr level ↦ elim (then_le y x (text_cmp middle (front ++ more)) high) [
-          | inl less ↦ absurd (let e = level.0 in omega arith)
-          | inr also ↦
-              let (rest, e) = between front middle more level.1 also.1 in
-              (rest, ap (λ b. b ∷ middle) (sym level.0) ∙ ap (λ t. x ∷ t) e)
-        ]
+        | inl less ↦ absurd (let e = level.0 in omega arith)
+        | inr also ↦
+            let (rest, e) = between front middle more level.1 also.1 in
+            (rest, ap (λ b. b ∷ middle) (sym level.0) ∙ ap (λ t. x ∷ t) e)
+      ]
     ]
 
 -- ---- what two texts share

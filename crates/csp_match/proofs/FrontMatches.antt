@@ -54,9 +54,9 @@ module _ (pieces path : List (List ℕ)) (begins : (more : List (List ℕ)) × (
   behind_Decides = Decides-like (not (length (front_text pieces) == length (front_text path)))
       (λ (apart : pieces ≡ path → ⊥). beyond_by_text path pieces (shorter apart) begins)
       (λ (more, some, e) same.
-          let longer : length (front_text pieces) < length (front_text path) = longer_beyond path pieces more some e in
-          let level = ap (λ p. length (front_text p)) same in
-          omega arith)
+      let longer : length (front_text pieces) < length (front_text path) = longer_beyond path pieces more some e in
+      let level = ap (λ p. length (front_text p)) same in
+      omega arith)
       (Decides-not (length (front_text pieces) == length (front_text path)) ends_Decides) where
         shorter : (pieces ≡ path → ⊥) → length (front_text pieces) < length (front_text path)
         shorter apart = elim (cases_lt (length (front_text pieces)) (length (front_text path))) [

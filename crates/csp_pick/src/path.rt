@@ -65,11 +65,7 @@ fn named_front(literal: &Literal) -> Option<&Path>
 }
 
 // The pieces of the front, if there is one, and behind them a piece that ends no path that a literal names.
-fn path_behind(
-    alloc: Global,
-    front: Option<&Path>,
-    literals: &[Literal],
-) -> Result<Path, Memory>
+fn path_behind(alloc: Global, front: Option<&Path>, literals: &[Literal]) -> Result<Path, Memory>
     ensures { IfOk result (λ path. (piece : Items ℕ) × IsTrue (is_piece piece)
         × (path ≡ unwrap_or (option_copied front.entry) [] ++ piece ∷ [])
         × All (λ l. last_piece_of l.atom ≢ Some piece) literals.now) }

@@ -1,8 +1,6 @@
 //! Tests of csp_source.
 use crate::values::source;
-use csp_model::{
-    HostPart, Keyword, Memory, Path, PathPart, PortPart, Source, Text, is_ascii_text,
-};
+use csp_model::{HostPart, Keyword, Memory, Path, PathPart, PortPart, Source, Text, is_ascii_text};
 use csp_source::{read_source, source_text};
 use std::process::Abort;
 use std::test::Fail;
@@ -140,9 +138,7 @@ fn has_every_part(source: &Source, wanted: &Path) -> bool {
             host: HostPart::Under(suffix),
             port: PortPart::Number(80),
             path: PathPart::Prefix(path),
-        } => scheme.as_str() == "https"
-            && suffix.as_str() == "a.example"
-            && path == wanted,
+        } => scheme.as_str() == "https" && suffix.as_str() == "a.example" && path == wanted,
         _ => false,
     }
 }

@@ -146,9 +146,7 @@ fn has_every_part(url: &Url) -> bool {
             host,
             port: None,
             path,
-        } => {
-            is_domain(host, "b.example") && path.as_str() == "/~b"
-        }
+        } => { is_domain(host, "b.example") && path.as_str() == "/~b" }
         _ => false,
     }
 }
