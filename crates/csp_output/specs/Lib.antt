@@ -2,6 +2,7 @@ pub mod Checks
 pub mod Comparisons
 pub mod Drills
 pub mod Embeddings
+pub mod Explanations
 pub mod Learnt
 pub mod Lines
 pub mod Orders

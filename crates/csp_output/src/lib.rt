@@ -1,5 +1,5 @@
 //! What `compare`, `check`, `drill`, `embed`, `tidy` and `order` print of lists of policies, the lines of
-//! verdicts, what is printed of a learnt policy, and the statuses that runs end with.
+//! verdicts and of their reasons, what is printed of a learnt policy, and the statuses that runs end with.
 #![tactic(auto)]
 
 mod acceptance;
@@ -7,10 +7,12 @@ mod built;
 mod comparison;
 mod embedding;
 mod exercise;
+mod explanation;
 pub mod laws;
 mod learn;
 mod lines;
 mod ordering;
+mod reason_lines;
 mod shown_items;
 mod status;
 mod tidying;
@@ -21,6 +23,7 @@ pub use built::Built;
 pub use comparison::compare;
 pub use embedding::{Response, embed};
 pub use exercise::drill;
+pub use explanation::why;
 pub use learn::print_learnt;
 pub use ordering::order;
 pub use status::{Status, exit_code};

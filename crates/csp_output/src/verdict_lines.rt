@@ -1,10 +1,13 @@
 //! The lines of verdicts, one after the other.
-ghost use Rattle.std.specs.Prelude.{◌≡◌, ◌++◌, [], OnOk};
+ghost use Rattle.std.specs.Prelude.{◌≡◌, ◌≤◌, ◌++◌, [], OnOk, length};
+ghost use Rattle.csp_model.specs.Policies.{policy_limit};
+ghost use Rattle.csp_output.specs.Explanations.{reasons_text};
 ghost use Rattle.csp_output.specs.Lines as lines;
 
 use crate::lines::{outcome_text, push_all};
+use crate::reason_lines::push_reasons;
 use crate::shown_items::ShownItems;
-use csp_model::{Bytes, Memory, Verdict};
+use csp_model::{Bytes, Check, Memory, PolicyList, Verdict};
 use itoa::Buffer;
 use std::alloc::Global;
 use std::marker::Model;
@@ -49,6 +52,23 @@ impl VerdictLines {
         self.text.extend_from_slice(self.last.as_slice())?;
         self.text.push(b'\n')?;
         Ok(())
+    }
+
+    /// Adds what `why` tells of a request's checks under a list of at most 64 policies.
+    ///
+    /// The check that decides is the first that the list blocks, or else the last. Its URL comes first, where
+    /// it has one, and then for each policy in order why that allows or blocks the check. Of a request without
+    /// checks nothing is told.
+    pub fn push_reasons(
+        &mut self,
+        alloc: Global,
+        list: &PolicyList,
+        checks: &[Check],
+    ) -> Result<(), Memory>
+        requires { length list.now.policies ≤ policy_limit }
+        ensures { OnOk result (self.new ≡ self.old ++ reasons_text list.now checks.now) }
+    {
+        push_reasons(alloc, &mut self.text, list, checks)
     }
 
     /// The text. Nothing is copied.
