@@ -22,6 +22,7 @@ pub use comparison::compare;
 pub use embedding::{Response, embed};
 pub use exercise::drill;
 pub use learn::print_learnt;
+pub use lines::{push_all, push_verdict};
 pub use ordering::order;
 pub use status::{Status, exit_code};
 pub use tidying::tidy;

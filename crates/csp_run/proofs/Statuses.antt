@@ -20,7 +20,7 @@ use Rattle.csp_run.specs.declared.files.Content.{Content}
 use Rattle.csp_run.specs.declared.files.Content.TheVariants as content
 use Rattle.csp_output.specs.declared.built.Built.{Built}
 use Rattle.csp_run.specs.declared.plan.Form.{Form}
-use Rattle.csp_run.specs.declared.plan.Form.TheVariants.{Judge, Report, Compare, Check, Drill, Embed, Tidy, Learn, Order}
+use Rattle.csp_run.specs.declared.plan.Form.TheVariants.{Judge, Report, Compare, Check, Drill, Embed, Tidy, Learn, Order, Why}
 use Rattle.csp_output.specs.declared.status.Status.{Status}
 use Rattle.csp_output.specs.declared.status.Status.TheVariants.{Clean, Found}
 use Rattle.csp_output.specs.Checks.{checked}
@@ -30,7 +30,8 @@ use Rattle.csp_run.specs.Due.{IsEndOf}
 use Rattle.csp_run.specs.Files.{World}
 use Rattle.csp_output.specs.Learnt.{learnt_output}
 use Rattle.csp_output.specs.Lines.{judgment}
-use Rattle.csp_run.specs.Outputs.{IsOutput, IsReportOn, judged, learnt, learnt_or_fault}
+use Rattle.csp_run.specs.Outputs.{IsOutput, IsReportOn, explained, judged, learnt, learnt_or_fault}
+use Rattle.csp_reasons.specs.Explanations.{explanation}
 use Rattle.csp_run.specs.Words.{Plan}
 
 -- the statuses of outputs
@@ -49,6 +50,13 @@ judged_done list (Ok requests) built is =
     let same : built ≡ judgment list (map (λ (d : Described). d.checks) requests) = cc is in
     ap (λ (b : Built). is_done b.status) same ∙ clean_or_found _
 judged_done list (Err refused) built is = absurd (cc is)
+
+explained_done : (list : PolicyList) (described : Result (List Described) RequestError) (built : Built)
+    → Ok built ≡ explained list described → is_done built.status ≡ true
+explained_done list (Ok requests) built is =
+    let same : built ≡ explanation list requests = cc is in
+    ap (λ (b : Built). is_done b.status) same ∙ clean_or_found _
+explained_done list (Err refused) built is = absurd (cc is)
 
 reported_done : (found : Result (List Violation) RequestError) (desk : Desk) (built : Built)
     → IsReportOn found desk (Ok built) → is_done built.status ≡ true
@@ -102,6 +110,8 @@ printed_done (Embed embedder) o (Ok (content.Required policy ∷ content.Respons
     embedded_done embedder policy block list built is.0
 printed_done Tidy o (Ok (content.Policies list ∷ [])) desk built is = ap is_done is.0.status
 printed_done Learn o (Ok (content.Requests bytes ∷ [])) desk built is = learnt_done o (requests_of bytes) built is.0
+printed_done Why o (Ok (content.Policies list ∷ content.Requests bytes ∷ [])) desk built is =
+    explained_done list _ built is.0
 printed_done Order o (Ok contents) desk built is = ap is_done is.0.2.status
 printed_done form o (Ok contents) desk built is = absurd is
 

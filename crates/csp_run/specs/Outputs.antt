@@ -17,7 +17,7 @@ use Rattle.csp_run.specs.declared.files.Content.{Content}
 use Rattle.csp_run.specs.declared.files.Content.TheVariants as content
 use Rattle.csp_output.specs.declared.built.Built.{Built}
 use Rattle.csp_run.specs.declared.plan.Form.{Form}
-use Rattle.csp_run.specs.declared.plan.Form.TheVariants.{Judge, Report, Compare, Check, Drill, Embed, Tidy, Learn, Order}
+use Rattle.csp_run.specs.declared.plan.Form.TheVariants.{Judge, Report, Compare, Check, Drill, Embed, Tidy, Learn, Order, Why}
 use Rattle.csp_output.specs.Checks.{IsChecked}
 use Rattle.csp_output.specs.Comparisons.{IsComparison}
 use Rattle.csp_run.specs.Desk.{Desk, IsUntouched}
@@ -27,6 +27,7 @@ use Rattle.csp_output.specs.Learnt.{learning}
 use Rattle.csp_output.specs.Lines.{judgment}
 use Rattle.csp_output.specs.Orders.{IsOrdering}
 use Rattle.csp_output.specs.Tidyings.{IsTidying}
+use Rattle.csp_reasons.specs.Explanations.{explanation}
 use Rattle.csp_run.specs.Reports.{violations_in, IsReport}
 
 -- the fault of what a request file is refused for
@@ -68,6 +69,11 @@ abbrev pub learnt : Origin → Result (List Described) RequestError → Result B
 learnt origin (Ok log) = learnt_or_fault (learning origin log)
 learnt origin (Err refused) = Err (request_fault refused)
 
+-- what ends `why` on these requests, or on the fault of their file
+abbrev pub explained : PolicyList → Result (List Described) RequestError → Result Built Fault
+explained list (Ok requests) = Ok (explanation list requests)
+explained list (Err refused) = Err (request_fault refused)
+
 -- what ends `order` on the lists that these files hold
 abbrev pub IsOrdered : List Content → Result Built Fault → Type 0
 IsOrdered contents end =
@@ -92,6 +98,8 @@ IsOutput (Embed embedder) origin (Ok (content.Required policy ∷ content.Respon
 IsOutput Tidy origin (Ok (content.Policies list ∷ [])) desk end = IsBuilt (IsTidying list) end × IsUntouched desk
 IsOutput Learn origin (Ok (content.Requests bytes ∷ [])) desk end =
     (end ≡ learnt origin (requests_of bytes)) × IsUntouched desk
+IsOutput Why origin (Ok (content.Policies list ∷ content.Requests bytes ∷ [])) desk end =
+    (end ≡ explained list (requests_of bytes)) × IsUntouched desk
 IsOutput Order origin (Ok contents) desk end = IsOrdered contents end × IsUntouched desk
 IsOutput form origin (Ok contents) desk end = ⊥
 

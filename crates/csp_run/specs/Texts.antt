@@ -38,10 +38,11 @@ limit_text limit.Hops = codes "hops"
 -- the pieces of the line that is written for a fault
 unfoldable pub fault_pieces : Fault → List (List ℕ)
 fault_pieces fault.Usage =
-    codes "usage: judge ORIGIN POLICY REQUESTS" ∷ codes " | report ORIGIN POLICY REQUESTS"
-    ∷ codes " | compare ORIGIN FIRST SECOND" ∷ codes " | check ORIGIN FIRST SECOND PROOF"
+    codes "usage: judge ORIGIN POLICY REQUESTS | report ORIGIN POLICY REQUESTS"
+    ∷ codes " | compare ORIGIN FIRST SECOND | check ORIGIN FIRST SECOND PROOF"
     ∷ codes " | drill N | embed EMBEDDER ORIGIN REQUIRED RESPONSE"
-    ∷ codes " | tidy ORIGIN POLICY | learn ORIGIN REQUESTS | order ORIGIN LISTS\n" ∷ []
+    ∷ codes " | tidy ORIGIN POLICY | learn ORIGIN REQUESTS | order ORIGIN LISTS"
+    ∷ codes " | why ORIGIN POLICY REQUESTS" ∷ codes "\n" ∷ []
 fault_pieces fault.BadOrigin = codes "bad origin" ∷ [] ∷ [] ∷ [] ∷ [] ∷ codes "\n" ∷ []
 fault_pieces (fault.BadPolicy file line) =
     codes "bad policy: " ∷ role_word file ∷ role_number file ∷ codes " line " ∷ decimal line ∷ codes "\n" ∷ []

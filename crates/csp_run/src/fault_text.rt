@@ -82,12 +82,12 @@ fn pieces<'a>(fault: Fault, list: &'a mut Buffer, digits: &'a mut Buffer) -> [&'
 {
     match fault {
         Fault::Usage => [
-            "usage: judge ORIGIN POLICY REQUESTS",
-            " | report ORIGIN POLICY REQUESTS",
-            " | compare ORIGIN FIRST SECOND",
-            " | check ORIGIN FIRST SECOND PROOF",
+            "usage: judge ORIGIN POLICY REQUESTS | report ORIGIN POLICY REQUESTS",
+            " | compare ORIGIN FIRST SECOND | check ORIGIN FIRST SECOND PROOF",
             " | drill N | embed EMBEDDER ORIGIN REQUIRED RESPONSE",
-            " | tidy ORIGIN POLICY | learn ORIGIN REQUESTS | order ORIGIN LISTS\n",
+            " | tidy ORIGIN POLICY | learn ORIGIN REQUESTS | order ORIGIN LISTS",
+            " | why ORIGIN POLICY REQUESTS",
+            "\n",
         ],
         Fault::BadOrigin => ["bad origin", "", "", "", "", "\n"],
         Fault::BadPolicy { file, line } => [

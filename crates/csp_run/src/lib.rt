@@ -2,6 +2,7 @@
 #![tactic(auto)]
 
 mod answer;
+mod explanation;
 mod fault;
 mod fault_text;
 mod files;

@@ -13,6 +13,7 @@ ghost use Rattle.csp_run.specs.Files.{file_limit};
 ghost use Rattle.csp_run.specs.Outputs.{GrewOn, IsCheck, IsOutput, judged};
 ghost use Rattle.csp_run.specs.Shown.{fits, IsSound, end_of, verdict_on};
 
+use crate::explanation::explain;
 use crate::fault::{Fault, Role};
 use crate::files::Content;
 use crate::lists::order_lists;
@@ -95,6 +96,12 @@ pub(crate) fn output(
                 unreachable!()
             };
             output_of(learn(alloc, &plan.origin, bytes.as_slice()))
+        }
+        (Form::Why, files) => {
+            let [Content::Policies(list), Content::Requests(bytes)] = files else {
+                unreachable!()
+            };
+            output_of(explain(alloc, list, bytes.as_slice()))
         }
         (Form::Order, files) => Ok(Outcome::Text(order_lists(alloc, files)?)),
         _ => unreachable!(),

@@ -31,6 +31,8 @@ pub enum Form {
     Learn,
     /// Which of 2 to 16 policy files allow all that which others allow.
     Order,
+    /// The verdicts of `Judge`, and for each policy which token decided or nearly did.
+    Why,
 }
 
 /// A command, the origin of the policies of its files, and the names of these in order.
@@ -47,7 +49,7 @@ pub(crate) fn role_at(form: &Form, place: usize) -> Role
     ensures { result ≡ spec.role_at form.now place }
 {
     match form {
-        Form::Judge | Form::Report => judged_role(place),
+        Form::Judge | Form::Report | Form::Why => judged_role(place),
         Form::Compare | Form::Check | Form::Drill { .. } => compared_role(place),
         Form::Embed { .. } => embedded_role(place),
         Form::Tidy => Role::Policy,
@@ -197,6 +199,7 @@ fn form_of(verb: &str, word: &str) -> Option<Form>
         "tidy" => Some(Form::Tidy),
         "learn" => Some(Form::Learn),
         "order" => Some(Form::Order),
+        "why" => Some(Form::Why),
         _ => None,
     }
 }
@@ -206,7 +209,11 @@ fn takes(form: &Form, files: usize) -> bool
     ensures { result ≡ spec.takes form.now files }
 {
     match form {
-        Form::Judge | Form::Report | Form::Compare | Form::Embed { .. } => files == 2,
+        Form::Judge
+        | Form::Report
+        | Form::Compare
+        | Form::Embed { .. }
+        | Form::Why => files == 2,
         Form::Check => files == 3,
         Form::Drill { .. } => files == 0,
         Form::Tidy | Form::Learn => files == 1,

@@ -1,0 +1,70 @@
+//! What `why` prints, request by request.
+ghost use Rattle.std.specs.Prelude.{◌≡◌, ◌≤◌, IfOk, OnOk, length};
+ghost use Rattle.csp_model.specs.Policies.{policy_limit};
+ghost use Rattle.csp_reasons.specs.Explanations as spec;
+
+use crate::reason_lines::push_reasons;
+use csp_model::{Bytes, Described, Memory, PolicyList};
+use csp_output::{Built, Status, push_verdict};
+use csp_verdict::CompiledList;
+use std::alloc::Global;
+use std::marker::Model;
+
+/// What `why` prints of the requests so far, under one list of policies.
+///
+/// For each request there is the line of its verdict, as `judge` prints it, then the URL of the check that
+/// decided, where it has one, and for each policy in order why that allows or blocks this check
+/// (`csp_why::explain`). The check that decides is the first that the list blocks, or else the last. Of a
+/// request without checks nothing is told but its verdict.
+#[derive(Drop)]
+pub struct Explanation<'a> {
+    list: &'a PolicyList,
+    compiled: CompiledList<'a>,
+    text: Vec<u8>,
+    blocked: bool,
+}
+
+impl<'a> Model for Explanation<'a> {
+    ghost use Rattle.csp_reasons.specs.Explanations.{Explained};
+
+    ghost Value = { Explained };
+
+    ghost view = { λ a. record { list = a.list.now; blocked = a.blocked; text = a.text.items } };
+}
+
+impl<'a> Explanation<'a> {
+    /// Nothing is explained yet. The list has at most 64 policies.
+    pub fn new(alloc: Global, list: &'a PolicyList) -> Result<Explanation<'a>, Memory>
+        requires { length list.now.policies ≤ policy_limit }
+        ensures { IfOk result (λ made. made ≡ spec.nothing_explained list.now) }
+    {
+        Ok(Explanation {
+            list,
+            compiled: CompiledList::new(alloc, list)?,
+            text: Vec::new(alloc),
+            blocked: false,
+        })
+    }
+
+    /// Explains the request of this number.
+    pub fn push(&mut self, alloc: Global, number: u32, request: &Described) -> Result<(), Memory>
+        requires { length self.old.list.policies ≤ policy_limit }
+        ensures explained { OnOk result (self.new ≡ spec.with_request self.old number request.now.checks) }
+    {
+        let verdict = self.compiled.judge(alloc, request)?;
+        self.blocked |= verdict.blocked;
+        push_verdict(&mut self.text, number, &verdict)?;
+        push_reasons(alloc, &mut self.text, self.list, request.checks.as_slice())
+    }
+
+    /// The text, with the status `Found` where a request is blocked and else `Clean`. Nothing is copied.
+    pub fn finish(self) -> Built
+        ensures { result ≡ spec.built_of self }
+    {
+        let Explanation { text, blocked, .. } = self;
+        Built {
+            status: if blocked { Status::Found } else { Status::Clean },
+            text: Bytes::from_vec(text),
+        }
+    }
+}

@@ -1,0 +1,7 @@
+//! What `why` prints: the verdict on each request, and which tokens of which directives decided.
+#![tactic(auto)]
+
+mod explanation;
+mod reason_lines;
+
+pub use explanation::Explanation;

@@ -1,0 +1,150 @@
+//! What `why` prints behind the line of a verdict: the check that decided, and what each policy says of
+//! it.
+ghost use Rattle.std.specs.Prelude.{◌≡◌, ◌≤◌, ◌++◌, OnOk, length, option_copied};
+ghost use Rattle.csp_model.specs.Policies.{policy_limit};
+ghost use Rattle.csp_reasons.specs.Explanations as spec;
+
+use csp_match::governor;
+use csp_model::{Check, Memory, Policy, PolicyList, Text, name_text};
+use csp_output::push_all;
+use csp_url::url_text;
+use csp_verdict::{effective_name, list_allows};
+use csp_why::{Near, Reason, Word, explain};
+use itoa::Buffer;
+use std::alloc::Global;
+
+// Writes the check that decided, and what each policy says of it.
+pub(crate) fn push_reasons(
+    alloc: Global,
+    text: &mut Vec<u8>,
+    list: &PolicyList,
+    checks: &[Check],
+) -> Result<(), Memory>
+    requires { length list.now.policies ≤ policy_limit }
+    ensures { OnOk result (text.new.items ≡ text.old.items ++ spec.reasons_text list.now checks.now) }
+{
+    match deciding(list, checks) {
+        None => Ok(()),
+        Some(check) => push_check(alloc, text, list.policies.as_slice(), check),
+    }
+}
+
+// The check that decided.
+fn deciding<'a>(list: &PolicyList, checks: &'a [Check]) -> Option<&'a Check>
+    ensures { option_copied result ≡ spec.deciding list.now checks.now }
+{
+    for check in checks {
+        if !list_allows(list, check) {
+            return Some(check);
+        }
+    }
+    checks.last()
+}
+
+fn push_check(
+    alloc: Global,
+    text: &mut Vec<u8>,
+    policies: &[Policy],
+    check: &Check,
+) -> Result<(), Memory>
+    requires { length policies.now ≤ policy_limit }
+    ensures { OnOk result (text.new.items ≡ text.old.items ++ spec.check_text policies.now check.now) }
+{
+    push_url(alloc, text, check)?;
+    for (number, policy) in policies.iter().enumerate() {
+        push_policy(alloc, text, number as u32, policy, check)?;
+    }
+    Ok(())
+}
+
+fn push_url(alloc: Global, text: &mut Vec<u8>, check: &Check) -> Result<(), Memory>
+    ensures { OnOk result (text.new.items ≡ text.old.items ++ spec.decided_url check.now) }
+{
+    match check.url() {
+        None => Ok(()),
+        Some(url) => {
+            let shown = url_text(alloc, url)?;
+            push_all(text, &["  url ", shown.as_str(), "\n"])
+        }
+    }
+}
+
+// Writes why the policy of this number allows or blocks a check.
+fn push_policy(
+    alloc: Global,
+    text: &mut Vec<u8>,
+    number: u32,
+    policy: &Policy,
+    check: &Check,
+) -> Result<(), Memory>
+    ensures { OnOk result (text.new.items
+        ≡ text.old.items ++ spec.policy_text number policy.now check.now) }
+{
+    let reason = explain(alloc, policy, check)?;
+    push_all(text, &["  ", Buffer::new().format(number), " "])?;
+    push_reason(text, &reason, governing_tokens(policy, check))
+}
+
+fn push_reason(text: &mut Vec<u8>, reason: &Reason, tokens: &[Text]) -> Result<(), Memory>
+    ensures { OnOk result (text.new.items ≡ text.old.items ++ spec.reason_text tokens.now reason.now) }
+{
+    match reason {
+        Reason::Ungoverned => push_all(text, &["- allows\n"]),
+        Reason::Allows { directive, by } => {
+            let name = name_text(*directive);
+            let rule = by.rule.as_str();
+            push_all(text, &[name, " allows ", rule, " "])?;
+            push_text(text, token_at(tokens, by.token))?;
+            push_text(text, "\n")
+        }
+        Reason::Blocks { directive, near } => {
+            let name = name_text(*directive);
+            push_all(text, &[name, " blocks\n"])?;
+            push_near(text, near.as_slice(), tokens)
+        }
+    }
+}
+
+fn push_near(text: &mut Vec<u8>, near: &[Near], tokens: &[Text]) -> Result<(), Memory>
+    ensures { OnOk result (text.new.items ≡ text.old.items ++ spec.near_text tokens.now near.now) }
+{
+    for found in near {
+        push_near_line(text, token_at(tokens, found.token), found.word)?;
+    }
+    Ok(())
+}
+
+fn push_near_line(text: &mut Vec<u8>, token: &str, word: Word) -> Result<(), Memory>
+    ensures { OnOk result (text.new.items ≡ text.old.items ++ spec.near_line token.now word) }
+{
+    let word = word.as_str();
+    push_text(text, "    ")?;
+    push_text(text, token)?;
+    push_all(text, &[" ", word, "\n"])
+}
+
+fn push_text(text: &mut Vec<u8>, piece: &str) -> Result<(), Memory>
+    ensures { OnOk result (text.new.items ≡ text.old.items ++ piece.now) }
+{
+    text.extend_from_slice(piece.as_bytes())?;
+    Ok(())
+}
+
+// The tokens of the directive that governs a check, none where none does.
+fn governing_tokens<'a>(policy: &'a Policy, check: &Check) -> &'a [Text]
+    ensures { result.now ≡ spec.governing_tokens policy.now check.now }
+{
+    match governor(policy, effective_name(check)) {
+        Some(found) => found.directive.tokens.as_slice(),
+        None => &[],
+    }
+}
+
+fn token_at(tokens: &[Text], index: usize) -> &str
+    ensures { result.now ≡ spec.token_at tokens.now index }
+{
+    match tokens.get(index) {
+        Some(token) => token.as_str(),
+        None => "",
+    }
+}
