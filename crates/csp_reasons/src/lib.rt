@@ -2,6 +2,7 @@
 #![tactic(auto)]
 
 mod explanation;
+pub mod laws;
 mod reason_lines;
 
 pub use explanation::Explanation;

@@ -12,6 +12,8 @@ mod descriptions;
 #[cfg(test)]
 mod embedding;
 #[cfg(test)]
+mod explaining;
+#[cfg(test)]
 mod faults;
 #[cfg(test)]
 mod inputs;

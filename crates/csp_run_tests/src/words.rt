@@ -6,9 +6,9 @@ use std::test::Fail;
 const USAGE: &str = "usage: judge ORIGIN POLICY REQUESTS | report ORIGIN POLICY REQUESTS | \
     compare ORIGIN FIRST SECOND | check ORIGIN FIRST SECOND PROOF | drill N | \
     embed EMBEDDER ORIGIN REQUIRED RESPONSE | tidy ORIGIN POLICY | learn ORIGIN REQUESTS | \
-    order ORIGIN LISTS\n";
+    order ORIGIN LISTS | why ORIGIN POLICY REQUESTS\n";
 
-const RUNS: [(&[&str], Status, &str); 28] = [
+const RUNS: [(&[&str], Status, &str); 30] = [
     (&[], Status::Usage, USAGE),
     (&["judge"], Status::Usage, USAGE),
     (
@@ -35,6 +35,7 @@ const RUNS: [(&[&str], Status, &str); 28] = [
         USAGE,
     ),
     (&["order", "https://a.example", "p"], Status::Usage, USAGE),
+    (&["why", "https://a.example", "p"], Status::Usage, USAGE),
     (
         &["embed", "e", "https://a.example", "p"],
         Status::Usage,
@@ -78,6 +79,7 @@ const RUNS: [(&[&str], Status, &str); 28] = [
     (&["tidy", "a", "p"], Status::BadOrigin, "bad origin\n"),
     (&["learn", "a", "r"], Status::BadOrigin, "bad origin\n"),
     (&["order", "a", "p", "r"], Status::BadOrigin, "bad origin\n"),
+    (&["why", "a", "p", "r"], Status::BadOrigin, "bad origin\n"),
     (
         &["judge", "https://a.example/x", "p", "r"],
         Status::BadOrigin,

@@ -8,7 +8,7 @@ use csp_run::{Status, exit_code, run};
 use std::alloc::Global;
 
 // Examples, with the words of their commands.
-const EXAMPLES: [(&str, &str); 17] = [
+const EXAMPLES: [(&str, &str); 18] = [
     ("first", "judge https://a.example first.txt first.json"),
     ("kinds", "judge https://a.example kinds.txt kinds.json"),
     (
@@ -59,6 +59,7 @@ const EXAMPLES: [(&str, &str); 17] = [
         "order",
         "order https://a.example order-report-only.txt order-nothing.txt order-none.txt",
     ),
+    ("why", "why https://shop.example why.txt why.json"),
 ];
 
 // Room for what one example prints.
