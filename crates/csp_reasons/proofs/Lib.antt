@@ -1,1 +1,2 @@
+pub mod NamedDigests
 pub mod SameStatus

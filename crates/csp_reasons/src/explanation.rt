@@ -2,10 +2,12 @@
 ghost use Rattle.std.specs.Prelude.{◌≡◌, ◌≤◌, IfOk, OnOk, length};
 ghost use Rattle.csp_model.specs.Policies.{policy_limit};
 ghost use Rattle.csp_reasons.specs.Explanations as spec;
+ghost use Rattle.csp_verdict.specs.Algorithms.{algorithms_of};
 
 use crate::reason_lines::push_reasons;
 use csp_model::{Bytes, Described, Memory, PolicyList};
 use csp_output::{Built, Status, push_verdict};
+use csp_token::Algorithms;
 use csp_verdict::CompiledList;
 use std::alloc::Global;
 use std::marker::Model;
@@ -25,11 +27,15 @@ pub struct Explanation<'a> {
 }
 
 impl<'a> Model for Explanation<'a> {
+    ghost use Rattle.std.specs.Prelude.{◌≡◌, ◌≤◌, length};
+    ghost use Rattle.csp_model.specs.Policies.{policy_limit};
     ghost use Rattle.csp_reasons.specs.Explanations.{Explained};
 
     ghost Value = { Explained };
 
     ghost view = { λ a. record { list = a.list.now; blocked = a.blocked; text = a.text.items } };
+
+    ghost invariant = { λ a. (a.compiled ≡ a.list.now) × (length a.list.now.policies ≤ policy_limit) };
 }
 
 impl<'a> Explanation<'a> {
@@ -46,9 +52,16 @@ impl<'a> Explanation<'a> {
         })
     }
 
+    /// The algorithms whose digests make a difference to what is explained of inline code or style:
+    /// `laws::only_named_algorithms_count` says so.
+    pub fn algorithms(&self) -> Algorithms
+        ensures { result ≡ algorithms_of self.now.list }
+    {
+        self.compiled.algorithms()
+    }
+
     /// Explains the request of this number.
     pub fn push(&mut self, alloc: Global, number: u32, request: &Described) -> Result<(), Memory>
-        requires { length self.old.list.policies ≤ policy_limit }
         ensures explained { OnOk result (self.new ≡ spec.with_request self.old number request.now.checks) }
     {
         let verdict = self.compiled.judge(alloc, request)?;

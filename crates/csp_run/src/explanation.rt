@@ -3,9 +3,9 @@ ghost use Rattle.std.specs.Prelude.{◌≡◌, ◌≢◌};
 ghost use Rattle.csp_json.specs.View.{view};
 ghost use Rattle.csp_model.specs.Answers.{Gives};
 ghost use Rattle.csp_model.specs.Policies.{IsReadable};
-ghost use Rattle.csp_request.specs.Described.{described};
+ghost use Rattle.csp_request.specs.Described.{described_for};
 ghost use Rattle.csp_request.specs.Requests.{each_from, request_limit, requests_of, still};
-ghost use Rattle.csp_token.specs.Digests.{digests_of};
+ghost use Rattle.csp_token.specs.Digests.{digests_for, digests_of};
 ghost use Rattle.csp_run.specs.Outputs.{explained};
 
 use crate::fault::Fault;
@@ -13,7 +13,8 @@ use csp_json::{Scratch, Value};
 use csp_model::{Described, PolicyList};
 use csp_output::Built;
 use csp_reasons::Explanation;
-use csp_request::{DescriptionError, Requests, describe};
+use csp_request::{DescriptionError, ReportTexts, Requests, describe_for};
+use csp_token::Algorithms;
 use std::alloc::Global;
 
 // The verdicts on the requests of a request file, and what decided each.
@@ -37,7 +38,7 @@ fn explain_each(alloc: Global, list: &PolicyList, mut requests: Requests<'_>) ->
     let mut number = 0;
     'requests: while let Some(request) = requests.next(alloc)? {
         number += 1;
-        match describe_one(alloc, request) {
+        match describe_one(alloc, request, explanation.algorithms()) {
             Ok(described) => explanation.push(alloc, number, &described)?,
             Err(error) => return Err(Fault::from(requests.refusal(alloc, error.at(number)))),
         }
@@ -45,9 +46,15 @@ fn explain_each(alloc: Global, list: &PolicyList, mut requests: Requests<'_>) ->
     Ok(explanation.finish())
 }
 
-// The request that a description stands for, which is dropped.
-fn describe_one(alloc: Global, request: Value<'_>) -> Result<Described, DescriptionError>
-    ensures { Gives DescriptionError.Memory result (described (view request.entry)) }
+// The request that a description stands for, with the wanted digests alone and without texts that only a report
+// shows. The description is dropped.
+fn describe_one(
+    alloc: Global,
+    request: Value<'_>,
+    wanted: Algorithms,
+) -> Result<Described, DescriptionError>
+    ensures { Gives DescriptionError.Memory result
+        (described_for ReportTexts.Empty (λ source. digests_for source wanted) (view request.entry)) }
 {
-    describe(alloc, &request)
+    describe_for(alloc, &request, wanted, ReportTexts::Empty)
 }

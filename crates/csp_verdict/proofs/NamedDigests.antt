@@ -53,7 +53,7 @@ named_any q name ds (Some d) g is e h =
     find_any (is_named name) q ds d is (ap q same ∙ h)
 
 -- what governs is a directive of the policy
-governs_any : (q : Directive → Bool) (p : Policy) (effective : Name) (g : Governor) → governor p effective ≡ Some g
+pub governs_any : (q : Directive → Bool) (p : Policy) (effective : Name) (g : Governor) → governor p effective ≡ Some g
     → q g.directive ≡ true → list_any q p.directives ≡ true
 unfolding governor_named
 governs_any q p effective g some h =
@@ -114,7 +114,7 @@ agreeing_violations list kind nonce first second blocked_uri sample agree =
     (same_items kind nonce first second 0 list.policies agree)
     ∙ sym (ap (flat_map (check_violations list other)) (one_check list (check.Inline kind nonce second)))
 
-wanted_agree : (list : PolicyList) (source : List ℕ)
+pub wanted_agree : (list : PolicyList) (source : List ℕ)
     → AgreeWhereNamed list (digests_for source (algorithms_of list)) (digests_of source)
 wanted_agree list source Sha256 named = cond-true (list_names Sha256 list) _ _ named
 wanted_agree list source Sha384 named = cond-true (list_names Sha384 list) _ _ named

@@ -3,3 +3,4 @@ pub mod Decided
 pub mod Finding
 pub mod Governed
 pub mod Mended
+pub mod NamedDigests

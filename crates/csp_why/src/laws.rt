@@ -1,9 +1,15 @@
 //! Laws of reasons, each the contract of a function with no body.
-ghost use Rattle.std.specs.Prelude.{◌≡◌, List as Items, All, true};
+ghost use Rattle.std.specs.Prelude.{◌≡◌, ℕ, IsTrue, List as Items, All, true};
 ghost use Rattle.csp_model.specs.DecideVerdict.{allows};
+ghost use Rattle.csp_model.specs.Tokens.{digest_by};
 ghost use Rattle.csp_model.specs.declared.check.Check.{Check};
+ghost use Rattle.csp_model.specs.declared.check.Check.TheVariants as check;
+ghost use Rattle.csp_model.specs.declared.check.Digests.{Digests};
+ghost use Rattle.csp_model.specs.declared.check.InlineKind.{InlineKind};
 ghost use Rattle.csp_model.specs.declared.name.Name.{Name};
 ghost use Rattle.csp_model.specs.declared.policy.Policy.{Policy};
+ghost use Rattle.csp_model.specs.declared.source.Algorithm.{Algorithm};
+ghost use Rattle.csp_verdict.specs.Algorithms.{policy_names};
 ghost use Rattle.csp_why.specs.Laws.{alone, mended_directive, with_changed};
 ghost use Rattle.csp_why.specs.Reasons.{reason, is_allowing};
 ghost use Rattle.csp_why.specs.declared.reason.Allowance.{Allowance};
@@ -24,11 +30,18 @@ pub fn a_token_that_is_told_allows_alone()
         → allows (with_changed name (alone asked told) p) asked ≡ true }
 {}
 
-/// A near token is near for its word alone: with that one thing mended in the governing directive, the
-/// policy allows the check. A part of a host-source is changed so that it fits, what takes a token's
-/// place is taken out, or `'unsafe-hashes'` is added.
+/// A near token allows once what its word names is mended in the governing directive: a part of a host-source
+/// is changed so that it fits, `'unsafe-hashes'` is added, or all that takes the token's place is taken out.
 pub fn a_near_token_allows_where_its_word_is_mended()
     ensures { (p : Policy) (asked : Check) (name : Name) (near : Items Near)
         → reason p asked ≡ Blocks name near
         → All (λ n. allows (with_changed name (mended_directive asked n) p) asked ≡ true) near }
+{}
+
+/// The reason for inline code or style rests on those digests alone whose algorithms a hash-source of the
+/// policy names.
+pub fn only_named_algorithms_count()
+    ensures { (p : Policy) (kind : InlineKind) (nonce : Items ℕ) (first second : Digests)
+        → ((x : Algorithm) → IsTrue (policy_names x p) → digest_by x first ≡ digest_by x second)
+        → reason p (check.Inline kind nonce first) ≡ reason p (check.Inline kind nonce second) }
 {}

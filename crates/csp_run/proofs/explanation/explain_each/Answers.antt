@@ -19,7 +19,7 @@ requests-preserved c =
     record {
       output = l.invariant.output
           ∙ explained_next l.explanation c.push.new.self (l.number + 1) (view c.in-Some.request) (still l.requests)
-          (still c.next.new.self) c.in-Ok.described comes c.in-Ok.ensures more;
+          (still c.next.new.self) c.algorithms.result c.in-Ok.described comes c.algorithms.ensures c.in-Ok.ensures more;
       list = ap (λ (e : Explained). e.list) more ∙ l.invariant.list;
       count = omega (arith, l.invariant.count, fewer);
     }
@@ -34,5 +34,5 @@ returns-in-Err c = λ real.
     ap failed c.from.ensures
     ∙ sym (l.invariant.output
     ∙ refused_next l.explanation (l.number + 1) (view c.in-Some.request) (still l.requests) (still c.next.new.self)
-    c.in-Err.error c.refusal.result comes c.in-Err.ensures
+    c.algorithms.result c.in-Err.error c.refusal.result comes c.algorithms.ensures c.in-Err.ensures
     (c.refusal.ensures of_file ∙ ap (λ e. refused_after e (still c.next.new.self)) c.at.ensures) of_file)
