@@ -20,9 +20,11 @@ use Rattle.csp_run.specs.declared.files.Content.{Content}
 use Rattle.csp_run.specs.declared.files.Content.TheVariants as content
 use Rattle.csp_output.specs.declared.built.Built.{Built}
 use Rattle.csp_run.specs.declared.plan.Form.{Form}
-use Rattle.csp_run.specs.declared.plan.Form.TheVariants.{Judge, Report, Compare, Check, Drill, Embed, Tidy, Learn, Order, Why}
+use Rattle.csp_run.specs.declared.plan.Form.TheVariants.{Judge, Report, Compare, Check, Drill, Embed, Tidy, Learn, Order, Why, Differ}
 use Rattle.csp_output.specs.declared.status.Status.{Status}
 use Rattle.csp_output.specs.declared.status.Status.TheVariants.{Clean, Found}
+use Rattle.csp_compare.specs.declared.differences.Difference.{Difference}
+use Rattle.csp_differ.specs.Differing.{output_of}
 use Rattle.csp_output.specs.Checks.{checked}
 use Rattle.csp_output.specs.Comparisons.{IsAnswerWith}
 use Rattle.csp_run.specs.Desk.{Desk}
@@ -69,6 +71,10 @@ compared_done Clean first second text is = refl
 compared_done Found first second text is = refl
 compared_done status first second text is = absurd is
 
+differing_done : (second : PolicyList) (entries : List Difference) → is_done (output_of second entries).status ≡ true
+differing_done second [] = refl
+differing_done second (entry ∷ entries) = refl
+
 checked_status : (bad : Option ℕ) → is_done (checked bad).status ≡ true
 checked_status None = refl
 checked_status (Some line) = refl
@@ -112,6 +118,8 @@ printed_done Tidy o (Ok (content.Policies list ∷ [])) desk built is = ap is_do
 printed_done Learn o (Ok (content.Requests bytes ∷ [])) desk built is = learnt_done o (requests_of bytes) built is.0
 printed_done Why o (Ok (content.Policies list ∷ content.Requests bytes ∷ [])) desk built is =
     explained_done list _ built is.0
+printed_done Differ o (Ok (content.Policies first ∷ content.Policies second ∷ [])) desk built is =
+    ap (λ (b : Built). is_done b.status) is.0.printed ∙ differing_done second is.0.entries
 printed_done Order o (Ok contents) desk built is = ap is_done is.0.2.status
 printed_done form o (Ok contents) desk built is = absurd is
 

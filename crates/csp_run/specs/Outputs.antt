@@ -17,7 +17,8 @@ use Rattle.csp_run.specs.declared.files.Content.{Content}
 use Rattle.csp_run.specs.declared.files.Content.TheVariants as content
 use Rattle.csp_output.specs.declared.built.Built.{Built}
 use Rattle.csp_run.specs.declared.plan.Form.{Form}
-use Rattle.csp_run.specs.declared.plan.Form.TheVariants.{Judge, Report, Compare, Check, Drill, Embed, Tidy, Learn, Order, Why}
+use Rattle.csp_run.specs.declared.plan.Form.TheVariants.{Judge, Report, Compare, Check, Drill, Embed, Tidy, Learn, Order, Why, Differ}
+use Rattle.csp_differ.specs.Differing.{IsDiffering}
 use Rattle.csp_output.specs.Checks.{IsChecked}
 use Rattle.csp_output.specs.Comparisons.{IsComparison}
 use Rattle.csp_run.specs.Desk.{Desk, IsUntouched}
@@ -100,6 +101,8 @@ IsOutput Learn origin (Ok (content.Requests bytes ∷ [])) desk end =
     (end ≡ learnt origin (requests_of bytes)) × IsUntouched desk
 IsOutput Why origin (Ok (content.Policies list ∷ content.Requests bytes ∷ [])) desk end =
     (end ≡ explained list (requests_of bytes)) × IsUntouched desk
+IsOutput Differ origin (Ok (content.Policies first ∷ content.Policies second ∷ [])) desk end =
+    IsBuilt (IsDiffering first second) end × IsUntouched desk
 IsOutput Order origin (Ok contents) desk end = IsOrdered contents end × IsUntouched desk
 IsOutput form origin (Ok contents) desk end = ⊥
 

@@ -42,7 +42,7 @@ fault_pieces fault.Usage =
     ∷ codes " | compare ORIGIN FIRST SECOND | check ORIGIN FIRST SECOND PROOF"
     ∷ codes " | drill N | embed EMBEDDER ORIGIN REQUIRED RESPONSE"
     ∷ codes " | tidy ORIGIN POLICY | learn ORIGIN REQUESTS | order ORIGIN LISTS"
-    ∷ codes " | why ORIGIN POLICY REQUESTS" ∷ codes "\n" ∷ []
+    ∷ codes " | why ORIGIN POLICY REQUESTS" ∷ codes " | differ ORIGIN FIRST SECOND\n" ∷ []
 fault_pieces fault.BadOrigin = codes "bad origin" ∷ [] ∷ [] ∷ [] ∷ [] ∷ codes "\n" ∷ []
 fault_pieces (fault.BadPolicy file line) =
     codes "bad policy: " ∷ role_word file ∷ role_number file ∷ codes " line " ∷ decimal line ∷ codes "\n" ∷ []

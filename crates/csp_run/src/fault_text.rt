@@ -87,7 +87,7 @@ fn pieces<'a>(fault: Fault, list: &'a mut Buffer, digits: &'a mut Buffer) -> [&'
             " | drill N | embed EMBEDDER ORIGIN REQUIRED RESPONSE",
             " | tidy ORIGIN POLICY | learn ORIGIN REQUESTS | order ORIGIN LISTS",
             " | why ORIGIN POLICY REQUESTS",
-            "\n",
+            " | differ ORIGIN FIRST SECOND\n",
         ],
         Fault::BadOrigin => ["bad origin", "", "", "", "", "\n"],
         Fault::BadPolicy { file, line } => [

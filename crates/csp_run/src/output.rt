@@ -21,6 +21,7 @@ use crate::log::learn;
 use crate::plan::{Form, Plan};
 use crate::report::report;
 use csp_desk::Reporter;
+use csp_differ::differ;
 use csp_json::{Scratch, Value};
 use csp_model::{PolicyList, Verdict};
 use csp_output::{Built, Response, Status, VerdictLines, check, compare, drill, embed, tidy};
@@ -102,6 +103,12 @@ pub(crate) fn output(
                 unreachable!()
             };
             output_of(explain(alloc, list, bytes.as_slice()))
+        }
+        (Form::Differ, files) => {
+            let [Content::Policies(first), Content::Policies(second)] = files else {
+                unreachable!()
+            };
+            Ok(Outcome::Text(differ(alloc, first, second)?))
         }
         (Form::Order, files) => Ok(Outcome::Text(order_lists(alloc, files)?)),
         _ => unreachable!(),

@@ -33,6 +33,8 @@ pub enum Form {
     Order,
     /// The verdicts of `Judge`, and for each policy which token decided or nearly did.
     Why,
+    /// Each directive under which the first of two policy files allows more than the second, with a check.
+    Differ,
 }
 
 /// A command, the origin of the policies of its files, and the names of these in order.
@@ -50,7 +52,7 @@ pub(crate) fn role_at(form: &Form, place: usize) -> Role
 {
     match form {
         Form::Judge | Form::Report | Form::Why => judged_role(place),
-        Form::Compare | Form::Check | Form::Drill { .. } => compared_role(place),
+        Form::Compare | Form::Check | Form::Drill { .. } | Form::Differ => compared_role(place),
         Form::Embed { .. } => embedded_role(place),
         Form::Tidy => Role::Policy,
         Form::Learn => Role::Requests,
@@ -200,6 +202,7 @@ fn form_of(verb: &str, word: &str) -> Option<Form>
         "learn" => Some(Form::Learn),
         "order" => Some(Form::Order),
         "why" => Some(Form::Why),
+        "differ" => Some(Form::Differ),
         _ => None,
     }
 }
@@ -213,7 +216,8 @@ fn takes(form: &Form, files: usize) -> bool
         | Form::Report
         | Form::Compare
         | Form::Embed { .. }
-        | Form::Why => files == 2,
+        | Form::Why
+        | Form::Differ => files == 2,
         Form::Check => files == 3,
         Form::Drill { .. } => files == 0,
         Form::Tidy | Form::Learn => files == 1,

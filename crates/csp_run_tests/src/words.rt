@@ -6,9 +6,9 @@ use std::test::Fail;
 const USAGE: &str = "usage: judge ORIGIN POLICY REQUESTS | report ORIGIN POLICY REQUESTS | \
     compare ORIGIN FIRST SECOND | check ORIGIN FIRST SECOND PROOF | drill N | \
     embed EMBEDDER ORIGIN REQUIRED RESPONSE | tidy ORIGIN POLICY | learn ORIGIN REQUESTS | \
-    order ORIGIN LISTS | why ORIGIN POLICY REQUESTS\n";
+    order ORIGIN LISTS | why ORIGIN POLICY REQUESTS | differ ORIGIN FIRST SECOND\n";
 
-const RUNS: [(&[&str], Status, &str); 30] = [
+const RUNS: [(&[&str], Status, &str); 32] = [
     (&[], Status::Usage, USAGE),
     (&["judge"], Status::Usage, USAGE),
     (
@@ -36,6 +36,7 @@ const RUNS: [(&[&str], Status, &str); 30] = [
     ),
     (&["order", "https://a.example", "p"], Status::Usage, USAGE),
     (&["why", "https://a.example", "p"], Status::Usage, USAGE),
+    (&["differ", "https://a.example", "p"], Status::Usage, USAGE),
     (
         &["embed", "e", "https://a.example", "p"],
         Status::Usage,
@@ -80,6 +81,7 @@ const RUNS: [(&[&str], Status, &str); 30] = [
     (&["learn", "a", "r"], Status::BadOrigin, "bad origin\n"),
     (&["order", "a", "p", "r"], Status::BadOrigin, "bad origin\n"),
     (&["why", "a", "p", "r"], Status::BadOrigin, "bad origin\n"),
+    (&["differ", "a", "p", "r"], Status::BadOrigin, "bad origin\n"),
     (
         &["judge", "https://a.example/x", "p", "r"],
         Status::BadOrigin,
