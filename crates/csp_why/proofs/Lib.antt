@@ -4,3 +4,4 @@ pub mod Finding
 pub mod Governed
 pub mod Mended
 pub mod NamedDigests
+pub mod WrongPart

@@ -1,20 +1,23 @@
 -- The tokens of a directive that nearly allow a check that it blocks.
-use Rattle.std.specs.Prelude.{ℕ, ◌+◌, Bool, false, if◌then◌else◌, List, [], ◌∷◌, Option, Some, None}
-use Rattle.std.specs.List.{find, cons_option}
+use Rattle.std.specs.Prelude.{ℕ, ◌+◌, Bool, true, false, nat_eq, if◌then◌else◌, List, [], ◌∷◌, Option, Some, None}
+use Rattle.std.specs.List.{ends_with, find, cons_option}
 use Rattle.std.specs.Option.{option_map}
 use Rattle.csp_model.specs.DecideMatching.{matches}
 use Rattle.csp_model.specs.DecideTokens.{is_keyword, is_hash_of}
 use Rattle.csp_model.specs.Fetch.{is_redirected}
+use Rattle.csp_model.specs.Paths.{host_text}
 use Rattle.csp_model.specs.Schemes.{scheme_text}
 use Rattle.csp_model.specs.declared.check.Check.{Check}
 use Rattle.csp_model.specs.declared.check.Check.TheVariants as check
 use Rattle.csp_model.specs.declared.check.Digests.{Digests}
+use Rattle.csp_model.specs.declared.source.HostPart.{HostPart}
 use Rattle.csp_model.specs.declared.source.HostPart.TheVariants as host
 use Rattle.csp_model.specs.declared.source.Keyword.TheVariants as keyword
 use Rattle.csp_model.specs.declared.source.PathPart.TheVariants as path
 use Rattle.csp_model.specs.declared.source.PortPart.TheVariants as port
 use Rattle.csp_model.specs.declared.source.Source.{Source}
 use Rattle.csp_model.specs.declared.source.Source.TheVariants as source
+use Rattle.csp_model.specs.declared.url.Host.{Host}
 use Rattle.csp_model.specs.declared.url.Origin.{Origin}
 use Rattle.csp_model.specs.declared.url.Url.{Url}
 use Rattle.csp_model.specs.declared.url.Url.TheVariants as url
@@ -48,6 +51,17 @@ parts = word.Scheme ∷ word.Port ∷ word.Path ∷ word.Suffix ∷ []
 abbrev pub wrong_part : Origin → Url → Bool → Source → Option Word
 wrong_part self there redirected s =
     find (λ part. some_matches (changed part there s) self there redirected) parts
+
+-- A word of private contracts: the URL's host ends as that of the source.
+
+abbrev pub ends_as : HostPart → Host → Bool
+ends_as host.Any there = true
+ends_as (host.Under suffix) there = ends_with nat_eq (host_text there) suffix
+ends_as (host.Exact text) there = ends_with nat_eq (host_text there) text
+
+abbrev pub may_be_host : Source → Url → Bool
+may_be_host (source.Hosted scheme part ports paths) (url.Hosted there h p pieces) = ends_as part h
+may_be_host s there = false
 
 -- The word for each token
 

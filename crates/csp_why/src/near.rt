@@ -104,12 +104,30 @@ fn wrong_part(
 ) -> Result<Option<Word>, Memory>
     ensures { IfOk result (λ made. made ≡ spec.wrong_part origin.now url.now redirected source.now) }
 {
+    if !may_be_host(source, url) {
+        return Ok(None);
+    }
     for part in parts() {
         if matches_changed(alloc, *part, origin, url, redirected, source)? {
             return Ok(Some(*part));
         }
     }
     Ok(None)
+}
+
+// Whether the URL's host ends as that of a host-source. If not, no other part can be changed so that they match.
+fn may_be_host(source: &Source, url: &Url) -> bool
+    ensures { result ≡ spec.may_be_host source.now url.now }
+{
+    let (Source::Hosted { host: part, .. }, Url::Hosted { host, .. }) = (source, url) else {
+        return false;
+    };
+    match part {
+        HostPart::Any => true,
+        HostPart::Under(text) | HostPart::Exact(text) => {
+            host.as_str().as_bytes().ends_with(text.as_str().as_bytes())
+        }
+    }
 }
 
 // Whether a host-source with the part changed so that it fits matches the URL.
