@@ -2,10 +2,12 @@ pub mod Adding
 pub mod Differing
 pub mod Ending
 pub mod EnforcedPolicies
+pub mod Entries
 pub mod Known
 pub mod LeftOver
 pub mod LeftParts
 pub mod NodesSame
+pub mod NoneDiffers
 pub mod OneShape
 pub mod Refuting
 pub mod SameSentences

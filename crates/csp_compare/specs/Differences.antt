@@ -1,10 +1,12 @@
 -- Where two lists of policies differ, among the checks with some effective directives; and words of private
 -- contracts, which stand here since contracts cite only specs/.
-use Rattle.std.specs.Prelude.{◌≡◌, ℕ, List, [], ◌∷◌, Option, Some, None, All, Contains, IsTrue, MatchOption, slice_get, ◌<◌}
+use Rattle.std.specs.Prelude.{◌≡◌, ℕ, List, [], ◌∷◌, Option, Some, None, All, AllPairs, Contains, IsTrue, MatchOption, map, slice_get, ◌<◌}
 use Rattle.std.specs.BTreeMap.{BTreeMap, get}
+use Rattle.std.specs.Cmp.Lexicographic.{slice_cmp}
 use Rattle.std.specs.Ordering.{nat_cmp}
+use Rattle.std.specs.declared.cmp.Ordering.TheVariants.{Less}
 use Rattle.csp_model.specs.Inclusion.{Subsumes}
-use Rattle.csp_model.specs.Names.{group_directive, inline_directive}
+use Rattle.csp_model.specs.Names.{group_directive, inline_directive, name_text}
 use Rattle.csp_model.specs.Validity.{IsValidCheck}
 use Rattle.csp_model.specs.Verdict.{effective_name, list_allows}
 use Rattle.csp_model.specs.declared.check.Check.{Check}
@@ -30,13 +32,14 @@ use Rattle.csp_compare.specs.declared.difference.Known.{Known}
 use Rattle.csp_compare.specs.declared.difference.Known.TheVariants.{Included}
 use Rattle.csp_compare.specs.declared.difference.Sight.{Sight}
 use Rattle.csp_compare.specs.declared.difference.Sight.TheVariants as sight
+use Rattle.csp_compare.specs.declared.differences.Difference.{Difference}
 use Rattle.csp_compare.specs.declared.task.Task.{Task}
 
--- the effective directives that checks have
+-- the effective directives that checks have, in the order of their names
 abbrev pub effective_names : List Name
 effective_names =
-    ConnectSrc ∷ FontSrc ∷ FrameSrc ∷ ImgSrc ∷ ManifestSrc ∷ MediaSrc ∷ ObjectSrc ∷ StyleSrcElem ∷ ScriptSrcElem
-    ∷ WorkerSrc ∷ ScriptSrcAttr ∷ StyleSrcAttr ∷ ScriptSrc ∷ BaseUri ∷ FormAction ∷ FrameAncestors ∷ Sandbox ∷ []
+    BaseUri ∷ ConnectSrc ∷ FontSrc ∷ FormAction ∷ FrameAncestors ∷ FrameSrc ∷ ImgSrc ∷ ManifestSrc ∷ MediaSrc
+    ∷ ObjectSrc ∷ Sandbox ∷ ScriptSrc ∷ ScriptSrcAttr ∷ ScriptSrcElem ∷ StyleSrcAttr ∷ StyleSrcElem ∷ WorkerSrc ∷ []
 
 -- every valid check with one of these effective directives that the first list allows the second allows
 abbrev pub SubsumesAmong : List Name → PolicyList → PolicyList → Type 0
@@ -57,6 +60,26 @@ IsDifference first second found = MatchOption found (Subsumes first second) (IsC
 abbrev pub IsDifferenceAmong : List Name → PolicyList → PolicyList → Option Check → Type 0
 IsDifferenceAmong effective first second found =
     MatchOption found (SubsumesAmong effective first second) (DiffersAmong effective first second)
+
+-- the entry's check shows that the second list doesn't allow all that the first allows under the directive
+pub record ShowsDifference (first second : PolicyList) (entry : Difference) : Type 0 where
+  pub differs : IsCounterexample first second entry.check
+  pub directive : effective_name entry.check ≡ entry.directive
+
+-- the one is written before the other, in the order of texts
+abbrev pub IsBefore : Name → Name → Type 0
+IsBefore one other = slice_cmp nat_cmp (name_text one) (name_text other) ≡ Less
+
+abbrev pub directives_of : List Difference → List Name
+directives_of entries = map (λ (entry : Difference). entry.directive) entries
+
+-- An entry for each effective directive under which the first list allows a check that the second doesn't, with
+-- such a check, in the order of the directives' names.
+pub record AreDifferences (first second : PolicyList) (entries : List Difference) : Type 0 where
+  pub shown : All (ShowsDifference first second) entries
+  pub complete : (asked : Check) → IsCounterexample first second asked
+      → Contains (directives_of entries) (effective_name asked)
+  pub ordered : AllPairs IsBefore (directives_of entries)
 
 -- Words of private contracts
 

@@ -40,28 +40,28 @@ pub fn find_difference(
 }
 
 /// The effective directives that checks have (Content Security Policy Level 3, sections 6.8.1 and 6.8.2), each
-/// once.
+/// once, in the order of their names.
 pub fn effective_directives() -> &'static [Name]
     ensures { result.now ≡ spec.effective_names }
 {
     &[
+        Name::BaseUri,
         Name::ConnectSrc,
         Name::FontSrc,
+        Name::FormAction,
+        Name::FrameAncestors,
         Name::FrameSrc,
         Name::ImgSrc,
         Name::ManifestSrc,
         Name::MediaSrc,
         Name::ObjectSrc,
-        Name::StyleSrcElem,
-        Name::ScriptSrcElem,
-        Name::WorkerSrc,
-        Name::ScriptSrcAttr,
-        Name::StyleSrcAttr,
-        Name::ScriptSrc,
-        Name::BaseUri,
-        Name::FormAction,
-        Name::FrameAncestors,
         Name::Sandbox,
+        Name::ScriptSrc,
+        Name::ScriptSrcAttr,
+        Name::ScriptSrcElem,
+        Name::StyleSrcAttr,
+        Name::StyleSrcElem,
+        Name::WorkerSrc,
     ]
 }
 
@@ -85,27 +85,29 @@ pub fn find_difference_among(
         vocabulary: &vocabulary,
         policies: policies.as_slice(),
     };
-    find_by_table(alloc, task, &table, effective)
+    find_by_table(alloc, task, &table, effective, &mut BTreeMap::new(alloc))
 }
 
-// The same by the formulas of both lists. A short look finds most differences.
-fn find_by_table<'a>(
+// The same by the formulas of both lists, of which something may be known. A short look finds most differences.
+pub(crate) fn find_by_table<'a>(
     alloc: Global,
     task: Task<'a>,
     table: &'a FormulaTable,
     effective: &[Name],
+    known: &mut BTreeMap<usize, Known>,
 ) -> Result<Option<Check>, Memory>
     requires task { IsTask task }
     requires table { IsTableOf task table.now }
-    ensures { IfOk result
+    requires known { spec.AreIncluded task table.now.kinds known.old }
+    ensures known { OnOk result (spec.AreIncluded task.entry table.now.kinds known.new) }
+    ensures found { IfOk result
         (spec.IsDifferenceAmong effective.now task.entry.first.now task.entry.second.now) }
 {
     a_formula_is_what_the_policy_allows();
-    let mut known = BTreeMap::new(alloc);
-    if let Some(check) = look(alloc, task, table, effective, Effort::Short, &mut known)? {
+    if let Some(check) = look(alloc, task, table, effective, Effort::Short, known)? {
         return Ok(Some(check));
     }
-    look(alloc, task, table, effective, Effort::Whole, &mut known)
+    look(alloc, task, table, effective, Effort::Whole, known)
 }
 
 // What is known of a kind of formulas after a look at a shape that has them.

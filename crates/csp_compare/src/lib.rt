@@ -4,9 +4,11 @@
 
 mod comparing;
 mod difference;
+mod differences;
 mod draft;
 mod enforced;
 mod kinds;
+pub mod laws;
 mod numbers;
 mod pair;
 mod probing;
@@ -16,4 +18,5 @@ mod trees;
 
 pub use comparing::{Answer, compare};
 pub use difference::{effective_directives, find_difference, find_difference_among};
+pub use differences::{Difference, find_differences};
 pub use residuals::residual;

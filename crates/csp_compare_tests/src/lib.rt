@@ -13,6 +13,8 @@ mod checks;
 #[cfg(test)]
 mod comparing;
 #[cfg(test)]
+mod differ;
+#[cfg(test)]
 mod differences;
 #[cfg(test)]
 mod embedding;

@@ -43,10 +43,12 @@ blocked_text list asked =
     codes "second blocked" ++ (flat_map item_text (verdict_of list (asked ∷ [])).items ++ codes "\n")
 
 -- the lines on a check that the second list blocks
+abbrev pub shown_text : PolicyList → Check → List ℕ
+shown_text second asked =
+    (description_of asked ++ codes "\n") ++ (url_line (checked_url asked) ++ blocked_text second asked)
+
 abbrev pub difference_text : PolicyList → Check → List ℕ
-difference_text second asked =
-    codes "not subsumed\n" ++ ((description_of asked ++ codes "\n")
-    ++ (url_line (checked_url asked) ++ blocked_text second asked))
+difference_text second asked = codes "not subsumed\n" ++ shown_text second asked
 
 -- The text shows a valid check that the first list allows and the second blocks. The description reads back
 -- to the check.

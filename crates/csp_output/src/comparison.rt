@@ -46,10 +46,27 @@ pub(crate) fn difference(alloc: Global, second: &PolicyList, check: &Check) -> R
     ensures read_back { IfOk result (λ text. check_of (spec.description_of check.now) ≡ Ok check.now) }
 {
     let mut text = Vec::from_slice(alloc, b"not subsumed\n")?;
-    push_description(alloc, &mut text, check)?;
-    push_url(alloc, &mut text, check)?;
-    push_blocked(alloc, &mut text, second, check)?;
+    push_difference(alloc, &mut text, second, check)?;
     Ok(Bytes::from_vec(text))
+}
+
+/// Writes the lines on a check that the second of two lists blocks: a description that reads back to the check,
+/// its URL where it has one, and what blocks it.
+pub fn push_difference(
+    alloc: Global,
+    text: &mut Vec<u8>,
+    second: &PolicyList,
+    check: &Check,
+) -> Result<(), Memory>
+    requires few { length second.now.policies ≤ policy_limit }
+    requires valid { IsValidCheck check.now }
+    ensures text { OnOk result
+        (text.new.items ≡ text.old.items ++ spec.shown_text second.now check.now) }
+    ensures read_back { OnOk result (check_of (spec.description_of check.now) ≡ Ok check.now) }
+{
+    push_description(alloc, text, check)?;
+    push_url(alloc, text, check)?;
+    push_blocked(alloc, text, second, check)
 }
 
 // Writes the line of a check as a description, which reads back to the check.

@@ -18,7 +18,7 @@ mod verdict_lines;
 
 pub use acceptance::check;
 pub use built::Built;
-pub use comparison::compare;
+pub use comparison::{compare, push_difference};
 pub use embedding::{Response, embed};
 pub use exercise::drill;
 pub use learn::print_learnt;
