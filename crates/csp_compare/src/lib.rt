@@ -7,6 +7,7 @@ mod difference;
 mod draft;
 mod enforced;
 mod kinds;
+mod natural;
 mod numbers;
 mod pair;
 mod probing;

@@ -58,7 +58,7 @@ const REFUSED: [(&str, &str, &str); 5] = [
     (
         "Content-Security-Policy: img-src https://*.a.example",
         "Content-Security-Policy: img-src https://a.example",
-        r#"{"destination":"image","integrity":"","kind":"fetch","nonce":"","parser-inserted":false,"redirects":0,"url":{"host":"a.a.example","path":"/","port":null,"scheme":"https"}}"#,
+        r#"{"destination":"image","integrity":"","kind":"fetch","nonce":"","parser-inserted":false,"redirects":0,"url":{"host":"other.a.example","path":"/","port":null,"scheme":"https"}}"#,
     ),
     (
         "Content-Security-Policy: img-src https://a.example",
