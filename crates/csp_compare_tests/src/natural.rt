@@ -1,6 +1,6 @@
 //! Migrations of a header, each with the request that a person would give where one of the two headers isn't
 //! at least as strict as the other. The requests were written down by the headers alone.
-use crate::comparing::compared;
+use crate::comparing::compared_at;
 use csp_print::check_json;
 use csp_request::read_requests;
 use std::process::Abort;
@@ -149,14 +149,15 @@ fn printed(rt: &(impl Abort + AllocGlobal), request: &str) -> Result<String, Fai
     Ok(text)
 }
 
-// The request, or that there is none, comes out of the comparison.
+// The request, or that there is none, comes out of the comparison of the lists of a page of this origin.
 fn expect(
     rt: &(impl Abort + AllocGlobal),
+    origin: &str,
     first: &str,
     second: &str,
     request: &str,
 ) -> Result<(), Fail> {
-    let (is_subsumed, text) = compared(rt, first, second)?;
+    let (is_subsumed, text) = compared_at(rt, origin, first, second)?;
     assert_eq!(rt; is_subsumed, request.is_empty(), "{first}");
     if !is_subsumed {
         let found = str::from_utf8(text.as_slice()).unwrap_or("");
@@ -168,8 +169,32 @@ fn expect(
 #[test]
 fn requests_that_a_person_would_give(rt: HostRuntime) -> Result<(), Fail> {
     for &(old, new, added, lost) in &MIGRATIONS {
-        expect(&rt, new, old, added)?;
-        expect(&rt, old, new, lost)?;
+        expect(&rt, "https://a.example", new, old, added)?;
+        expect(&rt, "https://a.example", old, new, lost)?;
+    }
+    Ok(())
+}
+
+// Origins of a page that takes images from anywhere, and one that shows what no images takes away.
+const ORIGINS: [(&str, &str); 3] = [
+    (
+        "https://a.example",
+        r#"{"kind":"fetch","destination":"image","url":"https://other.example/"}"#,
+    ),
+    (
+        "null",
+        r#"{"kind":"fetch","destination":"image","url":"https://other.example/"}"#,
+    ),
+    (
+        "http://a.example",
+        r#"{"kind":"fetch","destination":"image","url":"http://other.example/"}"#,
+    ),
+];
+
+#[test]
+fn requests_by_the_origin_of_the_page(rt: HostRuntime) -> Result<(), Fail> {
+    for &(origin, request) in &ORIGINS {
+        expect(&rt, origin, "", "Content-Security-Policy: img-src 'none'", request)?;
     }
     Ok(())
 }
