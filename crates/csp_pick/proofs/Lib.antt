@@ -12,7 +12,6 @@ pub mod Listing
 pub mod Marking
 pub mod NoncesMet
 pub mod OneLetter
-pub mod OtherHosts
 pub mod PairsMet
 pub mod PartLaws
 pub mod PathsMet
