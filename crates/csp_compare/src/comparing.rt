@@ -1,12 +1,13 @@
 //! The comparison of two lists.
 ghost use Rattle.std.specs.Prelude.{IfOk};
-ghost use Rattle.csp_compare.specs.Answers.{IsAnswer};
+ghost use Rattle.csp_compare.specs.Answers.{IsAnswer, IsCounterexample};
 ghost use Rattle.csp_compare.specs.Tasks.{IsTableOf, IsTask};
 ghost use Rattle.csp_model.specs.Policies.{IsReadable};
 
 use crate::draft::Draft;
 use crate::enforced::enforced_of;
 use crate::kinds::show_shape;
+use crate::probing::probe_shapes;
 use crate::task::Task;
 use csp_atom::vocabulary_of;
 use csp_model::{Check, Memory, PolicyList};
@@ -75,10 +76,31 @@ fn compare_task<'a>(
             &mut known,
             &mut effort,
         )? {
+            let check = natural_check(alloc, task, table, number, check)?;
             return Ok(Answer::Counterexample { check });
         }
     }
     what_is_accepted_is_so();
     let proof = draft.into_proof();
     Ok(Answer::Subsumed { proof })
+}
+
+// The check that a person would think of where a look at the shapes from this number on finds one, in place of
+// one that was come upon.
+fn natural_check<'a>(
+    alloc: Global,
+    task: Task<'a>,
+    table: &'a FormulaTable,
+    number: u8,
+    check: Check,
+) -> Result<Check, Memory>
+    requires task { IsTask task }
+    requires table { IsTableOf task table.now }
+    requires shown { IsCounterexample task.first.now task.second.now check }
+    ensures { IfOk result (IsCounterexample task.entry.first.now task.entry.second.now) }
+{
+    match probe_shapes(alloc, task, table, number)? {
+        Some(natural) => Ok(natural),
+        None => Ok(check),
+    }
 }

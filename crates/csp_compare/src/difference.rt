@@ -262,7 +262,8 @@ fn compare_at<'a>(
     })
 }
 
-// The same for one enforced policy of the second list. Where a short search would take long, a branch is probed.
+// The same for one enforced policy of the second list. A branch is probed where a short search would take
+// long, and for a check that a person would think of in place of one that a search came upon.
 fn sight_of<'a>(
     alloc: Global,
     question: Question<'a>,
@@ -278,7 +279,10 @@ fn sight_of<'a>(
     ensures room { valuation.new.room ≡ valuation.old.room }
 {
     match search(alloc, question, valuation, effort)? {
-        Some(Found::Check { check }) => Ok(Sight::Differs { check }),
+        Some(Found::Check { check }) => match probe(alloc, question, valuation)? {
+            Some(natural) => Ok(Sight::Differs { check: natural }),
+            None => Ok(Sight::Differs { check }),
+        },
         Some(Found::Nodes { .. }) => Ok(Sight::Included),
         None => match probe(alloc, question, valuation)? {
             Some(check) => Ok(Sight::Differs { check }),

@@ -9,6 +9,7 @@ mod draft;
 mod enforced;
 mod kinds;
 pub mod laws;
+mod natural;
 mod numbers;
 mod pair;
 mod probing;

@@ -6,6 +6,7 @@ ghost use Rattle.csp_shape.specs.Shapes.{is_shape};
 ghost use Rattle.csp_table.specs.Tables.{AreAt, formulas_at};
 
 use crate::comparing::SHAPE_COUNT;
+use crate::natural::{STRANGEST, is_over_https, strangeness};
 use crate::task::Task;
 use csp_model::{Check, Duplicate, Memory};
 use csp_placed::PlacedFormulas;
@@ -17,7 +18,7 @@ use std::alloc::Global;
 use std::mem;
 
 // A check that the first list allows and the second doesn't, if probing finds one at the shape of this number
-// or at one after it.
+// or at one after it. It is of the least strange shape.
 pub(crate) fn probe_shapes<'a>(
     alloc: Global,
     task: Task<'a>,
@@ -29,13 +30,18 @@ pub(crate) fn probe_shapes<'a>(
     ensures { IfOk result (λ found. IfSome found
         (IsCounterexample task.entry.first.now task.entry.second.now)) }
 {
+    let over_https = is_over_https(task.second);
     let mut probed = vec![in alloc; false; table.kinds.len()]?;
-    for number in from..SHAPE_COUNT {
-        let Some(shape) = shape_at(number) else {
-            unreachable!()
-        };
-        if let Some(check) = probe_shape(alloc, task, table, shape, &mut probed)? {
-            return Ok(Some(check));
+    for strange in 0..=STRANGEST {
+        for number in from..SHAPE_COUNT {
+            let Some(shape) = shape_at(number) else {
+                unreachable!()
+            };
+            if strangeness(shape, over_https) == strange
+                && let Some(check) = probe_shape(alloc, task, table, shape, &mut probed)?
+            {
+                return Ok(Some(check));
+            }
         }
     }
     Ok(None)

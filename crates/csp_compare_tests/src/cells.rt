@@ -59,16 +59,16 @@ fn vocabulary(alloc: Global) -> Result<Vocabulary, Memory> {
 }
 
 // The number of a shape, literals, and the check that stands for their cell, as it is printed.
-const PICKED: [(u8, &str, &str); 12] = [
+const PICKED: [(u8, &str, &str); 16] = [
     (
         38,
         "",
-        r#"{"destination":"image","integrity":"","kind":"fetch","nonce":"","parser-inserted":false,"redirects":0,"url":{"host":"a","path":"/","port":null,"scheme":"https"}}"#,
+        r#"{"destination":"image","integrity":"","kind":"fetch","nonce":"","parser-inserted":false,"redirects":0,"url":{"host":"other.example","path":"/","port":null,"scheme":"https"}}"#,
     ),
     (
         38,
         "under a.example;-host a.a.example;-under b.a.example;",
-        r#"{"destination":"image","integrity":"","kind":"fetch","nonce":"","parser-inserted":false,"redirects":0,"url":{"host":"b.a.example","path":"/","port":null,"scheme":"https"}}"#,
+        r#"{"destination":"image","integrity":"","kind":"fetch","nonce":"","parser-inserted":false,"redirects":0,"url":{"host":"other.a.example","path":"/","port":null,"scheme":"https"}}"#,
     ),
     (
         38,
@@ -78,12 +78,12 @@ const PICKED: [(u8, &str, &str); 12] = [
     (
         38,
         "-https;",
-        r#"{"destination":"image","integrity":"","kind":"fetch","nonce":"","parser-inserted":false,"redirects":0,"url":{"host":"a","path":"/","port":8080,"scheme":"https"}}"#,
+        r#"{"destination":"image","integrity":"","kind":"fetch","nonce":"","parser-inserted":false,"redirects":0,"url":{"host":"other.example","path":"/","port":8080,"scheme":"https"}}"#,
     ),
     (
         38,
         "below x;-path x/y;",
-        r#"{"destination":"image","integrity":"","kind":"fetch","nonce":"","parser-inserted":false,"redirects":0,"url":{"host":"a","path":"/x/","port":null,"scheme":"https"}}"#,
+        r#"{"destination":"image","integrity":"","kind":"fetch","nonce":"","parser-inserted":false,"redirects":0,"url":{"host":"other.example","path":"/x/","port":null,"scheme":"https"}}"#,
     ),
     (
         46,
@@ -93,12 +93,12 @@ const PICKED: [(u8, &str, &str); 12] = [
     (
         98,
         "nonce abc;has abc;",
-        r#"{"destination":"script","integrity":"sha256-abc","kind":"fetch","nonce":"abc","parser-inserted":false,"redirects":0,"url":{"host":"a","path":"/","port":null,"scheme":"https"}}"#,
+        r#"{"destination":"script","integrity":"sha256-abc","kind":"fetch","nonce":"abc","parser-inserted":false,"redirects":0,"url":{"host":"other.example","path":"/","port":null,"scheme":"https"}}"#,
     ),
     (
         98,
         "outside;",
-        r#"{"destination":"script","integrity":"sha256-AAAA","kind":"fetch","nonce":"","parser-inserted":false,"redirects":0,"url":{"host":"a","path":"/","port":null,"scheme":"https"}}"#,
+        r#"{"destination":"script","integrity":"sha256-AAAA","kind":"fetch","nonce":"","parser-inserted":false,"redirects":0,"url":{"host":"other.example","path":"/","port":null,"scheme":"https"}}"#,
     ),
     (
         169,
@@ -114,7 +114,27 @@ const PICKED: [(u8, &str, &str); 12] = [
     (
         38,
         "under a.example;-host x.a.example;",
-        r#"{"destination":"image","integrity":"","kind":"fetch","nonce":"","parser-inserted":false,"redirects":0,"url":{"host":"a.a.example","path":"/","port":null,"scheme":"https"}}"#,
+        r#"{"destination":"image","integrity":"","kind":"fetch","nonce":"","parser-inserted":false,"redirects":0,"url":{"host":"other.a.example","path":"/","port":null,"scheme":"https"}}"#,
+    ),
+    (
+        38,
+        "-host other.example;-host other2.example;",
+        r#"{"destination":"image","integrity":"","kind":"fetch","nonce":"","parser-inserted":false,"redirects":0,"url":{"host":"other3.example","path":"/","port":null,"scheme":"https"}}"#,
+    ),
+    (
+        38,
+        "under a.example;-host other.a.example;",
+        r#"{"destination":"image","integrity":"","kind":"fetch","nonce":"","parser-inserted":false,"redirects":0,"url":{"host":"other2.a.example","path":"/","port":null,"scheme":"https"}}"#,
+    ),
+    (
+        38,
+        "-under example;-host a;",
+        r#"{"destination":"image","integrity":"","kind":"fetch","nonce":"","parser-inserted":false,"redirects":0,"url":{"host":"b","path":"/","port":null,"scheme":"https"}}"#,
+    ),
+    (
+        38,
+        "-path x/;",
+        r#"{"destination":"image","integrity":"","kind":"fetch","nonce":"","parser-inserted":false,"redirects":0,"url":{"host":"other.example","path":"/x","port":null,"scheme":"https"}}"#,
     ),
 ];
 

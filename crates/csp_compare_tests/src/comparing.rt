@@ -2,7 +2,7 @@
 //! lists.
 ghost use Rattle.csp_model.specs.Policies.{IsReadable};
 
-use crate::values::{FIRST, SECOND, in_the_second_format, policies, proof};
+use crate::values::{FIRST, SECOND, in_the_second_format, policies_at, proof};
 use csp_checker::Checker;
 use csp_compare::{Answer, compare};
 use csp_model::{Bytes, Check, Memory, PolicyList};
@@ -33,8 +33,18 @@ pub(crate) fn compared(
     first: &str,
     second: &str,
 ) -> Result<(bool, Bytes), Fail> {
-    let first = policies(rt, first)?;
-    let second = policies(rt, second)?;
+    compared_at(rt, "https://a.example", first, second)
+}
+
+// The same of the lists of a page of this origin.
+pub(crate) fn compared_at(
+    rt: &(impl Abort + AllocGlobal),
+    origin: &str,
+    first: &str,
+    second: &str,
+) -> Result<(bool, Bytes), Fail> {
+    let first = policies_at(rt, origin, first)?;
+    let second = policies_at(rt, origin, second)?;
     match compare(rt.alloc(), &first, &second)? {
         Answer::Subsumed { proof } => {
             let text = proof_text(rt.alloc(), &proof)?;
@@ -58,7 +68,7 @@ const REFUSED: [(&str, &str, &str); 5] = [
     (
         "Content-Security-Policy: img-src https://*.a.example",
         "Content-Security-Policy: img-src https://a.example",
-        r#"{"destination":"image","integrity":"","kind":"fetch","nonce":"","parser-inserted":false,"redirects":0,"url":{"host":"a.a.example","path":"/","port":null,"scheme":"https"}}"#,
+        r#"{"destination":"image","integrity":"","kind":"fetch","nonce":"","parser-inserted":false,"redirects":0,"url":{"host":"other.a.example","path":"/","port":null,"scheme":"https"}}"#,
     ),
     (
         "Content-Security-Policy: img-src https://a.example",

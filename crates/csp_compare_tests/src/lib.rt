@@ -23,6 +23,8 @@ mod formulas;
 #[cfg(test)]
 mod generated;
 #[cfg(test)]
+mod natural;
+#[cfg(test)]
 mod proofs;
 #[cfg(test)]
 mod runs;

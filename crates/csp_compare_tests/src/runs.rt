@@ -71,8 +71,8 @@ const REFUTED: [(&str, &str, &str); 4] = [
         "Content-Security-Policy: img-src https://*.a.example",
         "Content-Security-Policy: img-src https://a.example",
         "not subsumed\n\
-         {\"destination\":\"image\",\"integrity\":\"\",\"kind\":\"fetch\",\"nonce\":\"\",\"parser-inserted\":false,\"redirects\":0,\"url\":{\"host\":\"a.a.example\",\"path\":\"/\",\"port\":null,\"scheme\":\"https\"}}\n\
-         url https://a.a.example/\n\
+         {\"destination\":\"image\",\"integrity\":\"\",\"kind\":\"fetch\",\"nonce\":\"\",\"parser-inserted\":false,\"redirects\":0,\"url\":{\"host\":\"other.a.example\",\"path\":\"/\",\"port\":null,\"scheme\":\"https\"}}\n\
+         url https://other.a.example/\n\
          second blocked 0:enforce:img-src/img-src\n",
     ),
     (

@@ -18,9 +18,20 @@ pub(crate) fn policies(
 ) -> Result<PolicyList, BlockError>
     ensures { IfOk result IsReadable }
 {
+    policies_at(rt, "https://a.example", block)
+}
+
+// Those of this origin.
+pub(crate) fn policies_at(
+    rt: &(impl Abort + AllocGlobal),
+    origin: &str,
+    block: &str,
+) -> Result<PolicyList, BlockError>
+    ensures { IfOk result IsReadable }
+{
     let bytes = block.as_bytes();
     assert!(rt; bytes.len() < 4_000_000_000);
-    match read_origin(rt.alloc(), "https://a.example") {
+    match read_origin(rt.alloc(), origin) {
         Ok(origin) => read_block(rt.alloc(), bytes, &origin),
         Err(_) => Err(BlockError::Memory),
     }

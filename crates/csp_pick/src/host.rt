@@ -1,5 +1,5 @@
 //! Hosts.
-ghost use Rattle.std.specs.Prelude.{◌≡◌, IfOk, option_copied};
+ghost use Rattle.std.specs.Prelude.{◌≡◌, IfOk, IfSome, option_copied};
 ghost use Rattle.csp_model.specs.Validity.{IsValidHost};
 ghost use Rattle.csp_model.specs.declared.check.CheckPart.TheVariants as part;
 ghost use Rattle.csp_pick.specs.Hosts as spec;
@@ -7,23 +7,42 @@ ghost use Rattle.csp_pick.specs.Parts.{MeetPart, host_holds};
 
 use crate::address::fresh_address;
 use crate::label::{domain_below, fresh_domain};
+use crate::other::other_below;
 use csp_atom::{Atom, Literal};
 use csp_cell::Cell;
 use csp_model::{Duplicate, Host, Memory};
 use std::alloc::Global;
 
-// A valid host of which each literal on hosts is true: one for the positive literal, or else any domain, or
-// an address where domains are denied. No denial names it.
+// A valid host of which each literal on hosts is true: one that a person would think of, where they allow it;
+// else one for the positive literal, or any domain, or an address where domains are denied. No denial names
+// it.
 pub(crate) fn pick_host(alloc: Global, cell: &Cell) -> Result<Host, Memory>
     ensures valid { IfOk result IsValidHost }
     ensures meets { IfOk result (λ host. MeetPart part.Host (host_holds host) cell.now.literals) }
 {
     let _shape = cell.shape();
+    if let Some(host) = other_host(alloc, cell)? {
+        return Ok(host);
+    }
     let denials = cell.others();
     match first_on_host(cell.placing()) {
         Some(atom) => host_for(alloc, atom, denials),
         None if has_domains(denials) => fresh_address(alloc, denials),
         None => fresh_domain(alloc, "", denials),
+    }
+}
+
+// `other` below the suffix that is asked for, or below `example`, or such a host with a number.
+fn other_host(alloc: Global, cell: &Cell) -> Result<Option<Host>, Memory>
+    ensures valid { IfOk result (λ found. IfSome found IsValidHost) }
+    ensures meets { IfOk result (λ found.
+        IfSome found (λ host. MeetPart part.Host (host_holds host) cell.now.literals)) }
+{
+    match first_on_host(cell.placing()) {
+        Some(Atom::HostIs(_)) => Ok(None),
+        Some(Atom::HostUnder(suffix)) => other_below(alloc, cell, suffix.as_str()),
+        _ if has_domains(cell.others()) => Ok(None),
+        _ => other_below(alloc, cell, "example"),
     }
 }
 

@@ -11,6 +11,7 @@ mod label;
 mod lead;
 mod named;
 mod nonce;
+mod other;
 mod path;
 mod pick;
 mod port;

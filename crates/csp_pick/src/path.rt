@@ -82,17 +82,19 @@ fn path_behind(
     Ok(path)
 }
 
-// A piece that ends no path that a literal names: the empty one, where it is one.
+// A piece that ends no path that a literal names: the empty one or `x`, where it is one.
 fn free_piece(alloc: Global, literals: &[Literal]) -> Result<Bytes, Memory>
     ensures valid { IfOk result (λ piece. IsTrue (is_piece piece)) }
     ensures free { IfOk result (λ piece. All (λ l. last_piece_of l.atom ≢ Some piece) literals.now) }
 {
     let last = last_pieces(alloc, literals)?;
-    if is_among(&last, b"") {
-        Ok(Bytes::from_vec(fresh_text(alloc, &last)?))
-    } else {
-        Bytes::new(alloc, b"")
+    if !is_among(&last, b"") {
+        return Bytes::new(alloc, b"");
     }
+    if !is_among(&last, b"x") {
+        return Bytes::new(alloc, b"x");
+    }
+    Ok(Bytes::from_vec(fresh_text(alloc, &last)?))
 }
 
 // The last pieces of the paths that literals name.

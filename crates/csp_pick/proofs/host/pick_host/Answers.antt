@@ -8,22 +8,22 @@ use Rattle.csp_pick.proofs.HostDomains.{label_valid}
 use Rattle.csp_pick.proofs.HostMeets.{placed_meets, placed_valid, address_meets, label_meets, both_ok}
 use Rattle.csp_pick.proofs.host.pick_host.Goals as goal
 
-pub returns-in-Some-clause-valid : goal.returns-in-Some-clause-valid
-returns-in-Some-clause-valid c =
+pub returns-in-Some-first_on_host-clause-valid : goal.returns-in-Some-first_on_host-clause-valid
+returns-in-Some-first_on_host-clause-valid c =
     let ls = c.args.cell.now.literals in
-    let first = ap first_on_host (sym c.placing.ensures) ∙ sym c.in-Some.ensures in
-    IfOk-weaker c.host_for.result (IsHostFor c.in-Some.atom.now c.others-denials.result.now) IsValidHost
-    (λ host is. placed_valid _ ls c.in-Some.atom.now host c.shape-shape.ensures.each first
-    (subst (λ denials. IsHostFor c.in-Some.atom.now denials host) c.others-denials.ensures is))
+    let first = ap first_on_host (sym c.placing.ensures) ∙ sym c.in-Some-first_on_host.ensures in
+    IfOk-weaker c.host_for.result (IsHostFor c.in-Some-first_on_host.atom.now c.others-denials.result.now) IsValidHost
+    (λ host is. placed_valid _ ls c.in-Some-first_on_host.atom.now host c.shape-shape.ensures.each first
+    (subst (λ denials. IsHostFor c.in-Some-first_on_host.atom.now denials host) c.others-denials.ensures is))
     c.host_for.ensures
 
-pub returns-in-Some-clause-meets : goal.returns-in-Some-clause-meets
-returns-in-Some-clause-meets c =
+pub returns-in-Some-first_on_host-clause-meets : goal.returns-in-Some-first_on_host-clause-meets
+returns-in-Some-first_on_host-clause-meets c =
     let ls = c.args.cell.now.literals in
-    let first = ap first_on_host (sym c.placing.ensures) ∙ sym c.in-Some.ensures in
-    IfOk-weaker c.host_for.result (IsHostFor c.in-Some.atom.now c.others-denials.result.now) (λ host. MeetPart part.Host (host_holds host) ls)
-    (λ host is. placed_meets ls c.in-Some.atom.now host c.shape-shape.ensures.together first
-    (subst (λ denials. IsHostFor c.in-Some.atom.now denials host) c.others-denials.ensures is))
+    let first = ap first_on_host (sym c.placing.ensures) ∙ sym c.in-Some-first_on_host.ensures in
+    IfOk-weaker c.host_for.result (IsHostFor c.in-Some-first_on_host.atom.now c.others-denials.result.now) (λ host. MeetPart part.Host (host_holds host) ls)
+    (λ host is. placed_meets ls c.in-Some-first_on_host.atom.now host c.shape-shape.ensures.together first
+    (subst (λ denials. IsHostFor c.in-Some-first_on_host.atom.now denials host) c.others-denials.ensures is))
     c.host_for.ensures
 
 pub returns-in-None-clause-meets : goal.returns-in-None-clause-meets
