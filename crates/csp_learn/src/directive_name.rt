@@ -1,5 +1,5 @@
 //! The name of a directive, in the order of its bytes.
-ghost use Rattle.std.specs.Prelude.{◌≡◌, ◌==◌, Some, refl};
+ghost use Rattle.std.specs.Prelude.{ℕ, ◌≡◌, ◌==◌, List, Some, refl};
 ghost use Rattle.std.specs.Cmp.Lexicographic.{pointwise, slice_cmp, nat_list_cmp_total, texts_po, texts_ties};
 ghost use Rattle.std.specs.Cmp.Rules.{comparing};
 ghost use Rattle.std.specs.Ordering.{nat_cmp};
@@ -17,12 +17,9 @@ pub(crate) struct DirectiveName {
 }
 
 impl Model for DirectiveName {
-    ghost use Rattle.std.specs.Prelude.{List, ℕ};
-    ghost use Rattle.csp_model.specs.Names.{name_text};
-
     ghost Value = { List ℕ };
 
-    ghost view = { λ a. name_text a.name };
+    ghost view = { λ a. spec.name_text a.name };
 }
 
 impl DirectiveName {
@@ -72,7 +69,11 @@ impl Ord for DirectiveName {
 
     ghost matches_eq = { texts_ties };
 
+    // Most needs are compared with needs of the same directive.
     fn cmp(&self, other: &DirectiveName) -> Ordering {
+        if self.name == other.name {
+            return Ordering::Equal;
+        }
         self.as_str().cmp(other.as_str())
     }
 }
