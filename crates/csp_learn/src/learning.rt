@@ -7,11 +7,12 @@ ghost use Rattle.csp_learn.specs.Logs as log;
 ghost use Rattle.csp_learn.specs.Needs as spec;
 ghost use Rattle.csp_learn.specs.Policies.{policy_for};
 
+use crate::directive_name::DirectiveName;
 use crate::directives::policy_for;
 use crate::error::LearnError;
 use crate::learnt::{Learnt, Place};
 use crate::need::{Need, needed_token};
-use csp_model::{Check, Described, List, Memory, Origin, Text, name_text};
+use csp_model::{Check, Described, List, Memory, Origin};
 use std::alloc::Global;
 use std::collections::BTreeSet;
 use std::marker::Model;
@@ -68,7 +69,7 @@ impl Learning {
         };
         match needed_token(alloc, url)? {
             Some(token) => {
-                let directive = Text::new(alloc, name_text(group.directive()))?;
+                let directive = DirectiveName::new(group.directive());
                 self.needs.insert(Need { directive, token })?;
             }
             None => self.left.push(Place {

@@ -1,6 +1,7 @@
 //! Learns a policy from a log of requests: one that allows what the fetches of the log need.
 #![tactic(auto)]
 
+mod directive_name;
 mod directives;
 mod error;
 pub mod laws;

@@ -5,6 +5,7 @@ ghost use Rattle.csp_model.specs.Ascii.{code, split_at, without_final};
 ghost use Rattle.csp_model.specs.Grammar.{is_label, is_label_char, is_name};
 ghost use Rattle.csp_learn.specs.Needs as spec;
 
+use crate::directive_name::DirectiveName;
 use csp_model::{Memory, Scheme, Text, Url};
 use itoa::Buffer;
 use std::alloc::Global;
@@ -19,7 +20,7 @@ const BESIDE_HOST: usize = 14;
 // directives.
 #[derive(Debug, PartialEq, Eq, PartialOrd, Ord, Drop)]
 pub(crate) struct Need {
-    pub(crate) directive: Text,
+    pub(crate) directive: DirectiveName,
     pub(crate) token: Text,
 }
 
