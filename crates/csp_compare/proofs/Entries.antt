@@ -85,8 +85,8 @@ passed_over : (names rest : List Name) (one : Name) → AllPairs IsBefore (names
 passed_over names rest one pairs =
     let none : length names - length names ≡ 0 = omega arith in
     let gone : remove (names ++ one ∷ rest) (length names) ≡ names ++ rest =
-        remove-append_right names (one ∷ rest) (length names) (length names) refl (omega arith)
-        ∙ ap (λ k. names ++ remove (one ∷ rest) k) none in
+    remove-append_right names (one ∷ rest) (length names) (length names) refl (omega arith)
+    ∙ ap (λ k. names ++ remove (one ∷ rest) k) none in
     subst (λ (left : List Name). AllPairs IsBefore left) gone
     (all_pairs_remove IsBefore (names ++ one ∷ rest) (length names) (let long = length-append names (one ∷ rest) in omega (arith, long)) pairs)
 
@@ -109,7 +109,7 @@ pub so_far_some : (first second : PolicyList) (entries : List Difference) (rest 
 so_far_some first second entries rest name asked differs so =
     let entry = record { directive = name; check = asked } in
     let same : directives_of (entries ++ entry ∷ []) ++ rest ≡ directives_of entries ++ name ∷ rest =
-        ap (λ (names : List Name). names ++ rest) (map_push (λ (e : Difference). e.directive) entries entry) ∙ append_assoc (directives_of entries) (name ∷ []) rest in
+    ap (λ (names : List Name). names ++ rest) (map_push (λ (e : Difference). e.directive) entries entry) ∙ append_assoc (directives_of entries) (name ∷ []) rest in
     record {
       shown = All-push (ShowsDifference first second) entries entry so.shown (record { differs = differs.0; directive = sym (only name (effective_name asked) differs.1) });
       complete = λ other shows. subst (λ (names : List Name). Contains names (effective_name other)) (sym same) (so.complete other shows);
