@@ -44,9 +44,9 @@ module _ (kind : InlineKind) (nonce : List ℕ) (one other : Digests) where
 
 only_one : (list : PolicyList) (asked : Check) → deciding list (asked ∷ []) ≡ Some asked
 only_one list asked = only (list_allows list asked) where
-    only : (allowed : Bool) → option_or (cond (not allowed) (Some asked) None) (Some asked) ≡ Some asked
-    only true = refl
-    only false = refl
+  only : (allowed : Bool) → option_or (cond (not allowed) (Some asked) None) (Some asked) ≡ Some asked
+  only true = refl
+  only false = refl
 
 same_reasons : (list : PolicyList) (kind : InlineKind) (nonce : List ℕ) (one other : Digests)
     → AgreeWhereNamed list one other

@@ -76,7 +76,11 @@ impl<'a> Explanation<'a> {
     {
         let Explanation { text, blocked, .. } = self;
         Built {
-            status: if blocked { Status::Found } else { Status::Clean },
+            status: if blocked {
+                Status::Found
+            } else {
+                Status::Clean
+            },
             text: Bytes::from_vec(text),
         }
     }

@@ -28,7 +28,11 @@ pub(crate) fn explain(alloc: Global, list: &PolicyList, bytes: &[u8]) -> Result<
 }
 
 // The same of descriptions, each of which is described, explained and dropped in its turn.
-fn explain_each(alloc: Global, list: &PolicyList, mut requests: Requests<'_>) -> Result<Built, Fault>
+fn explain_each(
+    alloc: Global,
+    list: &PolicyList,
+    mut requests: Requests<'_>,
+) -> Result<Built, Fault>
     requires readable { IsReadable list.now }
     requires limit { requests.limit ≡ request_limit }
     ensures { result ≢ Err Fault.Memory

@@ -65,7 +65,12 @@ const RUNS: [(&str, &str, Status, &str); 9] = [
          4 allowed\n\
          \x20 0 sandbox allows capability allow-scripts\n",
     ),
-    ("x: y", "{}", Status::BadRequests, "bad requests: not a JSON array\n"),
+    (
+        "x: y",
+        "{}",
+        Status::BadRequests,
+        "bad requests: not a JSON array\n",
+    ),
     (
         "Content-Security-Policy: img-src é",
         "{}",

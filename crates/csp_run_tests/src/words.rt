@@ -81,7 +81,11 @@ const RUNS: [(&[&str], Status, &str); 32] = [
     (&["learn", "a", "r"], Status::BadOrigin, "bad origin\n"),
     (&["order", "a", "p", "r"], Status::BadOrigin, "bad origin\n"),
     (&["why", "a", "p", "r"], Status::BadOrigin, "bad origin\n"),
-    (&["differ", "a", "p", "r"], Status::BadOrigin, "bad origin\n"),
+    (
+        &["differ", "a", "p", "r"],
+        Status::BadOrigin,
+        "bad origin\n",
+    ),
     (
         &["judge", "https://a.example/x", "p", "r"],
         Status::BadOrigin,

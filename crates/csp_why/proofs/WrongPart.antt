@@ -112,10 +112,10 @@ no_wrong_part self (url.Hosted there host port pieces) redirected (source.Hosted
     let ends = other_host under host other in
     no_part self redirected part under ports paths there host port pieces ends.0 ends.1
 no_wrong_part self (url.Plain there) redirected (source.Hosted part under ports paths) other = plain under where
-    plain : (k : HostPart) → wrong_part self (url.Plain there) redirected (source.Hosted part k ports paths) ≡ None
-    plain host_part.Any = refl
-    plain (host_part.Under suffix) = refl
-    plain (host_part.Exact text) = refl
+  plain : (k : HostPart) → wrong_part self (url.Plain there) redirected (source.Hosted part k ports paths) ≡ None
+  plain host_part.Any = refl
+  plain (host_part.Under suffix) = refl
+  plain (host_part.Exact text) = refl
 no_wrong_part self (url.Plain there) redirected source.Star other = refl
 no_wrong_part self (url.Plain there) redirected (source.SchemeOnly scheme) other = refl
 no_wrong_part self (url.Plain there) redirected (source.Word which) other = refl
