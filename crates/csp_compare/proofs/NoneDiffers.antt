@@ -1,5 +1,5 @@
 -- Where there are no differences, and which directives they have.
-use Rattle.std.proofs.Common.{arith, ◌≡◌, ◌∙◌, ◌↔◌, sym, ap, subst, refl, suc, Bool, true, false, List, [], ◌∷◌, All, inl, inr}
+use Rattle.std.proofs.Common.{arith, ◌≡◌, ◌∙◌, ◌↔◌, sym, ap, subst, refl, suc, List, [], ◌∷◌, All, inl, inr}
 use Rattle.std.specs.Prelude.{AllPairs, Contains}
 use Rattle.std.specs.Cmp.Lexicographic.{nat_list_cmp_total}
 use Rattle.std.specs.Ordering.{ordering_reverse}
