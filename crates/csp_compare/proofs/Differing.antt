@@ -30,7 +30,6 @@ use Rattle.csp_proof.proofs.ShapesListed.{within_count}
 use Rattle.csp_table.specs.Tables.{AreAt}
 use Rattle.csp_placed.specs.declared.placing.PlacedFormulas.{PlacedFormulas}
 use Rattle.csp_compare.specs.Differences.{DiffersAmong, IsDifference, IsDifferenceAmong, SubsumesAmong, effective_names, effective_of, HasNodes, IsIncludedAt, AreIncluded, IsIncludedBelow}
-use Rattle.csp_compare.specs.Drafts.{at_shape}
 use Rattle.csp_compare.specs.Tasks.{lists_of, IsTask}
 use Rattle.csp_compare.specs.declared.difference.Known.{Known}
 use Rattle.csp_compare.specs.declared.difference.Known.TheVariants.{Included}

@@ -1,13 +1,13 @@
 -- The differences under one directive after another.
-use Rattle.std.proofs.Common.{arith, ◌≡◌, ◌∙◌, sym, ap, subst, refl, ℕ, zero, suc, ◌+◌, ◌-◌, ◌<◌, Bool, true, false, ◌&&◌, List, [], ◌∷◌, ◌++◌, length, length-append, append-nil, append_assoc, All, inl, inr}
-use Rattle.std.specs.Prelude.{AllPairs, Contains, slice_index_or, ◌⊎◌}
+use Rattle.std.proofs.Common.{arith, ◌≡◌, ◌∙◌, sym, ap, subst, refl, ℕ, zero, suc, ◌+◌, ◌-◌, ◌<◌, Bool, true, ◌&&◌, List, [], ◌∷◌, ◌++◌, length, get_or, drop, length-append, append-nil, append_assoc, All, inl, inr}
+use Rattle.std.specs.Prelude.{AllPairs, Contains, Option, Some, None, slice_index_or, ◌⊎◌}
 use Rattle.std.specs.Cmp.Lexicographic.{slice_cmp}
 use Rattle.std.specs.List.{list_all, remove}
 use Rattle.std.specs.Ordering.{is_lt, nat_cmp}
 use Rattle.std.specs.declared.cmp.Ordering.{Ordering}
 use Rattle.std.specs.declared.cmp.Ordering.TheVariants.{Less, Equal, Greater}
 use Rattle.std.proofs.lemmas.Bool.{and_parts, false≢true}
-use Rattle.std.proofs.lemmas.List.{map_push}
+use Rattle.std.proofs.lemmas.List.{drop_more, map_push}
 use Rattle.std.proofs.lemmas.List.Edits.{remove-append_right}
 use Rattle.std.proofs.lemmas.List.Elements.{All-nil, All-push, Contains-append_left, Contains-append_right, Contains-append_cases}
 use Rattle.std.proofs.lemmas.List.Kept.{AllPairs-cons}
@@ -107,7 +107,7 @@ so_far_none first second entries rest name none so = record {
 pub so_far_some : (first second : PolicyList) (entries : List Difference) (rest : List Name) (name : Name) (asked : Check) → DiffersAmong (name ∷ []) first second asked
     → IsSoFar first second entries (name ∷ rest) → IsSoFar first second (entries ++ record { directive = name; check = asked } ∷ []) rest
 so_far_some first second entries rest name asked differs so =
-    let entry = record { directive = name; check = asked } in
+    let entry : Difference = record { directive = name; check = asked } in
     let same : directives_of (entries ++ entry ∷ []) ++ rest ≡ directives_of entries ++ name ∷ rest =
     ap (λ (names : List Name). names ++ rest) (map_push (λ (e : Difference). e.directive) entries entry) ∙ append_assoc (directives_of entries) (name ∷ []) rest in
     record {
@@ -115,3 +115,20 @@ so_far_some first second entries rest name asked differs so =
       complete = λ other shows. subst (λ (names : List Name). Contains names (effective_name other)) (sym same) (so.complete other shows);
       ordered = subst (λ (names : List Name). AllPairs IsBefore names) (sym same) so.ordered;
     }
+
+-- the entries with one for a directive under which a check was found
+abbrev pub with_found : List Difference → Name → Option Check → List Difference
+with_found entries name None = entries
+with_found entries name (Some asked) = entries ++ record { directive = name; check = asked } ∷ []
+
+pub so_far_step : (first second : PolicyList) (entries : List Difference) (i : ℕ) (name d : Name) (found : Option Check) → i < length effective_names
+    → name ≡ get_or effective_names i d → IsDifferenceAmong (name ∷ []) first second found → IsSoFar first second entries (drop i effective_names)
+    → IsSoFar first second (with_found entries name found) (drop (i + 1) effective_names)
+so_far_step first second entries i name d found within is shows so =
+    let here : drop i effective_names ≡ name ∷ drop (i + 1) effective_names =
+        drop_more effective_names i d within ∙ ap (λ (n : Name). n ∷ drop (i + 1) effective_names) (sym is) in
+    by found shows (subst (λ (rest : List Name). IsSoFar first second entries rest) here so) where
+      by : (o : Option Check) → IsDifferenceAmong (name ∷ []) first second o → IsSoFar first second entries (name ∷ drop (i + 1) effective_names)
+          → IsSoFar first second (with_found entries name o) (drop (i + 1) effective_names)
+      by None none also = so_far_none first second entries (drop (i + 1) effective_names) name none also
+      by (Some asked) differs also = so_far_some first second entries (drop (i + 1) effective_names) name asked differs also

@@ -1,5 +1,5 @@
 -- Where there are no differences, and which directives they have.
-use Rattle.std.proofs.Common.{arith, ◌≡◌, ◌∙◌, ◌↔◌, sym, ap, subst, refl, suc, Bool, true, false, List, [], ◌∷◌, All, inl, inr}
+use Rattle.std.proofs.Common.{arith, ◌≡◌, ◌∙◌, ◌↔◌, sym, ap, subst, refl, suc, List, [], ◌∷◌, All, inl, inr}
 use Rattle.std.specs.Prelude.{AllPairs, Contains}
 use Rattle.std.specs.Cmp.Lexicographic.{nat_list_cmp_total}
 use Rattle.std.specs.Ordering.{ordering_reverse}
@@ -46,7 +46,7 @@ abbrev Differs : PolicyList → PolicyList → Name → Type 0
 Differs first second directive = (asked : Check) × DiffersAmong (directive ∷ []) first second asked
 
 shows : (first second : PolicyList) (entry : Difference) → ShowsDifference first second entry → Differs first second entry.directive
-shows first second entry is = (entry.check, is.differs, (0, omega arith, sym is.directive))
+shows first second entry is = (entry.check, (is.differs, (0, omega arith, sym is.directive)))
 
 pub named : (first second : PolicyList) (entries : List Difference) (directive : Name) → AreDifferences first second entries
     → Contains (directives_of entries) directive ↔ ((asked : Check) × DiffersAmong (directive ∷ []) first second asked)
@@ -54,7 +54,7 @@ named first second entries directive are = (
   λ has. All-contains (Differs first second) (directives_of entries) directive
       (All-map (Differs first second) (λ (e : Difference). e.directive) entries
       (All-weaker (ShowsDifference first second) (λ (e : Difference). Differs first second e.directive) (shows first second) entries are.shown)) has,
-  λ differs. subst (Contains (directives_of entries)) (sym (only directive (effective_name differs.0) differs.2)) (are.complete differs.0 differs.1),
+  λ differs. subst (Contains (directives_of entries)) (sym (only directive (effective_name differs.0) differs.1.1)) (are.complete differs.0 differs.1.0),
 )
 
 -- Names in order are told by which they are

@@ -1,6 +1,6 @@
 -- Where two lists of policies differ, among the checks with some effective directives; and words of private
 -- contracts, which stand here since contracts cite only specs/.
-use Rattle.std.specs.Prelude.{◌≡◌, ℕ, List, [], ◌∷◌, Option, Some, None, All, AllPairs, Contains, IsTrue, MatchOption, map, slice_get, ◌<◌}
+use Rattle.std.specs.Prelude.{◌≡◌, ℕ, List, [], ◌∷◌, Option, Some, All, AllPairs, Contains, IsTrue, MatchOption, map, slice_get, ◌<◌}
 use Rattle.std.specs.BTreeMap.{BTreeMap, get}
 use Rattle.std.specs.Cmp.Lexicographic.{slice_cmp}
 use Rattle.std.specs.Ordering.{nat_cmp}

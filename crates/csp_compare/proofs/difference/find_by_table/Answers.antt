@@ -6,8 +6,8 @@ use Rattle.csp_compare.specs.Differences.{DiffersAmong, IsIncludedBelow}
 use Rattle.csp_compare.proofs.Differing.{looked}
 use Rattle.csp_compare.proofs.difference.find_by_table.Goals as goal
 
-pub returns : goal.returns
-returns c =
+pub returns-clause-found : goal.returns-clause-found
+returns-clause-found c =
     let task = c.args.task in
     let effective = c.args.effective.now in
     IfOk-weaker c.look-2.result
