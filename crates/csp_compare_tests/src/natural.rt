@@ -29,11 +29,11 @@ const MIGRATIONS: [Migration; 17] = [
         "",
         r#"{"kind":"fetch","destination":"","url":"http://cdn.example.net/"}"#,
     ),
-    // To nonces, and scripts that trusted ones load.
+    // To nonces: any host's script lets itself in by the nonce.
     (
         "Content-Security-Policy: script-src 'self' 'unsafe-inline'",
         "Content-Security-Policy: script-src 'nonce-abc123' 'strict-dynamic'",
-        r#"{"kind":"fetch","destination":"script","url":"https://other.example/"}"#,
+        r#"{"kind":"fetch","destination":"script","url":"https://other.example/","nonce":"abc123"}"#,
         INLINE_SCRIPT,
     ),
     // A line that only reports is added.
