@@ -126,7 +126,7 @@ pub so_far_step : (first second : PolicyList) (entries : List Difference) (i : �
     → IsSoFar first second (with_found entries name found) (drop (i + 1) effective_names)
 so_far_step first second entries i name d found within is shows so =
     let here : drop i effective_names ≡ name ∷ drop (i + 1) effective_names =
-        drop_more effective_names i d within ∙ ap (λ (n : Name). n ∷ drop (i + 1) effective_names) (sym is) in
+    drop_more effective_names i d within ∙ ap (λ (n : Name). n ∷ drop (i + 1) effective_names) (sym is) in
     by found shows (subst (λ (rest : List Name). IsSoFar first second entries rest) here so) where
       by : (o : Option Check) → IsDifferenceAmong (name ∷ []) first second o → IsSoFar first second entries (name ∷ drop (i + 1) effective_names)
           → IsSoFar first second (with_found entries name o) (drop (i + 1) effective_names)

@@ -34,11 +34,11 @@ loop-directive-preserved c =
       elim c.match-found.branch [
         | in-Some+in_ok-push w ↦
             let all : c.match-found.differences ≡ with_found ds name c.in_ok-found.found =
-                w.differences-is ∙ w.in_ok-push.ensures.ok ∙ sym (ap (with_found ds name) w.in-Some.is) in
+            w.differences-is ∙ w.in_ok-push.ensures.ok ∙ sym (ap (with_found ds name) w.in-Some.is) in
             subst (λ (es : List Difference). IsSoFar first second es rest) (sym all) step
         | in_default w ↦
             let all : c.match-found.differences ≡ with_found ds name c.in_ok-found.found =
-                w.differences-is ∙ sym (ap (with_found ds name) w.in_default.is) in
+            w.differences-is ∙ sym (ap (with_found ds name) w.in_default.is) in
             subst (λ (es : List Difference). IsSoFar first second es rest) (sym all) step
       ],
     )
