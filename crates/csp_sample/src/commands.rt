@@ -8,7 +8,7 @@ use csp_run::{Status, exit_code, run};
 use std::alloc::Global;
 
 // Examples, with the words of their commands.
-const EXAMPLES: [(&str, &str); 18] = [
+const EXAMPLES: [(&str, &str); 20] = [
     ("first", "judge https://a.example first.txt first.json"),
     ("kinds", "judge https://a.example kinds.txt kinds.json"),
     (
@@ -60,6 +60,14 @@ const EXAMPLES: [(&str, &str); 18] = [
         "order https://a.example order-report-only.txt order-nothing.txt order-none.txt",
     ),
     ("why", "why https://shop.example why.txt why.json"),
+    (
+        "differ",
+        "differ https://shop.example differ-first.txt differ-second.txt",
+    ),
+    (
+        "not weaker",
+        "differ https://shop.example differ-second.txt differ-first.txt",
+    ),
 ];
 
 // Room for what one example prints.
