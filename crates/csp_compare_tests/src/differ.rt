@@ -212,7 +212,7 @@ fn are_confirmed(
 fn lists_of_all_kinds_differ_as_they_compare(rt: HostRuntime) -> Result<(), Fail> {
     let mut words = Pcg32::new(2026, 30);
     let mut counts = [0u32; 2];
-    for pair in 0..60 {
+    for pair in 0..16 {
         let second = block(rt.alloc(), &mut words, "")?;
         // the first list has the second's policies too, where nothing is to differ
         let before = if pair % 2 == 0 { second.as_str() } else { "" };
@@ -229,6 +229,6 @@ fn lists_of_all_kinds_differ_as_they_compare(rt: HostRuntime) -> Result<(), Fail
             counts[1] = counts[1].saturating_add(1);
         }
     }
-    assert!(rt; counts[0] >= 30 && counts[1] >= 10, "{counts:?}");
+    assert!(rt; counts[0] >= 8 && counts[1] >= 2, "{counts:?}");
     Ok(())
 }

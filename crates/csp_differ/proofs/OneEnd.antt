@@ -40,7 +40,7 @@ clean law first second built is =
     )
 
 -- no directive's name begins as `not weaker` does
-begins : List ℕ → Bool
+abbrev begins : List ℕ → Bool
 begins text = eqb (get_or text 0 0) 110
 
 other_letter : (name : Name) (rest : List ℕ) → begins (name_text name ++ rest) ≡ false

@@ -5,5 +5,5 @@ use Rattle.csp_differ.proofs.differing.entries_text.Given as goal
 
 abbrev pub invariant-loop-difference : goal.invariant-loop-difference
 invariant-loop-difference l =
-    (l.text.items ≡ flat_map (entry_text l.second) (take l.difference-index l.difference-items))
-    × All IsReadBack (take l.difference-index l.difference-items)
+    (l.text.items ≡ flat_map (entry_text l.second) (take l.difference-index l.differences))
+    × All IsReadBack (take l.difference-index l.differences)
