@@ -11,7 +11,8 @@ use std::test::Fail;
 type Migration = (&'static str, &'static str, &'static str, &'static str);
 
 // An inline script without a nonce, and with a text whose digests nothing names.
-const INLINE_SCRIPT: &str = r#"{"kind":"inline","type":"script","digests":{"sha256":"0000000000000000000000000000000000000000000000000000000000000000","sha384":"000000000000000000000000000000000000000000000000000000000000000000000000000000000000000000000000","sha512":"00000000000000000000000000000000000000000000000000000000000000000000000000000000000000000000000000000000000000000000000000000000"}}"#;
+const INLINE_SCRIPT: &str =
+    r#"{"kind":"inline","type":"script","digests":{"sha256":"0000000000000000000000000000000000000000000000000000000000000000","sha384":"000000000000000000000000000000000000000000000000000000000000000000000000000000000000000000000000","sha512":"00000000000000000000000000000000000000000000000000000000000000000000000000000000000000000000000000000000000000000000000000000000"}}"#;
 
 const MIGRATIONS: [Migration; 17] = [
     // A host is added.
@@ -194,7 +195,13 @@ const ORIGINS: [(&str, &str); 3] = [
 #[test]
 fn requests_by_the_origin_of_the_page(rt: HostRuntime) -> Result<(), Fail> {
     for &(origin, request) in &ORIGINS {
-        expect(&rt, origin, "", "Content-Security-Policy: img-src 'none'", request)?;
+        expect(
+            &rt,
+            origin,
+            "",
+            "Content-Security-Policy: img-src 'none'",
+            request,
+        )?;
     }
     Ok(())
 }

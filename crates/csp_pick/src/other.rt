@@ -14,11 +14,7 @@ const TRIED: u8 = 9;
 
 // `other` below this suffix, else `other2` and so on: the first of a few of which each literal on hosts is
 // true, if one is.
-pub(crate) fn other_below(
-    alloc: Global,
-    cell: &Cell,
-    suffix: &str,
-) -> Result<Option<Host>, Memory>
+pub(crate) fn other_below(alloc: Global, cell: &Cell, suffix: &str) -> Result<Option<Host>, Memory>
     ensures valid { IfOk result (λ found. IfSome found IsValidHost) }
     ensures meets { IfOk result (λ found.
         IfSome found (λ host. MeetPart part.Host (host_holds host) cell.now.literals)) }
