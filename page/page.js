@@ -148,7 +148,19 @@ class Page {
       await this.ask(name);
       if (name === first) performance.mark('first-answer');
     }
+    await this.judgeOneself();
     document.body.dataset.answered = 'all';
+  }
+  // What the engine says of this page's own policy
+  async judgeOneself() {
+    const policy = document.querySelector('meta[http-equiv]')?.content;
+    if (!policy) return;
+    const requests = ['', 'font', 'frame', 'image', 'manifest', 'object', 'script', 'style', 'video']
+      .map(destination => ({ kind: 'fetch', destination, url: 'https://other.example/' }));
+    const files = [['policy', `Meta-Content-Security-Policy: ${policy}`], ['requests', JSON.stringify(requests)]];
+    const { answer } = await this.engine.do('call', { words: ['judge', 'null', 'policy', 'requests'], files });
+    const blocked = linesOf(answer.text).filter(it => judged(it).blocked).length;
+    at('own').textContent = `This page loads nothing: of its own policy the engine says that ${blocked} of ${requests.length} kinds of loads are blocked.`;
   }
   async proveExample() {
     const { answer } = await this.engine.do('compare', givenOf('check'));

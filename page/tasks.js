@@ -42,14 +42,25 @@ const PROBES = [
   { kind: 'ancestors', ancestors: ['null'] },
 ];
 
+// What only a sandbox takes away, of which there are no reports
+const SANDBOXED = ['downloads', 'forms', 'modals', 'popups', 'same-origin', 'scripts', 'top-navigation']
+  .map(name => ({ kind: 'capability', name }));
+const judgeProbes = (ask, origin, policy, probes) => {
+  const files = [['policy', policy], ['requests', JSON.stringify(probes)]];
+  return linesOf(accepted(ask(['judge', origin, 'policy', 'requests'], files)).text).map(judged)
+    .flatMap(it => it.violations);
+};
+
 // The policies as they were read: numbers and dispositions by `judge`, texts by `report`, in equal order
 const readPolicies = (ask, origin, policy) => {
   const files = [['policy', policy], ['requests', JSON.stringify(PROBES)]];
-  const verdicts = linesOf(accepted(ask(['judge', origin, 'policy', 'requests'], files)).text).map(judged);
   const reports = linesOf(accepted(ask(['report', origin, 'policy', 'requests'], files)).text)
     .filter(it => it.startsWith('{')).map(it => JSON.parse(it)['original-policy']);
   const found = new Map();
-  verdicts.flatMap(it => it.violations).forEach(({ policy: number, disposition }, n) =>
+  for (const { policy: number, disposition } of judgeProbes(ask, origin, policy, SANDBOXED)) {
+    found.set(number, { number, disposition, text: 'sandbox' });
+  }
+  judgeProbes(ask, origin, policy, PROBES).forEach(({ policy: number, disposition }, n) =>
     found.set(number, { number, disposition, text: reports[n] }));
   return [...found.values()].sort((a, b) => a.number - b.number);
 };

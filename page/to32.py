@@ -20,11 +20,9 @@ CONSTANT = re.compile(r"(@.*? constant )(<\{.*?\}>) (<\{.*\}>.*)")
 def constant(head, kind, body):
     """A constant in which 4 bytes of zeros follow each pointer."""
     kind = re.sub(r"\bptr\b", "ptr, [4 x i8]", kind)
-    one = rf"\bptr (getelementptr \([^()]*\)|{SYMBOL}|null)(?=[, ])"
+    one = rf"\bptr (getelementptr \((?:\w+ )*i8, ptr {SYMBOL}, i64 -?\d+\)|{SYMBOL}|null)(?=[, ])"
     body = re.sub(one, r"ptr \1, [4 x i8] zeroinitializer", body)
-    # the pointer inside a getelementptr is no member
-    inner = rf"(getelementptr \((?:inbounds )?(?:nuw )?i8, ptr {SYMBOL}), \[4 x i8\] zeroinitializer"
-    return f"{head}{kind} " + re.sub(inner, r"\1", body)
+    return f"{head}{kind} {body}"
 
 
 def pair(n, space, name, kinds, place, rest):

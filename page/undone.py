@@ -11,13 +11,13 @@ import re
 import sys
 
 NAME = r"[^\s,]+"
-# What may be said of memory's layout only in bytes and whole words, in a module of 32 bits
+WHOLE = r"(?:<[^>]*\bptr\b[^>]*>|\[[^\]]*\bptr\b[^\]]*\]|\{[^}]*\bptr\b[^}]*\})"
+# What a module of 32 bits may not have where pointers in memory keep 8 bytes
 LEFT = [
-    (r"= (load|alloca) [^,]*\bptr\b(?!,? )", "loads or holds a pointer as 4 bytes"),
-    (r"= (?:load|alloca) ptr\b", "loads or holds a pointer as 4 bytes"),
-    (r"= (?:load|alloca) [<\[{][^,]*\bptr\b.*[>\]}],", "loads or holds a pointer in a whole"),
-    (r"^\s+store ptr ", "stores a pointer as 4 bytes"),
-    (r"^\s+store [<\[{][^@%]*\bptr\b", "stores a pointer in a whole"),
+    (r"= (?:load|alloca) (?:volatile )?ptr\b", "loads or holds a pointer as 4 bytes"),
+    (rf"= (?:load|alloca) (?:volatile )?{WHOLE}", "loads or holds a pointer in a whole"),
+    (r"^\s+store (?:volatile )?ptr ", "stores a pointer as 4 bytes"),
+    (rf"^\s+store (?:volatile )?{WHOLE} ", "stores a pointer in a whole"),
     (r"\bgetelementptr (?:\w+ )*(?!i8\b)[^\s(]+,", "steps over more than bytes"),
     (r"\batomicrmw\b|\bcmpxchg\b|\batomic\b", "is atomic"),
     (r"\bx ptr\b", "has an array or a vector of pointers"),
@@ -107,8 +107,9 @@ def plain(line):
 
 def without_zeros(line):
     """A constant without the zeros behind its pointers, of which type and value have equally many."""
-    kinds, values = line.count("ptr, [4 x i8]"), line.count(", [4 x i8] zeroinitializer")
-    pointers = len(re.findall(r"\bptr\b", re.sub(r"getelementptr \([^()]*\)", "", line)))
+    bare = re.sub(r'c?"(?:[^"\\]|\\.)*"', "", line)
+    kinds, values = bare.count("ptr, [4 x i8]"), bare.count(", [4 x i8] zeroinitializer")
+    pointers = len(re.findall(r"\bptr\b", re.sub(r"getelementptr \([^()]*\)", "", bare)))
     if not kinds == values == pointers / 2:
         sys.exit(f"undone: a constant has {pointers} pointers, {kinds} places and {values} zeros:\n    {line}")
     return line.replace("ptr, [4 x i8]", "ptr").replace(", [4 x i8] zeroinitializer", "")
@@ -129,8 +130,8 @@ def to32(source, to):
     if any(re.search(r"\b(?:inttoptr|\[4 x i8\] zeroinitializer)\b", it) for it in given):
         sys.exit("undone: what was given has what only to32.py writes")
     for line in out.lines:
-        for pattern, what in LEFT[1:]:
-            if not line.startswith((";", "!")) and re.search(pattern, line.split(" #")[0]):
+        for pattern, what in LEFT:
+            if not line.startswith((";", "!")) and re.search(pattern, line):
                 sys.exit(f"undone: a line {what}:\n    {line}")
     while out.at < len(out.lines):
         line = one(out)
