@@ -1,14 +1,16 @@
 'use strict';
-// What the engine says, taken apart for the page. Nothing here decides anything: it reads the program's texts.
+// What the engine says, taken apart for the page. Nothing here decides anything: it reads the texts.
 
 // The requests of a field: a JSON array as it is, or a line each, which is a destination and a URL, a URL alone (an
 // image), or a JSON object.
+const SAID = {
+  xhr: '', fetch: '', connect: '', websocket: '', stylesheet: 'style', css: 'style', img: 'image', js: 'script',
+};
 const requestOfLine = line => {
   if (line.startsWith('{')) return JSON.parse(line);
   const [, word, url] = /^([a-z]+)\s+(\S.*)$/i.exec(line) ?? [0, 'image', line];
-  const told = { xhr: '', fetch: '', connect: '', websocket: '', stylesheet: 'style', img: 'image', css: 'style', js: 'script' };
-  const destination = told[word.toLowerCase()] ?? word.toLowerCase();
-  return word.toLowerCase() === 'form' ? { kind: 'form', url } : { kind: 'fetch', destination, url };
+  const lower = word.toLowerCase();
+  return lower === 'form' ? { kind: 'form', url } : { kind: 'fetch', destination: SAID[lower] ?? lower, url };
 };
 const requestsOfText = text => {
   if (text.trim().startsWith('[')) return JSON.parse(text);
@@ -17,15 +19,17 @@ const requestsOfText = text => {
 
 // A request in a person's words: what it is, and of what
 const KINDS = {
-  eval: 'a string run as script', wasm: 'WebAssembly', ancestors: 'being framed by', base: 'the base URL', form: 'a form',
-  capability: 'sandbox', 'worker-start': 'starting a worker',
+  eval: 'a string run as script', wasm: 'WebAssembly', ancestors: 'being framed by', base: 'the base URL',
+  form: 'a form', capability: 'sandbox', 'worker-start': 'starting a worker',
 };
 const INLINE = {
-  script: 'inline script', 'script-attribute': 'event handler', style: 'inline style', 'style-attribute': 'style attribute',
-  navigation: 'javascript: URL',
+  script: 'inline script', 'script-attribute': 'event handler', style: 'inline style',
+  'style-attribute': 'style attribute', navigation: 'javascript: URL',
 };
-const urlOfParts = ({ scheme, host, port, path }) =>
-  host === undefined ? `${scheme}:` : `${scheme}://${host}${port === null || port === undefined ? '' : `:${port}`}${path ?? ''}`;
+const urlOfParts = ({ scheme, host, port, path }) => {
+  if (host === undefined) return `${scheme}:`;
+  return `${scheme}://${host}${port === null || port === undefined ? '' : `:${port}`}${path ?? ''}`;
+};
 const urlText = url => url === undefined || typeof url === 'string' ? url : urlOfParts(url);
 const describe = request => {
   const told = described(request), { nonce } = request ?? {};
@@ -35,7 +39,7 @@ const described = request => {
   if (request === null || typeof request !== 'object') return { what: 'a request', of: '' };
   const { kind, destination, url, urls, source, name, ancestors } = request;
   const of = (Array.isArray(urls) ? urls.map(urlText).join(' → ') : urlText(url)) ?? source ?? name
-    ?? (Array.isArray(ancestors) ? `${ancestors.map(it => it === null ? it : urlText(it)).join(', ')}` : '');
+    ?? (Array.isArray(ancestors) ? ancestors.map(it => it === null ? it : urlText(it)).join(', ') : '');
   if (kind === 'fetch') return { what: destination === '' ? 'connect' : String(destination), of };
   if (kind === 'inline') return { what: INLINE[request.type] ?? 'inline', of };
   return { what: KINDS[kind] ?? String(kind), of };
@@ -92,7 +96,8 @@ const differencesOf = text => {
 
 // What `tidy` prints: the header lines, why each source stays, and the proofs of both directions
 const tidied = text => {
-  const [head, ...rest] = text.split(/^input to output\n/m), [forward, backward] = rest.join('').split(/^output to input\n/m);
+  const [head, ...rest] = text.split(/^input to output\n/m);
+  const [forward, backward] = rest.join('').split(/^output to input\n/m);
   const lines = linesOf(head), isHeader = it => /^(meta-)?content-security-policy(-report-only)?:/i.test(it);
   const needed = [];
   lines.forEach((line, n) => {
@@ -107,10 +112,10 @@ const tidied = text => {
 const HINTS = [
   [/^usage/, 'The engine in this page has no such command.'],
   [/^bad origin/, 'Write an origin as https://www.example or http://localhost:3000, without a path, or null.'],
-  [/^bad policy: .*line 1$/, 'The first line is no header. Write Content-Security-Policy: before the value, as curl -sI prints it.'],
+  [/^bad policy: .*line 1$/, 'The first line is no header. Write Content-Security-Policy: before the value.'],
   [/^bad policy/, 'That line is no header. Keep one block of headers, each on one line.'],
   [/^too large: requests sources/, 'The requests need more sources than a policy may have.'],
-  [/^too large: \S+ bytes/, 'The file is longer than the engine reads: 8 MB for headers and requests, 64 MB for a proof.'],
+  [/^too large: \S+ bytes/, 'The engine reads 8 MB of headers and requests, and 64 MB of a proof.'],
   [/^too large/, 'The file passes a limit of the engine.'],
   [/^bad requests: not a JSON array/, 'Write a destination and a URL a line, or a JSON array of requests.'],
   [/^bad requests/, 'That member of that request is missing or of a wrong form. A URL is written in full.'],

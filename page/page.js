@@ -53,8 +53,10 @@ class Busy {
     const long = this.since !== null && performance.now() - this.since > 400;
     if (long) {
       const [done, all] = this.part ?? [];
-      at('busy-text').textContent = all ? `${this.text}: ${done.toLocaleString('en')} of ${all.toLocaleString('en')}` : `${this.text} ..`;
-      if (all) at('busy-bar').value = done / all; else at('busy-bar').removeAttribute('value');
+      const part = all ? `: ${done.toLocaleString('en')} of ${all.toLocaleString('en')}` : ' ..';
+      at('busy-text').textContent = this.text + part;
+      if (all) at('busy-bar').value = done / all;
+      else at('busy-bar').removeAttribute('value');
     }
     at('busy').hidden = !long;
   }
@@ -66,8 +68,8 @@ class Busy {
 
 const TABS = ['judge', 'compare', 'check', 'learn', 'tidy', 'embed'];
 const WORKS = {
-  judge: 'Judging the requests', compare: 'Comparing the headers', check: 'Checking the proof', learn: 'Learning a policy',
-  tidy: 'Leaving out what changes nothing', embed: 'Comparing the policies', har: 'Reading the HAR',
+  judge: 'Judging the requests', compare: 'Comparing the headers', check: 'Checking the proof',
+  learn: 'Learning a policy', tidy: 'Leaving out what changes nothing', embed: 'Comparing the policies', har: 'Reading the HAR',
 };
 
 const select = name => {
@@ -80,14 +82,16 @@ const select = name => {
 const selected = () => TABS.find(it => !at(it).hidden);
 const onTabKey = event => {
   const here = TABS.indexOf(selected()), last = TABS.length - 1;
-  const to = { ArrowRight: here === last ? 0 : here + 1, ArrowLeft: here === 0 ? last : here - 1, Home: 0, End: last }[event.key];
+  const [next, before] = [here === last ? 0 : here + 1, here === 0 ? last : here - 1];
+  const to = { ArrowRight: next, ArrowLeft: before, Home: 0, End: last }[event.key];
   if (to === undefined) return;
   event.preventDefault();
   select(TABS[to]);
   at(`tab-${TABS[to]}`).focus();
 };
 
-const fieldsOf = name => Object.fromEntries([...at(name).querySelectorAll('[name]')].map(it => [it.name, it.value]));
+const namedIn = name => [...at(name).querySelectorAll('[name]')];
+const fieldsOf = name => Object.fromEntries(namedIn(name).map(it => [it.name, it.value]));
 const givenOf = name => {
   const given = fieldsOf(name);
   for (const key of ['origin', 'embedder']) if (key in given) given[key] = given[key].trim();
@@ -160,7 +164,9 @@ class Page {
     const files = [['policy', `Meta-Content-Security-Policy: ${policy}`], ['requests', JSON.stringify(requests)]];
     const { answer } = await this.engine.do('call', { words: ['judge', 'null', 'policy', 'requests'], files });
     const blocked = linesOf(answer.text).filter(it => judged(it).blocked).length;
-    at('own').textContent = `This page loads nothing: of its own policy the engine says that ${blocked} of ${requests.length} kinds of loads are blocked.`;
+    const all = requests.length;
+    at('own').textContent =
+      `Of this page’s own policy the engine says that it blocks ${blocked} of ${all} kinds of loads.`;
   }
   async proveExample() {
     const { answer } = await this.engine.do('compare', givenOf('check'));
@@ -177,8 +183,8 @@ class Page {
     }
     await this.ask(name);
     if (answer.sayings.length > 0) {
-      at(`${name}-answer`).append(el('details', {}, el('summary', {}, `What the HAR leaves open: ${answer.sayings.length}`),
-        el('ul', {}, answer.sayings.map(it => el('li', {}, it)))));
+      const summary = el('summary', {}, `What the HAR leaves open: ${answer.sayings.length}`);
+      at(`${name}-answer`).append(el('details', {}, summary, el('ul', {}, answer.sayings.map(it => el('li', {}, it)))));
     }
   }
 }
@@ -196,7 +202,8 @@ const addInline = async page => {
   const type = at('inline-type').value, source = at('inline-source').value, nonce = at('inline-nonce').value;
   const line = JSON.stringify({ kind: 'inline', type, source, ...nonce === '' ? {} : { nonce } });
   const field = at('judge-requests'), text = field.value.trim();
-  field.value = text.startsWith('[') ? JSON.stringify([...JSON.parse(text), JSON.parse(line)], null, 1) : `${text}\n${line}`;
+  field.value = text.startsWith('[') ? JSON.stringify([...JSON.parse(text), JSON.parse(line)], null, 1)
+    : `${text}\n${line}`;
   const hashes = await hashesOf(source);
   at('inline-hashes').replaceChildren('Sources that allow it: ', ...hashes.flatMap(it => [code(it), ' ']));
   await page.ask('judge');
@@ -205,7 +212,8 @@ const addInline = async page => {
 // A link holds what stands in the tab's fields, and only whoever asks for one gets it
 const encodeState = state => btoa(String.fromCharCode(...new TextEncoder().encode(JSON.stringify(state))))
   .replaceAll('+', '-').replaceAll('/', '_').replace(/=*$/, '');
-const decodeState = text => JSON.parse(new TextDecoder().decode(bytesOf64(text.replaceAll('-', '+').replaceAll('_', '/'))));
+const decodeState = text =>
+  JSON.parse(new TextDecoder().decode(bytesOf64(text.replaceAll('-', '+').replaceAll('_', '/'))));
 const makeLink = () => {
   location.hash = encodeState([selected(), fieldsOf(selected())]);
   at('linked').textContent = 'It is the address of this page now.';
@@ -214,7 +222,7 @@ const takeLink = () => {
   try {
     const [name, fields] = decodeState(location.hash.slice(1));
     if (!TABS.includes(name)) return;
-    for (const it of at(name).querySelectorAll('[name]')) {
+    for (const it of namedIn(name)) {
       if (typeof fields[it.name] === 'string') it.value = fields[it.name];
     }
     select(name);
@@ -225,7 +233,10 @@ const takeLink = () => {
 
 const attachFiles = page => {
   for (const field of document.querySelectorAll('[data-har], [data-file]')) {
-    const take = file => 'har' in field.dataset ? page.takeHar(field, file) : file.text().then(it => { field.value = it; });
+    const take = async file => {
+      if ('har' in field.dataset) await page.takeHar(field, file);
+      else field.value = await file.text();
+    };
     const input = field.form.querySelector('[type=file]');
     input.addEventListener('change', () => input.files.length > 0 && take(input.files[0]));
     field.addEventListener('dragover', event => { event.preventDefault(); field.classList.add('drop'); });
@@ -246,7 +257,11 @@ const openPage = script => {
   at('tabs').addEventListener('keydown', onTabKey);
   for (const name of TABS) {
     at(`tab-${name}`).addEventListener('click', () => select(name));
-    at(name).querySelector('form').addEventListener('submit', event => { event.preventDefault(); page.ask(name).then(() => announce(name)); });
+    at(name).querySelector('form').addEventListener('submit', async event => {
+      event.preventDefault();
+      await page.ask(name);
+      announce(name);
+    });
   }
   at('stop').addEventListener('click', () => page.engine.stop());
   at('link').addEventListener('click', makeLink);

@@ -68,7 +68,10 @@ const readPolicies = (ask, origin, policy) => {
 const HEADER = 'Content-Security-Policy: ';
 // Words that allow nothing by themselves and yet say something
 const PLAIN = /^'(none|strict-dynamic|report-sample|unsafe-hashes|inline-speculation-rules|allow-duplicates)'$/i;
-const QUIET = /^(report-uri|report-to|upgrade-insecure-requests|block-all-mixed-content|require-trusted-types-for|trusted-types|sandbox)$/;
+const QUIET = new RegExp('^(report-uri|report-to|upgrade-insecure-requests|block-all-mixed-content'
+  + '|require-trusted-types-for|trusted-types|sandbox)$');
+const KEYWORD = new RegExp('^(none|self|unsafe-inline|unsafe-eval|strict-dynamic|unsafe-hashes|wasm-unsafe-eval'
+  + '|report-sample)$', 'i');
 
 // Of a directive and its words: which of them match nothing, asked as an inclusion of `D 'none'`
 const readDirective = (ask, origin, text) => {
@@ -81,7 +84,7 @@ const readDirective = (ask, origin, text) => {
   const tokens = words.map(token => ({
     token,
     idle: !quiet && !PLAIN.test(token) && allows(`${HEADER}${name} ${token}\n`, none),
-    bare: /^(none|self|unsafe-inline|unsafe-eval|strict-dynamic|unsafe-hashes|wasm-unsafe-eval|report-sample)$/i.test(token),
+    bare: KEYWORD.test(token),
   }));
   return { name, idle, quiet, tokens };
 };

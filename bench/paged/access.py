@@ -29,22 +29,29 @@ CONTRAST = """(() => {
     return [(Math.max(a, b) + .05) / (Math.min(a, b) + .05), it.tagName + '.' + it.className]; })
     .filter(([ratio]) => ratio < 4.5).map(String);
 })()"""
-FOCUS = "getComputedStyle(document.activeElement).outlineStyle !== 'none' && parseFloat(getComputedStyle(document.activeElement).outlineWidth) >= 2"
+FOCUS = """(({outlineStyle, outlineWidth}) => outlineStyle !== 'none' && parseFloat(outlineWidth) >= 2)(
+  getComputedStyle(document.activeElement))"""
 
 
 def points(kind):
     browser, _ = opened(kind)
     try:
-        for what, code in (("controls without a name", NAMELESS), ("tabs that don't fit their panels", TABS), ("ids that stand twice", TWICE),
-                           ("headings that leave out a level", HEADINGS)):
+        for what, code in (
+            ("controls without a name", NAMELESS),
+            ("tabs that don't fit their panels", TABS),
+            ("ids that stand twice", TWICE),
+            ("headings that leave out a level", HEADINGS),
+        ):
             point(f"{what}: none", [], browser.run(code))
         point("tables without a caption or a scope: none", 0, browser.run(TABLES))
-        point("the language and the title are told", ["en", True], browser.run("[document.documentElement.lang, document.title.length > 5]"))
+        told = browser.run("[document.documentElement.lang, document.title.length > 5]")
+        point("the language and the title are told", ["en", True], told)
         for dark in (False, True):
             browser.look(1100, dark)
             for name in ("judge", "compare", "check", "learn", "tidy", "embed"):
                 browser.click(f"#tab-{name}")
-                point(f"{name}, {'dark' if dark else 'light'}: texts of less contrast than 4.5: none", [], browser.run(CONTRAST))
+                scheme = "dark" if dark else "light"
+                point(f"{name}, {scheme}: texts of less contrast than 4.5: none", [], browser.run(CONTRAST))
         focus(browser)
         widths(browser)
     finally:

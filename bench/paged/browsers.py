@@ -51,8 +51,8 @@ class Chromium(Browser):
     def __init__(self):
         super().__init__()
         commands, answers = os.pipe(), os.pipe()
-        words = ["chromium", "--headless=new", "--no-sandbox", "--disable-gpu", "--no-first-run", "--disable-dev-shm-usage",
-                 f"--user-data-dir={self.profile}", "--remote-debugging-pipe", "about:blank"]
+        words = ["chromium", "--headless=new", "--no-sandbox", "--disable-gpu", "--no-first-run"]
+        words += ["--disable-dev-shm-usage", f"--user-data-dir={self.profile}", "--remote-debugging-pipe", "about:blank"]
 
         def ends():
             first, second = os.dup(commands[0]), os.dup(answers[1])
@@ -133,7 +133,8 @@ class Chromium(Browser):
     def complaints(self):
         """What the browser wrote into its console of its own: errors, and breaches of the page's policy."""
         self.run("0")
-        return [str(it["params"]) for it in self.events if it.get("method") in ("Log.entryAdded", "Runtime.exceptionThrown")]
+        told = ("Log.entryAdded", "Runtime.exceptionThrown")
+        return [str(it["params"]) for it in self.events if it.get("method") in told]
 
     def close(self):
         try:
@@ -154,7 +155,8 @@ class Firefox(Browser):
                 "browser.startup.homepage_override.mstone": "ignore"}
         lines = [f"user_pref({json.dumps(name)}, {json.dumps(value)});\n" for name, value in told.items()]
         Path(self.profile, "user.js").write_text("".join(lines))
-        words = ["firefox-esr", "--headless", "--marionette", "--remote-allow-system-access", "--no-remote", "--profile", self.profile, "about:blank"]
+        words = ["firefox-esr", "--headless", "--marionette", "--remote-allow-system-access", "--no-remote"]
+        words += ["--profile", self.profile, "about:blank"]
         quiet = {"stdout": subprocess.DEVNULL, "stderr": subprocess.DEVNULL}
         self.process = subprocess.Popen(words, env={**os.environ, "HOME": self.profile}, **quiet)
         port = Path(self.profile, "MarionetteActivePort")
@@ -193,8 +195,12 @@ class Firefox(Browser):
         self.ask("WebDriver:Navigate", url=url)
 
     def run(self, code):
-        script = f"const done = arguments[arguments.length - 1]; Promise.resolve().then(() => ({code})).then(it => done([it]), no => done([null, String(no)]));"
-        value, *wrong = self.ask("WebDriver:ExecuteAsyncScript", script=script, args=[], sandbox=None, newSandbox=False)["value"]
+        script = (
+            "const done = arguments[arguments.length - 1];"
+            f"Promise.resolve().then(() => ({code})).then(it => done([it]), no => done([null, String(no)]));"
+        )
+        told = {"script": script, "args": [], "sandbox": None, "newSandbox": False}
+        value, *wrong = self.ask("WebDriver:ExecuteAsyncScript", **told)["value"]
         if wrong:
             raise RuntimeError(wrong)
         return value
@@ -208,7 +214,8 @@ class Firefox(Browser):
 
     def click(self, selector):
         x, y = (int(it) for it in self.run(CENTRE % json.dumps(selector)))
-        moves = [{"type": "pointerMove", "x": x, "y": y}, {"type": "pointerDown", "button": 0}, {"type": "pointerUp", "button": 0}]
+        moves = [{"type": "pointerMove", "x": x, "y": y}]
+        moves += [{"type": it, "button": 0} for it in ("pointerDown", "pointerUp")]
         self.act("pointer", moves, parameters={"pointerType": "mouse"})
 
     def look(self, width, dark):

@@ -22,6 +22,11 @@ URLS = ["https://a.example/x.png", "https://b.example:8443/a/b?q", "http://x.b.e
         "https://[::1]/x", "https://c.test/"]
 
 
+KINDS = ["fetch"] * 3 + ["inline", "eval", "wasm", "base", "form", "ancestors", "capability", "worker-start"]
+VERBS = ["judge", "judge", "report", "compare", "compare", "check", "embed", "tidy", "learn", "order", "drill"]
+VERBS += ["usage", "why", "differ", "missing"]
+
+
 class Maker:
     def __init__(self, seed):
         self.random = random.Random(seed)
@@ -50,7 +55,7 @@ class Maker:
         return "".join(lines).encode()
 
     def request(self):
-        kind = self.pick("fetch", "fetch", "fetch", "inline", "eval", "wasm", "base", "form", "ancestors", "capability", "worker-start")
+        kind = self.pick(KINDS)
         made = {"kind": kind}
         if kind == "fetch":
             made["destination"] = self.pick(DESTINATIONS[:-1] * 9 + DESTINATIONS)
@@ -73,8 +78,7 @@ class Maker:
 
     def case(self):
         origin, a, b = self.pick(ORIGINS[:3] * 4 + ORIGINS), self.block(), self.block()
-        verb = self.pick("judge", "judge", "report", "compare", "compare", "check", "embed", "tidy", "learn", "order", "drill", "usage",
-                         "why", "differ", "missing")
+        verb = self.pick(VERBS)
         if verb in ("judge", "report", "why"):
             return [verb, origin, "p", "r"], [("p", a), ("r", self.requests())]
         if verb in ("compare", "differ"):

@@ -34,4 +34,5 @@ def points(module=None):
         seen = json.loads(subprocess.run(words, capture_output=True, check=True).stdout)
     print(f"runs by status: {seen}")
     point("there are runs that the memory doesn't hold, and they end with 10", True, seen.get("10", 0) > 0)
-    point("no run ends otherwise than with its answer, with 10, or with a text too long", [], sorted(set(seen) - {"0", "1", "9", "10"}))
+    others = sorted(set(seen) - {"0", "1", "9", "10"})
+    point("no run ends otherwise than with its answer, with 10, or with a text too long", [], others)

@@ -35,6 +35,7 @@ def points(kind):
         judge(browser)
         compare(browser)
         others(browser)
+        newer(browser)
         links(browser)
         point(f"{kind.name}: the browser complains of nothing", [], browser.complaints())
     finally:
@@ -65,7 +66,8 @@ def judge(browser):
     browser.click("#judge-answer [data-state=blocked]")
     rows = browser.run("document.querySelectorAll('#judge-answer tbody tr').length")
     point(f"{browser.name}: the filter shows the blocked ones", 4, rows)
-    told = asked(browser, "judge", policy="content-security-policy: image-src a.example; script-src none 'slef'", requests="image a.example")
+    header = "content-security-policy: image-src a.example; script-src none 'slef'"
+    told = asked(browser, "judge", policy=header, requests="image a.example")
     point(f"{browser.name}: a fault is told with a hint", True, told.startswith("bad requests: request 1 url"))
     asked(browser, "judge", requests="image https://a.example/x.png")
     marks = browser.run("[...document.querySelectorAll('#judge-answer li .mark')].map(it => it.textContent.slice(0, 15))")
@@ -86,7 +88,8 @@ def compare(browser):
     point(f"{browser.name}: a stricter header, with its proof", ("No: the new headers block all that the old ones block.", True),
           (first(told), browser.text("#compare-answer pre").startswith("csp-proof 2")))
     told = asked(browser, "compare", old=read("nothing/old.txt"), fresh=read("nothing/new.txt"))
-    point(f"{browser.name}: a yes about nothing is told as one", "The old headers enforce nothing, so no headers are weaker.", first(told))
+    nothing = "The old headers enforce nothing, so no headers are weaker."
+    point(f"{browser.name}: a yes about nothing is told as one", nothing, first(told))
     told = asked(browser, "compare", old=read("weaker/old.txt"), fresh=read("weaker/new.txt"))
     point(f"{browser.name}: a weaker header", "Yes: the new headers allow something that the old ones block.", first(told))
 
@@ -111,13 +114,34 @@ def others(browser):
     point(f"{browser.name}: whether a response may be framed", ["Yes", "Yes", "No"], told)
 
 
+def newer(browser):
+    """What the page shows by commands that an older engine lacks."""
+    commands = browser.run("document.body.dataset.ready").split()
+    if "why" in commands:
+        browser.click("#tab-judge")
+        header = "content-security-policy: img-src cdn.example/img; style-src 'unsafe-inline' 'nonce-x'"
+        inline = '{"kind": "inline", "type": "style", "source": "p{}"}'
+        asked(browser, "judge", policy=header, requests=f"image https://cdn.example/img/logo.png\n{inline}")
+        why = browser.text("#judge-answer tbody")
+        told = ["would allow it: another path" in why, "would allow it: a nonce makes it void" in why]
+        point(f"{browser.name}: what nearly allows is told", [True, True], told)
+    if "differ" in commands:
+        browser.click("#tab-compare")
+        old = "Content-Security-Policy: img-src a.example; style-src 'self'"
+        asked(browser, "compare", old=old, fresh="Content-Security-Policy: img-src *; style-src 'self' 'unsafe-inline'")
+        cells = "[...document.querySelectorAll('#compare-answer tbody th')].map(it => it.textContent)"
+        told = browser.run(cells)
+        point(f"{browser.name}: each directive that became weaker", ["img-src", "style-src-attr", "style-src-elem"], told)
+
+
 def links(browser):
     browser.click("#tab-compare")
     browser.fill("#compare [name=old]", "Content-Security-Policy: img-src é")
     browser.click("#link")
     browser.wait("location.hash.length > 1")
     browser.fill("#compare [name=old]", "")
-    browser.run("void location.reload()")
+    browser.run("void (document.body.dataset.answered = 'before', location.reload())")
     browser.wait("document.body?.dataset.answered === 'all'")
-    point(f"{browser.name}: a link brings back the tab and what stood in it", ["tab-compare", "Content-Security-Policy: img-src é"],
-          [browser.run(SELECTED), browser.run("document.querySelector('#compare [name=old]').value")])
+    old = browser.run("document.querySelector('#compare [name=old]').value")
+    told = ["tab-compare", "Content-Security-Policy: img-src é"]
+    point(f"{browser.name}: a link brings back the tab and what stood in it", told, [browser.run(SELECTED), old])

@@ -61,6 +61,7 @@ def points(kind):
             came = [browser.run(f"({ASK})({json.dumps([words, files])})") for _ in range(5)]
             least = min(it for _, it in came)
             print(f"{kind.name}: {name}: {least:.0f} ms, the program {by_program:.0f} ms")
-            point(f"{kind.name}: {name} within three times the program's time", (status, True), (came[0][0], least <= 3 * by_program))
+            told = (came[0][0], least <= 3 * by_program)
+            point(f"{kind.name}: {name} within three times the program's time", (status, True), told)
     finally:
         browser.close()

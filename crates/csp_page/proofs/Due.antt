@@ -1,5 +1,5 @@
 -- What is due with a code that no want of memory gives is an answer.
-use Rattle.std.proofs.Common.{◌≡◌, ◌≢◌, ◌≤◌, ℕ, List, [], ◌∷◌, ◌++◌, map, Option, Some, None, Err, refl, sym, ap, subst}
+use Rattle.std.proofs.Common.{◌≡◌, ◌≢◌, ℕ, List, [], ◌∷◌, ◌++◌, map, Option, Some, None, Err, refl, sym, ap, subst}
 use Rattle.std.proofs.Common.{◌∙◌, arith}
 use Rattle.csp_desk.specs.declared.reporter.Kind.TheVariants.{Lines, Tally}
 use Rattle.csp_io.specs.Told.{GrewBy, Rose}
@@ -13,13 +13,16 @@ use Rattle.csp_run.specs.Due.{End, IsDue, IsEndOf, end_status, end_text}
 use Rattle.csp_run.specs.Files.{World}
 use Rattle.csp_run.specs.Words.{plan_of}
 
+no_rise : Rose 0 0 → ⊥
+no_rise rose = omega (arith, rose)
+
 -- a count that rose is that of a file that isn't there
 pub missing : (before now : Option (List ℕ)) (f g : ℕ) → now ≡ before
     → Rose (faults_with before f) (faults_with now g) → before ≡ None
 missing None now f g same rose = refl
 missing (Some bytes) now f g same rose =
     let none : faults_with now g ≡ 0 = ap (λ (o : Option (List ℕ)). faults_with o g) same in
-    absurd (subst (λ (n : ℕ). Rose 0 n → ⊥) (sym none) (λ (risen : Rose 0 0). grind arith) rose)
+    absurd (no_rise (subst (λ (n : ℕ). Rose 0 n) none rose))
 
 pub page_answer : (w : World) (desk : Desk) (words : List (List ℕ)) (end : End) (status : Status) (code : ℕ)
     (contents : List ℕ → Option (List ℕ)) (copy : List ℕ) → IsDue w desk words end

@@ -20,14 +20,14 @@ file_of file = (file.name.now, file.bytes.now)
 -- The code and the text are those of an end that the program may come to by these words, over files of these bytes, of
 -- which none that is there has failed, and with a desk of one reporter of lines and one of counts, which held nothing.
 pub record IsPageAnswer (words : List (List ℕ)) (contents : List ℕ → Option (List ℕ)) (code : ℕ) (text : List ℕ)
-  : Type 0 where
-    pub world : World
-    pub desk : Desk
-    pub end : End
-    pub files : (n : List ℕ) → world.contents n ≡ contents n
-    pub failed : (n : List ℕ) → Rose (world.faults_before n) (world.faults_now n) → contents n ≡ None
-    pub kinds : desk.kinds ≡ Lines ∷ Tally ∷ []
-    pub held : desk.held_before ≡ [] ∷ [] ∷ []
-    pub ended : IsEndOf world desk (plan_of words) end
-    pub code_is : code ≡ exit_code (end_status end)
-    pub text_is : text ≡ end_text end
+    : Type 0 where
+  pub world : World
+  pub desk : Desk
+  pub end : End
+  pub files : (n : List ℕ) → world.contents n ≡ contents n
+  pub failed : (n : List ℕ) → Rose (world.faults_before n) (world.faults_now n) → contents n ≡ None
+  pub kinds : desk.kinds ≡ Lines ∷ Tally ∷ []
+  pub held : desk.held_before ≡ [] ∷ [] ∷ []
+  pub ended : IsEndOf world desk (plan_of words) end
+  pub code_is : code ≡ exit_code (end_status end)
+  pub text_is : text ≡ end_text end
