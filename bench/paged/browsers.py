@@ -7,6 +7,7 @@ import os
 import shutil
 import socket
 import subprocess
+import sys
 import tempfile
 import time
 from pathlib import Path
@@ -247,6 +248,7 @@ PAGE = Path(os.environ.get("PAGE") or Path(__file__).resolve().parents[2] / "pag
 
 def opened(kind, page=None):
     """A browser with the page, all of whose examples are answered, and how long that took."""
+    page or os.environ.get("PAGE_URL") or PAGE.exists() or sys.exit(f"bench/page: there is no {PAGE}: page/build makes it")
     browser = kind()
     browser.look(1100, False)
     browser.open(page or os.environ.get("PAGE_URL") or PAGE.as_uri())

@@ -2,12 +2,15 @@
 
 import hashlib
 import subprocess
+import sys
 
 from recorded.trial import TOP, point
 
 
 def points():
-    lines = (TOP / "page/dist/built-of").read_text().splitlines()
+    file = TOP / "page/dist/built-of"
+    file.exists() or sys.exit("bench/page: page/dist isn't built: page/build builds it")
+    lines = file.read_text().splitlines()
     commit, kit, sums = lines[0], lines[1], [it.split("  ", 1) for it in lines[2:]]
     changed = [name for told, name in sums
                if not (TOP / name).exists() or hashlib.sha256((TOP / name).read_bytes()).hexdigest() != told]
