@@ -230,6 +230,10 @@ class Firefox(Browser):
         data = self.ask("WebDriver:TakeScreenshot", full=True)["value"]
         Path(file).write_bytes(base64.b64decode(data))
 
+    def attach(self, selector, file):
+        found = self.ask("WebDriver:FindElement", using="css selector", value=selector)["value"]
+        self.ask("WebDriver:ElementSendKeys", id=next(iter(found.values())), text=str(file))
+
     def complaints(self):
         return []
 

@@ -1,5 +1,7 @@
 """Each tab's task, by clicks and by keys."""
 
+import json
+
 from recorded.trial import TOP, point
 
 from .browsers import opened
@@ -36,6 +38,8 @@ def points(kind):
         compare(browser)
         others(browser)
         newer(browser)
+        opens(browser)
+        stops(browser)
         links(browser)
         point(f"{kind.name}: the browser complains of nothing", [], browser.complaints())
     finally:
@@ -132,6 +136,27 @@ def newer(browser):
         cells = "[...document.querySelectorAll('#compare-answer tbody th')].map(it => it.textContent)"
         told = browser.run(cells)
         point(f"{browser.name}: each directive that became weaker", ["img-src", "style-src-attr", "style-src-elem"], told)
+
+
+def opens(browser):
+    """A HAR from the disk."""
+    browser.click("#tab-judge")
+    browser.run("void (document.getElementById('judge-answer').textContent = '')")
+    browser.attach("#judge-har", TOP / "examples/har/page.har")
+    browser.wait("document.querySelector('#judge-answer details') !== null")
+    requests = json.loads(browser.run("document.getElementById('judge-requests').value"))
+    point(f"{browser.name}: a HAR becomes its requests", json.loads(read("har/requests.json")), requests)
+    told = browser.run("[document.getElementById('judge-origin').value, document.getElementById('judge-policy').value]")
+    point(f"{browser.name}: and the page's origin and headers", ["https://shop.example", read("har/policy.txt").strip()], told)
+
+
+def stops(browser):
+    """A question that is stopped, and the next one."""
+    ask = "document.querySelector('#judge form').requestSubmit()"
+    browser.run(f"void ({ask}, document.getElementById('stop').click())")
+    browser.wait("document.querySelector('#judge-answer .says')?.textContent === 'Stopped.'")
+    told = asked(browser, "judge", policy="Content-Security-Policy: img-src 'none'", requests="image https://b.example/x.png")
+    point(f"{browser.name}: after a stop the next question is answered", "1 request of 1 is blocked.", first(told))
 
 
 def links(browser):
