@@ -1,0 +1,33 @@
+-- What a page's call gives.
+use Rattle.std.specs.Prelude.{◌≡◌, ℕ, List, [], ◌∷◌, Option, None}
+use Rattle.csp_desk.specs.declared.reporter.Kind.TheVariants.{Lines, Tally}
+use Rattle.csp_io.specs.Told.{Rose}
+use Rattle.csp_output.specs.Statuses.{exit_code}
+use Rattle.csp_page.specs.declared.File.{File}
+use Rattle.csp_page.specs.declared.Word.{Word}
+use Rattle.csp_run.specs.Desk.{Desk}
+use Rattle.csp_run.specs.Due.{End, IsEndOf, end_status, end_text}
+use Rattle.csp_run.specs.Files.{World}
+use Rattle.csp_run.specs.Words.{plan_of}
+
+-- the bytes of a word, and the name and the bytes of a file
+abbrev pub word_of : Word → List ℕ
+word_of word = word.text.now
+
+abbrev pub file_of : File → List ℕ × List ℕ
+file_of file = (file.name.now, file.bytes.now)
+
+-- The code and the text are those of an end that the program may come to by these words, over files of these bytes, of
+-- which none that is there has failed, and with a desk of one reporter of lines and one of counts, which held nothing.
+pub record IsPageAnswer (words : List (List ℕ)) (contents : List ℕ → Option (List ℕ)) (code : ℕ) (text : List ℕ)
+    : Type 0 where
+  pub world : World
+  pub desk : Desk
+  pub end : End
+  pub files : (n : List ℕ) → world.contents n ≡ contents n
+  pub failed : (n : List ℕ) → Rose (world.faults_before n) (world.faults_now n) → contents n ≡ None
+  pub kinds : desk.kinds ≡ Lines ∷ Tally ∷ []
+  pub held : desk.held_before ≡ [] ∷ [] ∷ []
+  pub ended : IsEndOf world desk (plan_of words) end
+  pub code_is : code ≡ exit_code (end_status end)
+  pub text_is : text ≡ end_text end
