@@ -167,12 +167,6 @@ impl<'f> Hints<'f> {
         self.refused = Some(valuation.path().len());
     }
 
-    // Whether the atom at this place is on a pair of integrity metadata, beside one of which the path says that
-    // it is there.
-    pub(crate) fn is_further_pair(&self, place: usize) -> bool {
-        !self.integrity.is_empty() && self.overview.has_integrity_at(place)
-    }
-
     // Has the next look at that formula begin at a part that speaks of the name that the path says holds, if
     // it has one that isn't false.
     pub(crate) fn go_to_name(&mut self, valuation: &Valuation) {

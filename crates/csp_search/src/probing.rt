@@ -18,8 +18,8 @@ use csp_valuation::{Taken, Valuation};
 use std::alloc::Global;
 
 /// A valid check of the shape that the first list allows and the policy doesn't, if there is one on the
-/// branch where nothing holds that the policy waits on, and then everything that the first list waits on, but
-/// for a second pair of integrity metadata. Elsewhere there may be one that a search finds.
+/// branch where nothing holds that the policy waits on, and then everything that the first list waits on.
+/// Elsewhere there may be one that a search finds.
 pub fn probe<'a>(
     alloc: Global,
     question: Question<'a>,
@@ -50,7 +50,7 @@ pub fn probe<'a>(
             Step::Leave => return Ok(Some(check_of_branch(alloc, question, valuation)?)),
             Step::Split { place } => {
                 let atom = &atoms[place];
-                let positive = hints.is_refused(valuation) && !hints.is_further_pair(place);
+                let positive = hints.is_refused(valuation);
                 hints.split(place)?;
                 valuation.take(Taken { atom, positive });
                 if !positive {
