@@ -72,7 +72,7 @@ impl<'a> Explanation<'a> {
 
     /// The text, with the status `Found` where a request is blocked and else `Clean`. Nothing is copied.
     pub fn finish(self) -> Built
-        ensures { result ≡ spec.built_of self }
+        ensures { result ≡ spec.built_of self.entry }
     {
         let Explanation { text, blocked, .. } = self;
         Built {
