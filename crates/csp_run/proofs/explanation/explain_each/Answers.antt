@@ -15,7 +15,7 @@ requests-preserved c =
     rw c.in-Some.is at c.in_ok-request.ensures.description in
     let fewer : l.requests.limit ≡ c.next.new.self.limit + 1 =
     rw c.in-Some.is at c.in_ok-request.ensures.limit in
-    let more = c.in_ok-push-in-Ok.ensures in
+    let more = c.in_ok-push-in-Ok.ensures.explained in
     record {
       output = l.invariant.output
           ∙ explained_next l.explanation c.push.new.self (l.number + 1) (view c.in-Some.request) (still l.requests)
