@@ -33,7 +33,9 @@ def main(folder, module, to, version):
     page = page.replace('<span id="version"></span>', f'<span id="version">{html.escape(version)}</span>')
     page = SCRIPT.sub("", page).replace('<link rel="stylesheet" href="page.css">', f"<style>{style}</style>")
     page = page.replace("</html>", f"<script>{script}</script>\n</html>")
-    page = page.replace("script-src 'self'", f"script-src {told(script)}").replace("style-src 'self'", f"style-src {told(style)}")
+    policy = re.search('http-equiv="Content-Security-Policy" content="([^"]*)"', page).group(1)
+    own = policy.replace("script-src 'self'", f"script-src {told(script)}").replace("style-src 'self'", f"style-src {told(style)}")
+    page = page.replace(policy, own, 1)
     Path(to).write_text(page, encoding="utf-8")
 
 

@@ -158,9 +158,11 @@ const TASKS = {
 };
 
 // The worker: it loads the engine, and does a task for each message.
+// A message that comes while the engine is compiled waits for it.
 const work = async bytes => {
-  const module = await WebAssembly.compile(bytes), ask = (words, files) => call(module, words, files);
-  self.onmessage = ({ data: { id, task, given } }) => {
+  const asking = WebAssembly.compile(bytes).then(module => (words, files) => call(module, words, files));
+  self.onmessage = async ({ data: { id, task, given } }) => {
+    const ask = await asking;
     const tell = (done, all) => self.postMessage({ id, done, all });
     const began = performance.now();
     try {
@@ -169,6 +171,7 @@ const work = async bytes => {
       self.postMessage({ id, refused: error instanceof Refused, text: error.message });
     }
   };
+  const ask = await asking;
   self.postMessage({ ready: true, commands: {
     why: hasCommand(ask, ['why', 'null', 'p', 'r'], [['p', ''], ['r', '[]']]),
     differ: hasCommand(ask, ['differ', 'null', 'p', 'q'], [['p', ''], ['q', '']]),
