@@ -41,7 +41,7 @@ const texts = (text, ...buttons) => [el('pre', { tabIndex: 0 }, text), el('div',
 // What a request is, in two words and its URL or its code
 const requestCell = request => {
   const { what, of, also } = describe(request), short = of.length > 300 ? `${of.slice(0, 300)}…` : of;
-  return [what, ' ', short === '' ? '' : code(short), also ? ` ${also}` : ''];
+  return [what, short === '' ? '' : [' ', code(short)], also ? ` ${also}` : ''];
 };
 const askedIn = ({ request, url }) => url === null ? requestCell(request)
   : [describe(request).what, ' ', code(url), describe(request).also ? ` ${describe(request).also}` : ''];
