@@ -9,13 +9,14 @@ const WORDS: [&str; 4] = ["why", "https://a.example", "p", "r"];
 const RUNS: [(&str, &str, Status, &str); 9] = [
     ("", "[]", Status::Clean, ""),
     (
-        "Content-Security-Policy: default-src 'self' https://b.example:8443 http://b.example",
+        "Content-Security-Policy: default-src 'self' https://b.example:8443 ftp://b.example",
         IMAGE,
         Status::Found,
         "1 blocked 0:enforce:img-src/default-src\n\
          \x20 url https://b.example/x.png\n\
          \x20 0 default-src blocks\n\
-         \x20   https://b.example:8443 port\n",
+         \x20   https://b.example:8443 port\n\
+         \x20   ftp://b.example scheme\n",
     ),
     // Each policy in order; the second says nothing of images.
     (
