@@ -73,7 +73,7 @@ const RUNS: [(&str, &str, Status, &str); 9] = [
         "bad requests: not a JSON array\n",
     ),
     (
-        "Content-Security-Policy: img-src é",
+        "default-src 'self'",
         "{}",
         Status::BadPolicy,
         "bad policy: policy line 1\n",
