@@ -39,7 +39,8 @@ use Rattle.csp_compare.specs.declared.task.Task.{Task}
 abbrev pub effective_names : List Name
 effective_names =
     BaseUri ∷ ConnectSrc ∷ FontSrc ∷ FormAction ∷ FrameAncestors ∷ FrameSrc ∷ ImgSrc ∷ ManifestSrc ∷ MediaSrc
-    ∷ ObjectSrc ∷ Sandbox ∷ ScriptSrc ∷ ScriptSrcAttr ∷ ScriptSrcElem ∷ StyleSrcAttr ∷ StyleSrcElem ∷ WorkerSrc ∷ []
+    ∷ ObjectSrc ∷ Sandbox ∷ ScriptSrc ∷ ScriptSrcAttr ∷ ScriptSrcElem ∷ StyleSrcAttr ∷ StyleSrcElem
+    ∷ WorkerSrc ∷ []
 
 -- every valid check with one of these effective directives that the first list allows the second allows
 abbrev pub SubsumesAmong : List Name → PolicyList → PolicyList → Type 0
@@ -73,8 +74,8 @@ IsBefore one other = slice_cmp nat_cmp (name_text one) (name_text other) ≡ Les
 abbrev pub directives_of : List Difference → List Name
 directives_of entries = map (λ (entry : Difference). entry.directive) entries
 
--- An entry for each effective directive under which the first list allows a check that the second doesn't, with
--- such a check, in the order of the directives' names.
+-- An entry for each effective directive under which the first list allows a check that the second doesn't,
+-- with such a check, in the order of the directives' names.
 pub record AreDifferences (first second : PolicyList) (entries : List Difference) : Type 0 where
   pub shown : All (ShowsDifference first second) entries
   pub complete : (asked : Check) → IsCounterexample first second asked

@@ -85,8 +85,8 @@ fn compare_task<'a>(
     Ok(Answer::Subsumed { proof })
 }
 
-// The check that a person would think of where a look at the shapes from this number on finds one, in place of
-// one that was come upon.
+// The check that a person would think of where a look at the shapes from this number on finds one, in place
+// of one that was come upon.
 fn natural_check<'a>(
     alloc: Global,
     task: Task<'a>,

@@ -39,8 +39,8 @@ pub fn find_difference(
     find_difference_among(alloc, first, second, effective_directives())
 }
 
-/// The effective directives that checks have (Content Security Policy Level 3, sections 6.8.1 and 6.8.2), each
-/// once, in the order of their names.
+/// The effective directives that checks have (Content Security Policy Level 3, sections 6.8.1 and 6.8.2),
+/// each once, in the order of their names.
 pub fn effective_directives() -> &'static [Name]
     ensures { result.now ≡ spec.effective_names }
 {
@@ -88,7 +88,8 @@ pub fn find_difference_among(
     find_by_table(alloc, task, &table, effective, &mut BTreeMap::new(alloc))
 }
 
-// The same by the formulas of both lists, of which something may be known. A short look finds most differences.
+// The same by the formulas of both lists, of which something may be known. A short look finds most
+// differences.
 pub(crate) fn find_by_table<'a>(
     alloc: Global,
     task: Task<'a>,

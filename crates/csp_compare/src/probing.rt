@@ -76,7 +76,8 @@ fn probe_shape<'a>(
     probe_policies(alloc, task, shape, formulas)
 }
 
-// The same by these formulas.
+// A check of this shape that the first list allows and the second doesn't, if probing these formulas finds
+// one.
 fn probe_policies<'a>(
     alloc: Global,
     task: Task<'a>,

@@ -1,6 +1,6 @@
 use Rattle.std.proofs.Common.{◌≡◌}
 use Rattle.csp_search.specs.Branches.{IsBranch}
-use Rattle.csp_search.proofs.probing.probe.Given as goal
+use Rattle.csp_search.proofs.probing.probe_branch.Given as goal
 
 abbrev pub invariant-loop : goal.invariant-loop
 invariant-loop l = record {

@@ -1,7 +1,7 @@
 use Rattle.std.proofs.Common.{◌≡◌, ◌<◌, arith, refl, true, get_or, length}
 use Rattle.csp_search.proofs.Opens.{open_fewer}
 use Rattle.csp_search.proofs.Trees.{branch_with, open_here, open_within, root}
-use Rattle.csp_search.proofs.probing.probe.Goals as goal
+use Rattle.csp_search.proofs.probing.probe_branch.Goals as goal
 
 pub loop-init : goal.loop-init
 loop-init c =
@@ -43,5 +43,5 @@ loop-preserved c =
     record {
       atoms = rw c.take.ensures c.loop.invariant.atoms;
       room = rw c.take.ensures c.loop.invariant.room;
-      branch = rw c.take.ensures (branch_with atoms ls c.in-Split.place a c.is_refused-positive.result c.loop.invariant.branch there.0 there.1);
+      branch = rw c.take.ensures (branch_with atoms ls c.in-Split.place a c.lets_hold-positive.result c.loop.invariant.branch there.0 there.1);
     }
