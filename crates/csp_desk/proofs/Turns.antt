@@ -1,12 +1,12 @@
 -- One reporter takes its turn, and one violation takes its turn.
-use Rattle.std.proofs.Common.{◌≡◌, ℕ, ◌+◌, ◌-◌, ◌<◌, ◌≤◌, ◌∷◌, ◌++◌, [], List, map, length, get_or, set, take, drop, sym, ◌∙◌, ap, subst, arith}
+use Rattle.std.proofs.Common.{◌≡◌, ℕ, Bool, true, false, ◌+◌, ◌-◌, ◌<◌, ◌≤◌, ◌∷◌, ◌++◌, [], List, map, length, get_or, set, take, drop, sym, ◌∙◌, ap, subst, arith}
 use Rattle.std.proofs.lemmas.Grind.{common_steps}
 use Rattle.std.proofs.lemmas.List.{map-set, take_more, take-append-drop, length-map, get_or-map, get_or-set_same}
 use Rattle.std.proofs.lemmas.List.Edits.{map_over_more}
 use Rattle.std.proofs.Math.Seq.{map-set_same, take-append_seam}
 use Rattle.std.specs.Prelude.{slice_index}
 use Rattle.csp_io.specs.Told.{Rose}
-use Rattle.csp_desk.specs.Growth.{NoneFell, all_grown, part_way, StopsAt}
+use Rattle.csp_desk.specs.Growth.{NoneFell, all_grown, part_way, MayRefuse, StopsAt}
 use Rattle.csp_desk.specs.declared.desk.DeskError.{DeskError}
 use Rattle.csp_desk.specs.declared.desk.DeskError.TheVariants.{Refused}
 use Rattle.csp_desk.proofs.GrowthLaws.{Rose-earlier, all_grown-nil, all_grown-then, StopsAt-front, StopsAt-then}
@@ -59,6 +59,19 @@ Rose-turn faults before now i y d later below rose =
     let was : get_or (map faults now) i 0 ≡ faults (get_or now i d) = get_or-map faults now i d 0 below in
     let first : get_or (map faults before) i 0 ≤ faults (get_or now i d) = rw (← was) (later i) in
     rw (map-set faults now i y, get_or-set_same (map faults now) i (faults y) 0 len) (Rose-earlier _ _ _ first rose)
+
+-- it refused, and is one that may
+pub MayRefuse-turn : {A : Type 0} (may : A → Bool) (before now : List A) (i : ℕ) (d : A)
+    → map may now ≡ map may before → i < length now → may (get_or now i d) ≡ true
+    → MayRefuse (map may before) (Refused (i + 1))
+MayRefuse-turn may before now i d same below is =
+    let e : i + 1 - 1 ≡ i = omega arith in
+    rw e (ap (λ l. get_or l i false) (sym same) ∙ get_or-map may now i d false below ∙ is)
+
+-- of two lists that are the same, as reporters take their turns
+pub MayRefuse-same : (e : DeskError) (before now : List Bool) → now ≡ before → MayRefuse now e
+    → MayRefuse before e
+MayRefuse-same e before now same may = subst (λ (l : List Bool). MayRefuse l e) same may
 
 -- the one after i others refused
 pub StopsAt-refused : {V : Type 0} (items : List V) (turn i : ℕ) (before now : List (List V))

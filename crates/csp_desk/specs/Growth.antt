@@ -1,8 +1,14 @@
 -- How what reporters hold, and their counts of faults, change as violations are handed out.
 use Rattle.std.specs.Prelude.{◌≡◌, ℕ, ◌+◌, ◌-◌, ◌<◌, ◌≤◌, ◌++◌, List, map, take, drop, length, slice_index}
+use Rattle.std.specs.Prelude.{Bool, false, get_or, IsTrue}
 use Rattle.csp_io.specs.Told.{Rose}
 use Rattle.csp_desk.specs.declared.desk.DeskError.{DeskError}
 use Rattle.csp_desk.specs.declared.desk.DeskError.TheVariants.{Refused, Memory}
+
+-- a refusal names a reporter that may refuse, counted from 1 in this list of which reporters may
+abbrev pub MayRefuse : List Bool → DeskError → Type 0
+MayRefuse may (Refused reporter) = IsTrue (get_or may (reporter - 1) false)
+MayRefuse may Memory = Unit {0}
 
 -- no count of a list fell
 abbrev pub NoneFell : List ℕ → List ℕ → Type 0

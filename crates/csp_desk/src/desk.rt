@@ -1,8 +1,9 @@
 //! A desk of reporters.
-ghost use Rattle.std.specs.Prelude.{◌≡◌, ◌<◌, ◌≤◌, ◌^◌, ◌∷◌, ◌++◌, [], length, map, OnOk, OnErr, IfOk, IfErr, IsErrOf};
+ghost use Rattle.std.specs.Prelude.{◌≡◌, ◌<◌, ◌≤◌, ◌^◌, ◌∷◌, ◌++◌, [], length, map, OnOk, OnErr, IfOk, IfErr};
+ghost use Rattle.std.specs.Prelude.{IsErrOf, IsTrue};
 ghost use Rattle.std.specs.List.{flat_map};
 ghost use Rattle.csp_io.specs.Told.{Rose};
-ghost use Rattle.csp_desk.specs.Growth.{NoneFell, all_grown, StopsAt};
+ghost use Rattle.csp_desk.specs.Growth.{NoneFell, all_grown, MayRefuse, StopsAt};
 ghost use Rattle.csp_desk.specs.Tellings.{section_text, telling_text};
 ghost use Rattle.csp_desk.specs.Texts as spec;
 
@@ -15,7 +16,8 @@ use thiserror::Error;
 /// Why not all violations were handed out.
 #[derive(Clone, Copy, Debug, PartialEq, Eq, Error)]
 pub enum DeskError {
-    /// The reporter of this number, counted from 1, refused one, and its count of faults rose.
+    /// The reporter of this number, counted from 1, is one that may refuse. It refused one, and its count of
+    /// faults rose.
     #[error("reporter {reporter} refused a violation")]
     Refused { reporter: u32 },
 
@@ -30,9 +32,11 @@ fn accept_by(
     violation: &Violation,
 ) -> Result<(), AcceptError>
     ensures same_kind { kind reporter.new ≡ kind reporter.old }
+    ensures same_may_refuse { may_refuse reporter.new ≡ may_refuse reporter.old }
     ensures later { faults reporter.old ≤ faults reporter.new }
     ensures took { OnOk result (held reporter.new ≡ held reporter.old ++ violation.now ∷ []) }
     ensures refused { OnErr result (held reporter.new ≡ held reporter.old) }
+    ensures may { IsErrOf result AcceptError.Refused → IsTrue (may_refuse reporter.old) }
     ensures cause { IsErrOf result AcceptError.Refused → Rose (faults reporter.old) (faults reporter.new) }
 {
     reporter.accept(alloc, violation)
@@ -46,9 +50,11 @@ fn hand_each(
 ) -> Result<(), DeskError>
     requires { length desk.old < 2 ^ 32 }
     ensures same_kinds { map (λ b. kind b) desk.new ≡ map (λ b. kind b) desk.old }
+    ensures same_may_refuse { map (λ b. may_refuse b) desk.new ≡ map (λ b. may_refuse b) desk.old }
     ensures later { NoneFell (map (λ b. faults b) desk.old) (map (λ b. faults b) desk.new) }
     ensures took { OnOk result (map (λ b. held b) desk.new
         ≡ all_grown (violation.now ∷ []) (map (λ b. held b) desk.old)) }
+    ensures may { IfErr result (λ e. MayRefuse (map (λ b. may_refuse b) desk.old) e) }
     ensures stopped { IfErr result (λ e. StopsAt e (violation.now ∷ [])
         (map (λ b. held b) desk.old) (map (λ b. held b) desk.new)
         (map (λ b. faults b) desk.old) (map (λ b. faults b) desk.new)) }
@@ -77,9 +83,12 @@ pub fn hand_out(
 ) -> Result<(), DeskError>
     requires { length desk.old.items < 2 ^ 32 }
     ensures same_kinds { map (λ b. kind b) desk.new.items ≡ map (λ b. kind b) desk.old.items }
+    ensures same_may_refuse { map (λ b. may_refuse b) desk.new.items
+        ≡ map (λ b. may_refuse b) desk.old.items }
     ensures later { NoneFell (map (λ b. faults b) desk.old.items) (map (λ b. faults b) desk.new.items) }
     ensures took { OnOk result (map (λ b. held b) desk.new.items
         ≡ all_grown violations.now (map (λ b. held b) desk.old.items)) }
+    ensures may { IfErr result (λ e. MayRefuse (map (λ b. may_refuse b) desk.old.items) e) }
     ensures stopped { IfErr result (λ e. StopsAt e violations.now
         (map (λ b. held b) desk.old.items) (map (λ b. held b) desk.new.items)
         (map (λ b. faults b) desk.old.items) (map (λ b. faults b) desk.new.items)) }

@@ -1,5 +1,5 @@
 //! A reporter that is told when to refuse.
-ghost use Rattle.std.specs.Prelude.{◌≡◌, ◌↔◌, ◌≤◌, ◌∷◌, ◌++◌, [], OnOk, OnErr, IsErrOf, Contains};
+ghost use Rattle.std.specs.Prelude.{◌≡◌, ◌↔◌, ◌≤◌, ◌∷◌, ◌++◌, [], true, OnOk, OnErr, IsErrOf, Contains};
 ghost use Rattle.csp_io.specs.Told.{Rose};
 ghost use Rattle.csp_desk.specs.declared.reporter.Kind.TheVariants as kinds;
 
@@ -27,6 +27,7 @@ impl FailingLines {
         ensures kind { ⟦<FailingLines as Reporter>⟧.kind result ≡ kinds.Lines }
         ensures held { ⟦<FailingLines as Reporter>⟧.held result ≡ [] }
         ensures faults { ⟦<FailingLines as Reporter>⟧.faults result ≡ 0 }
+        ensures may_refuse { ⟦<FailingLines as Reporter>⟧.may_refuse result ≡ true }
         ensures failing { failing_calls result ≡ failing }
         ensures next { next_call result ≡ 0 }
     {
@@ -48,6 +49,8 @@ impl Reporter for FailingLines {
     ghost held = { failing_held };
 
     ghost faults = { failing_faults };
+
+    ghost may_refuse = { λ _. true };
 
     fn kind(&self) -> Kind {
         Kind::Lines

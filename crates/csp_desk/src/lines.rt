@@ -1,5 +1,5 @@
 //! A reporter that prints a report a line.
-ghost use Rattle.std.specs.Prelude.{◌≡◌, ◌∷◌, ◌++◌, [], OnOk, OnErr, IsErrOf};
+ghost use Rattle.std.specs.Prelude.{◌≡◌, ◌∷◌, ◌++◌, [], false, OnOk, OnErr, IsErrOf};
 ghost use Rattle.csp_desk.specs.declared.reporter.Kind.TheVariants as kinds;
 
 use crate::history::History;
@@ -39,6 +39,7 @@ impl Lines {
         ensures kind { ⟦<Lines as Reporter>⟧.kind result ≡ kinds.Lines }
         ensures held { ⟦<Lines as Reporter>⟧.held result ≡ [] }
         ensures faults { ⟦<Lines as Reporter>⟧.faults result ≡ 0 }
+        ensures may_refuse { ⟦<Lines as Reporter>⟧.may_refuse result ≡ false }
     {
         Lines {
             text: Weave::new(alloc),
@@ -63,6 +64,8 @@ impl Reporter for Lines {
     ghost held = { λ s. s };
 
     ghost faults = { λ _. 0 };
+
+    ghost may_refuse = { λ _. false };
 
     fn kind(&self) -> Kind {
         Kind::Lines

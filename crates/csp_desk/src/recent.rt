@@ -1,5 +1,5 @@
 //! A reporter that prints the last reports.
-ghost use Rattle.std.specs.Prelude.{◌≡◌, ◌∷◌, ◌++◌, [], OnOk, OnErr, IsErrOf};
+ghost use Rattle.std.specs.Prelude.{◌≡◌, ◌∷◌, ◌++◌, [], false, OnOk, OnErr, IsErrOf};
 ghost use Rattle.csp_desk.specs.declared.reporter.Kind.TheVariants as kinds;
 
 use crate::history::History;
@@ -38,6 +38,7 @@ impl Recent {
         ensures kind { ⟦<Recent as Reporter>⟧.kind result ≡ kinds.Recent limit }
         ensures held { ⟦<Recent as Reporter>⟧.held result ≡ [] }
         ensures faults { ⟦<Recent as Reporter>⟧.faults result ≡ 0 }
+        ensures may_refuse { ⟦<Recent as Reporter>⟧.may_refuse result ≡ false }
     {
         Recent {
             latest: VecDeque::new(alloc),
@@ -73,6 +74,8 @@ impl Reporter for Recent {
     ghost held = { λ r. r.held };
 
     ghost faults = { λ _. 0 };
+
+    ghost may_refuse = { λ _. false };
 
     fn kind(&self) -> Kind {
         Kind::Recent { limit: self.limit }

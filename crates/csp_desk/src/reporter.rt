@@ -1,5 +1,6 @@
 //! What takes violations.
-ghost use Rattle.std.specs.Prelude.{◌≡◌, ◌≤◌, ◌∷◌, ◌++◌, [], ℕ, List as Items, OnOk, OnErr, IfOk, IsErrOf};
+ghost use Rattle.std.specs.Prelude.{◌≡◌, ◌≤◌, ◌∷◌, ◌++◌, [], ℕ, Bool, List as Items, OnOk, OnErr, IfOk};
+ghost use Rattle.std.specs.Prelude.{IsErrOf, IsTrue};
 ghost use Rattle.csp_io.specs.Told.{Rose};
 ghost use Rattle.csp_model.specs.declared.verdict.Violation.{Violation as ViolationValue};
 ghost use Rattle.csp_desk.specs.declared.reporter.AcceptError.TheVariants as accept_error;
@@ -59,18 +60,24 @@ pub trait Reporter: Drop {
     /// How often it has refused one. It never falls.
     ghost faults: { Self → ℕ };
 
+    /// Whether it may refuse one at all, which no call changes.
+    ghost may_refuse: { Self → Bool };
+
     /// Its kind.
     fn kind(&self) -> Kind
         ensures { result ≡ kind self.now };
 
     /// Takes a violation, behind those that it holds.
     ///
-    /// It answers `Refused` only where the count of faults rose. After either error it holds what it held.
+    /// It answers `Refused` only if it is one that may, and only where the count of faults rose. After either
+    /// error it holds what it held.
     fn accept(&mut self, alloc: Global, violation: &Violation) -> Result<(), AcceptError>
         ensures same_kind { kind self.new ≡ kind self.old }
+        ensures same_may_refuse { may_refuse self.new ≡ may_refuse self.old }
         ensures later { faults self.old ≤ faults self.new }
         ensures took { OnOk result (held self.new ≡ held self.old ++ violation.now ∷ []) }
         ensures refused { OnErr result (held self.new ≡ held self.old) }
+        ensures may { IsErrOf result AcceptError.Refused → IsTrue (may_refuse self.old) }
         ensures cause { IsErrOf result AcceptError.Refused → Rose (faults self.old) (faults self.new) };
 
     /// What a reporter of its kind tells of what it holds.

@@ -1,5 +1,5 @@
 //! A reporter that prints a count a directive.
-ghost use Rattle.std.specs.Prelude.{◌≡◌, ◌∷◌, ◌++◌, [], OnOk, OnErr, IsErrOf};
+ghost use Rattle.std.specs.Prelude.{◌≡◌, ◌∷◌, ◌++◌, [], false, OnOk, OnErr, IsErrOf};
 ghost use Rattle.csp_desk.specs.declared.reporter.Kind.TheVariants as kinds;
 
 use crate::counts::{count, counts_text};
@@ -39,6 +39,7 @@ impl Tally {
         ensures kind { ⟦<Tally as Reporter>⟧.kind result ≡ kinds.Tally }
         ensures held { ⟦<Tally as Reporter>⟧.held result ≡ [] }
         ensures faults { ⟦<Tally as Reporter>⟧.faults result ≡ 0 }
+        ensures may_refuse { ⟦<Tally as Reporter>⟧.may_refuse result ≡ false }
     {
         Tally {
             counts: [0; 20],
@@ -63,6 +64,8 @@ impl Reporter for Tally {
     ghost held = { λ s. s };
 
     ghost faults = { λ _. 0 };
+
+    ghost may_refuse = { λ _. false };
 
     fn kind(&self) -> Kind {
         Kind::Tally

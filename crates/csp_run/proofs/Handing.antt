@@ -1,11 +1,11 @@
 -- The violations of requests, of which some have been handed out.
-use Rattle.std.proofs.Common.{◌≡◌, ◌≢◌, ◌<◌, ◌+◌, ◌++◌, ℕ, List, length, take, drop, get_or, Result, Err}
+use Rattle.std.proofs.Common.{◌≡◌, ◌≢◌, ◌<◌, ◌+◌, ◌++◌, ℕ, Bool, List, length, take, drop, get_or, Result, Err}
 use Rattle.std.proofs.Common.{refl, sym, ap, ◌∙◌, subst, arith}
 use Rattle.std.proofs.lemmas.Grind.{common_steps}
 use Rattle.std.proofs.lemmas.List.{take-append-drop}
 use Rattle.std.proofs.lemmas.List.Concat.{flat_map-append}
 use Rattle.std.specs.List.{flat_map}
-use Rattle.csp_desk.specs.Growth.{NoneFell, all_grown, GrewInPart, StopsAt}
+use Rattle.csp_desk.specs.Growth.{NoneFell, all_grown, GrewInPart, MayRefuse, StopsAt}
 use Rattle.csp_desk.specs.declared.desk.DeskError.{DeskError}
 use Rattle.csp_desk.specs.declared.desk.DeskError.TheVariants.{Refused, Memory}
 use Rattle.csp_desk.proofs.GrowthLaws.{all_grown-append, GrewInPart-all, GrewInPart-front, GrewInPart-StopsAt, StopsAt-append, StopsAt-front}
@@ -59,17 +59,20 @@ taken_so_far f requests place before now took =
 -- Where handing out stops
 
 has_stopped : (e : DeskError) (all : List Violation) (d : Desk)
-    → StopsAt e all d.held_before d.held_now d.faults_before d.faults_now → HasStopped e all d
-has_stopped (Refused reporter) all d stops = stops
-has_stopped Memory all d stops = GrewInPart-StopsAt Memory all d.held_before d.held_now d.faults_before d.faults_now stops
+    → StopsAt e all d.held_before d.held_now d.faults_before d.faults_now → MayRefuse d.may_refuse e
+    → HasStopped e all d
+has_stopped (Refused reporter) all d stops may = (stops, may)
+has_stopped Memory all d stops may = GrewInPart-StopsAt Memory all d.held_before d.held_now d.faults_before d.faults_now stops
 
 -- it stopped at the violations of one request, those before which each reporter took
 pub stopped_at : {R : Type 0} (f : R → List Violation) (requests : List R) (place : ℕ) (r : R) (e : DeskError)
-    (d : Desk) (between : List (List Violation)) (counts : List ℕ)
+    (d : Desk) (between : List (List Violation)) (counts : List ℕ) (refusing : List Bool)
     → place < length requests → r ≡ get_or requests place r
     → between ≡ all_grown (flat_map f (take place requests)) d.held_before → NoneFell d.faults_before counts
-    → StopsAt e (f r) between d.held_now counts d.faults_now → HasStopped e (flat_map f requests) d
-stopped_at f requests place r e d between counts within is took later stops =
+    → refusing ≡ d.may_refuse
+    → StopsAt e (f r) between d.held_now counts d.faults_now → MayRefuse refusing e
+    → HasStopped e (flat_map f requests) d
+stopped_at f requests place r e d between counts refusing within is took later same stops may =
     let first = flat_map f (take place requests) in
     let here : StopsAt e (f r) (all_grown first d.held_before) d.held_now counts d.faults_now =
     subst (λ (lists : List (List Violation)). StopsAt e (f r) lists d.held_now counts d.faults_now) took stops in
@@ -82,6 +85,7 @@ stopped_at f requests place r e d between counts within is took later stops =
     (StopsAt-front e (flat_map f (take (place + 1) requests)) (flat_map f (drop (place + 1) requests))
     d.held_before d.held_now d.faults_before d.faults_now
     (subst P (one_more f requests place r within is) behind)))
+    (subst (λ (l : List Bool). MayRefuse l e) same may)
 
 -- The end of a report
 
@@ -94,5 +98,5 @@ stopped_end Memory all d stopped real = absurd (real refl)
 pub stopped_part : (e : DeskError) (all : List Violation) (d : Desk) → HasStopped e all d
     → GrewInPart all d.held_before d.held_now
 stopped_part (Refused reporter) all d stopped =
-    GrewInPart-StopsAt (Refused reporter) all d.held_before d.held_now d.faults_before d.faults_now stopped
+    GrewInPart-StopsAt (Refused reporter) all d.held_before d.held_now d.faults_before d.faults_now stopped.0
 stopped_part Memory all d stopped = stopped

@@ -1,21 +1,24 @@
 -- What a call does to the desk that is lent to it.
-use Rattle.std.specs.Prelude.{◌≡◌, ℕ, List, [], map, slice_index}
+use Rattle.std.specs.Prelude.{◌≡◌, ℕ, Bool, List, [], map, slice_index}
 use Rattle.csp_io.specs.Told.{Rose}
 use Rattle.csp_desk.specs.declared.reporter.Kind.{Kind}
 use Rattle.csp_model.specs.declared.verdict.Violation.{Violation}
 
--- what a call knows of the reporters of a desk, in order: their kinds, what each held before the call and
--- holds now, and their counts of faults
+-- what a call knows of the reporters of a desk, in order: their kinds, which of them may refuse a violation,
+-- what each held before the call and holds now, and their counts of faults
 pub record Desk : Type 0 where
   pub kinds : List Kind
+  pub may_refuse : List Bool
   pub held_before : List (List Violation)
   pub held_now : List (List Violation)
   pub faults_before : List ℕ
   pub faults_now : List ℕ
 
-abbrev pub desk : {R : Type 0} → (R → Kind) → (R → List Violation) → (R → ℕ) → List R → List R → Desk
-desk kind held faults old new = record {
+abbrev pub desk : {R : Type 0} → (R → Kind) → (R → Bool) → (R → List Violation) → (R → ℕ) → List R → List R
+    → Desk
+desk kind may_refuse held faults old new = record {
   kinds = map kind old;
+  may_refuse = map may_refuse old;
   held_before = map held old;
   held_now = map held new;
   faults_before = map faults old;

@@ -1,7 +1,7 @@
 -- What `report` does and prints.
 use Rattle.std.specs.Prelude.{◌≡◌, List, Result, Ok, Err}
 use Rattle.std.specs.List.{flat_map}
-use Rattle.csp_desk.specs.Growth.{all_grown, StopsAt}
+use Rattle.csp_desk.specs.Growth.{all_grown, MayRefuse, StopsAt}
 use Rattle.csp_desk.specs.Texts.{desk_text}
 use Rattle.csp_desk.specs.declared.desk.DeskError.TheVariants.{Refused}
 use Rattle.csp_model.specs.Verdict.{violations_of}
@@ -30,9 +30,10 @@ abbrev pub report_of : Desk → List Violation → Built
 report_of desk all = record { status = Clean; text = desk_text desk.kinds (all_grown all desk.held_before) }
 
 -- What ends the handing out of violations: each reporter took all of them, and the text of the desk is
--- printed. Or one refused a violation, and nothing was handed out behind it.
+-- printed. Or one that may refuse refused a violation, and nothing was handed out behind it.
 abbrev pub IsReport : List Violation → Desk → Result Built Fault → Type 0
 IsReport all desk (Ok built) = (built ≡ report_of desk all) × (desk.held_now ≡ all_grown all desk.held_before)
 IsReport all desk (Err (fault.Refused reporter)) =
     StopsAt (Refused reporter) all desk.held_before desk.held_now desk.faults_before desk.faults_now
+    × MayRefuse desk.may_refuse (Refused reporter)
 IsReport all desk (Err f) = ⊥

@@ -5,7 +5,7 @@ use Rattle.std.specs.Prelude.{◌≡◌, ℕ, ◌≤◌, ⊤, Bool, true, false,
 use Rattle.serde_json.specs.Data.{Data}
 use Rattle.std.specs.List.{flat_map, list_all}
 use Rattle.csp_embed.specs.Decisions.{alone}
-use Rattle.csp_desk.specs.Growth.{GrewInPart, StopsAt}
+use Rattle.csp_desk.specs.Growth.{GrewInPart, MayRefuse, StopsAt}
 use Rattle.csp_desk.specs.Tellings.{section_text}
 use Rattle.csp_desk.specs.Texts.{desk_text}
 use Rattle.csp_desk.specs.declared.reporter.Kind.{Kind}
@@ -135,6 +135,7 @@ origin_fault origin_error.Memory = fault.Memory
 abbrev pub HasStopped : DeskError → List Violation → Desk → Type 0
 HasStopped (Refused reporter) all desk =
     StopsAt (Refused reporter) all desk.held_before desk.held_now desk.faults_before desk.faults_now
+    × MayRefuse desk.may_refuse (Refused reporter)
 HasStopped Memory all desk = GrewInPart all desk.held_before desk.held_now
 
 -- what descriptions stand for, with the digests of the wanted algorithms alone, or why their file is refused

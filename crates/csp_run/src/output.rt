@@ -49,12 +49,16 @@ pub(crate) fn output(
     requires fits { IsTrue (fits plan.now.form contents.now) }
     requires sound { All IsSound contents.now }
     requires few { length desk.old.items < 2 ^ 32 }
-    ensures end { let d = lent (λ b. kind b) (λ b. held b) (λ b. faults b) desk.old.items desk.new.items in
+    ensures end { let d = lent (λ b. kind b) (λ b. may_refuse b) (λ b. held b) (λ b. faults b)
+        desk.old.items desk.new.items in
         result ≢ Err Fault.Memory → IsOutput plan.now.form plan.now.origin (Ok contents.now) d
         (end_of d.kinds d.held_now result) }
-    ensures grown { let d = lent (λ b. kind b) (λ b. held b) (λ b. faults b) desk.old.items desk.new.items in
+    ensures grown { let d = lent (λ b. kind b) (λ b. may_refuse b) (λ b. held b) (λ b. faults b)
+        desk.old.items desk.new.items in
         IsUntouched d ⊎ GrewOn plan.now.form contents.now d }
     ensures kinds { map (λ b. kind b) desk.new.items ≡ map (λ b. kind b) desk.old.items }
+    ensures may_refuse { map (λ b. may_refuse b) desk.new.items
+        ≡ map (λ b. may_refuse b) desk.old.items }
     ensures later { NoneFell (map (λ b. faults b) desk.old.items) (map (λ b. faults b) desk.new.items) }
 {
     match (&plan.form, contents) {

@@ -32,13 +32,17 @@ pub(crate) fn report(
 ) -> Result<Outcome, Fault>
     requires readable { IsReadable list.now }
     requires few { length desk.old.items < 2 ^ 32 }
-    ensures end { let d = lent (λ b. kind b) (λ b. held b) (λ b. faults b) desk.old.items desk.new.items in
+    ensures end { let d = lent (λ b. kind b) (λ b. may_refuse b) (λ b. held b) (λ b. faults b)
+        desk.old.items desk.new.items in
         result ≢ Err Fault.Memory → IsReportOn (violations_in list.now (requests_of bytes.now)) d
         (end_of d.kinds d.held_now result) }
-    ensures grown { let d = lent (λ b. kind b) (λ b. held b) (λ b. faults b) desk.old.items desk.new.items in
+    ensures grown { let d = lent (λ b. kind b) (λ b. may_refuse b) (λ b. held b) (λ b. faults b)
+        desk.old.items desk.new.items in
         IsUntouched d ⊎ ((all : Items Violation) × (violations_in list.now (requests_of bytes.now) ≡ Ok all)
         × GrewInPart all d.held_before d.held_now) }
     ensures kinds { map (λ b. kind b) desk.new.items ≡ map (λ b. kind b) desk.old.items }
+    ensures may_refuse { map (λ b. may_refuse b) desk.new.items
+        ≡ map (λ b. may_refuse b) desk.old.items }
     ensures later { NoneFell (map (λ b. faults b) desk.old.items) (map (λ b. faults b) desk.new.items) }
 {
     let list = CompiledList::for_reports(alloc, list)?;
@@ -102,12 +106,15 @@ fn report_each(
     desk: &mut Vec<Box<dyn Reporter>>,
 ) -> Result<Outcome, Fault>
     requires { length desk.old.items < 2 ^ 32 }
-    ensures end { let d = lent (λ b. kind b) (λ b. held b) (λ b. faults b) desk.old.items desk.new.items in
+    ensures end { let d = lent (λ b. kind b) (λ b. may_refuse b) (λ b. held b) (λ b. faults b)
+        desk.old.items desk.new.items in
         result ≢ Err Fault.Memory → IsReport (all_violations list.now requests.now) d
         (end_of d.kinds d.held_now result) }
     ensures grown { GrewInPart (all_violations list.now requests.now)
         (map (λ b. held b) desk.old.items) (map (λ b. held b) desk.new.items) }
     ensures kinds { map (λ b. kind b) desk.new.items ≡ map (λ b. kind b) desk.old.items }
+    ensures may_refuse { map (λ b. may_refuse b) desk.new.items
+        ≡ map (λ b. may_refuse b) desk.old.items }
     ensures later { NoneFell (map (λ b. faults b) desk.old.items) (map (λ b. faults b) desk.new.items) }
 {
     hand_out_each(alloc, list, requests, desk)?;
@@ -125,8 +132,11 @@ fn hand_out_each(
     ensures took { OnOk result (map (λ b. held b) desk.new.items
         ≡ all_grown (all_violations list.now requests.now) (map (λ b. held b) desk.old.items)) }
     ensures stopped { IfErr result (λ e. HasStopped e (all_violations list.now requests.now)
-        (lent (λ b. kind b) (λ b. held b) (λ b. faults b) desk.old.items desk.new.items)) }
+        (lent (λ b. kind b) (λ b. may_refuse b) (λ b. held b) (λ b. faults b)
+        desk.old.items desk.new.items)) }
     ensures kinds { map (λ b. kind b) desk.new.items ≡ map (λ b. kind b) desk.old.items }
+    ensures may_refuse { map (λ b. may_refuse b) desk.new.items
+        ≡ map (λ b. may_refuse b) desk.old.items }
     ensures later { NoneFell (map (λ b. faults b) desk.old.items) (map (λ b. faults b) desk.new.items) }
 {
     for request in requests {

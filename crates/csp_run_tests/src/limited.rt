@@ -1,5 +1,5 @@
 //! A reporter that csp_desk doesn't know.
-ghost use Rattle.std.specs.Prelude.{◌≡◌, [], OnOk, OnErr};
+ghost use Rattle.std.specs.Prelude.{◌≡◌, [], true, OnOk, OnErr};
 ghost use Rattle.csp_desk.specs.declared.Kind.TheVariants as kinds;
 
 use csp_desk::{AcceptError, Kind, Lines, Reporter};
@@ -30,6 +30,8 @@ impl Reporter for Limited {
     ghost held = { λ s. s.taken };
 
     ghost faults = { λ s. s.faults };
+
+    ghost may_refuse = { λ _. true };
 
     fn kind(&self) -> Kind {
         Kind::Lines

@@ -1,5 +1,5 @@
 //! Tests of csp_violation and csp_desk.
-ghost use Rattle.std.specs.Prelude.{◌≡◌, ◌≤◌, ◌∷◌, ◌++◌, [], OnOk, OnErr, IfOk, IsErrOf};
+ghost use Rattle.std.specs.Prelude.{◌≡◌, ◌≤◌, ◌∷◌, ◌++◌, [], true, OnOk, OnErr, IfOk, IsErrOf};
 ghost use Rattle.csp_desk.specs.declared.reporter.Kind.TheVariants as kinds;
 
 use csp_desk::{
@@ -109,6 +109,8 @@ impl Reporter for Capped {
     ghost held = { λ c. c.taken };
 
     ghost faults = { λ c. c.refused };
+
+    ghost may_refuse = { λ _. true };
 
     fn kind(&self) -> Kind {
         Kind::Lines

@@ -7,6 +7,8 @@ abbrev pub invariant-loop-place : goal.invariant-loop-place
 invariant-loop-place g l = record {
   same_kinds : map (λ b. (goal.Reporter-dyn g (b.vtable, b.value)).kind b.value) l.desk
       ≡ map (λ b. (goal.Reporter-dyn g (b.vtable, b.value)).kind b.value) l.fn.desk;
+  same_may_refuse : map (λ b. (goal.Reporter-dyn g (b.vtable, b.value)).may_refuse b.value) l.desk
+      ≡ map (λ b. (goal.Reporter-dyn g (b.vtable, b.value)).may_refuse b.value) l.fn.desk;
   later : NoneFell (map (λ b. (goal.Reporter-dyn g (b.vtable, b.value)).faults b.value) l.fn.desk)
       (map (λ b. (goal.Reporter-dyn g (b.vtable, b.value)).faults b.value) l.desk);
   took : map (λ b. (goal.Reporter-dyn g (b.vtable, b.value)).held b.value) l.desk

@@ -10,6 +10,7 @@ pub loop-request-init : goal.loop-request-init
 loop-request-init g c = record {
   took = sym (all_grown-nil _);
   kinds = refl;
+  may_refuse = refl;
   later = λ k. omega arith;
 }
 
@@ -23,8 +24,9 @@ returns-in_err-hand_out-clause-stopped g c =
     let p = err_from_is_err_and c.from_residual.result c.from_residual.ensures.1 in
     let stops = rw c.in-Ok.ensures.violations at c.in_err-hand_out.ensures.stopped in
     rw (p.1, p.2)
-    (stopped_at (violations_of c.args.list.now) c.args.requests.now c.loop-request.request-index _ _ _ _ _
-    c.loop-request-test.true c.request-item.is c.loop-request.invariant.took c.loop-request.invariant.later stops)
+    (stopped_at (violations_of c.args.list.now) c.args.requests.now c.loop-request.request-index _ _ _ _ _ _
+    c.loop-request-test.true c.request-item.is c.loop-request.invariant.took c.loop-request.invariant.later
+    c.loop-request.invariant.may_refuse stops c.in_err-hand_out.ensures.may)
 
 pub loop-request-preserved : goal.loop-request-preserved
 loop-request-preserved g c =
@@ -34,5 +36,6 @@ loop-request-preserved g c =
           taken_more (violations_of c.args.list.now) c.args.requests.now c.loop-request.request-index _ _ _ _
           c.loop-request-test.true c.request-item.is c.loop-request.invariant.took took;
       kinds = c.in_ok-hand_out.ensures.same_kinds ∙ c.loop-request.invariant.kinds;
+      may_refuse = c.in_ok-hand_out.ensures.same_may_refuse ∙ c.loop-request.invariant.may_refuse;
       later = NoneFell-trans _ _ _ c.loop-request.invariant.later c.in_ok-hand_out.ensures.later;
     }
