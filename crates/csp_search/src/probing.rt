@@ -24,7 +24,8 @@ use std::alloc::Global;
 /// Elsewhere there may be one that a search finds.
 ///
 /// Where the formulas speak of the default port of the shape's scheme, that port holds at a first look, since
-/// a person would think of it, and doesn't hold at a second one.
+/// a person would think of it, and doesn't hold at a second one. Integrity metadata that nothing names holds
+/// at neither.
 pub fn probe<'a>(
     alloc: Global,
     question: Question<'a>,
@@ -108,8 +109,11 @@ fn probe_branch<'a>(
     Ok(None)
 }
 
-// Whether an atom holds on the branch: this port always, and each other one once the policy of the second
-// list refuses all checks that are left.
+// Whether an atom holds on the branch: this port always, integrity metadata that nothing names never, and
+// each other atom once the policy of the second list refuses all checks that are left.
 fn lets_hold(hints: &Hints, valuation: &Valuation, atom: &Atom, port: Option<u16>) -> bool {
-    hints.is_refused(valuation) || is_port(atom, port)
+    match atom {
+        Atom::IntegrityOutside => false,
+        _ => hints.is_refused(valuation) || is_port(atom, port),
+    }
 }
