@@ -1,3 +1,5 @@
+pub mod Carried
+pub mod Narrowing
 pub mod PairsApart
 pub mod PairsListed
 pub mod ReasonsGiven

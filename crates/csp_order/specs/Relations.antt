@@ -9,6 +9,7 @@ use Rattle.csp_model.specs.declared.policy.PolicyList.{PolicyList}
 use Rattle.csp_proof.specs.declared.proof.Proof.{Proof as ProofValue}
 use Rattle.csp_order.specs.Chains.{IsApart, LeadsThrough}
 use Rattle.csp_order.specs.Pairs.{IsPair, list_limit, pair, pairs}
+use Rattle.csp_order.specs.Within.{IsWithin}
 use Rattle.csp_order.specs.declared.pair.Pair.{Pair}
 use Rattle.csp_order.specs.declared.relation.Because.{Because}
 use Rattle.csp_order.specs.declared.relation.Because.TheVariants as because
@@ -91,3 +92,21 @@ pub record IsKnown (lists : List PolicyList) (proved : List Pair) : Type 0 where
   pub readable : All IsReadable lists
   pub pairs : All (IsPair (length lists)) proved
   pub included : All (Includes lists) proved
+
+-- the first list of the pair is within the second
+abbrev pub IsPairWithin : List PolicyList → Pair → Type 0
+IsPairWithin lists p = IsWithin (list_at lists p.first) (list_at lists p.second)
+
+-- the second list of the pair allows all that the first allows, and the proof shows it
+abbrev pub IsProofOf : List PolicyList → Pair → ProofValue → Type 0
+IsProofOf lists p proof = IsPrinted (list_at lists p.first) (list_at lists p.second) proof × Includes lists p
+
+-- where the reason is a proof, it is one for the pair
+abbrev pub HasProofOf : List PolicyList → Pair → Because → Type 0
+HasProofOf lists p (because.Proof proof) =
+    IsPair (length lists) p × IsPrinted (list_at lists p.first) (list_at lists p.second) proof
+HasProofOf lists p (because.Through between) = ⊤
+HasProofOf lists p (because.Check asked) = ⊤
+
+abbrev pub HasProof : List PolicyList → Relation → Type 0
+HasProof lists r = HasProofOf lists (pair_of r) r.because
