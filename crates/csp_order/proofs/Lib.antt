@@ -1,4 +1,5 @@
 pub mod Carried
+pub mod HashesSame
 pub mod Narrowing
 pub mod PairsApart
 pub mod PairsListed

@@ -1,5 +1,5 @@
 //! Proofs for two lists that are proofs for two others.
-ghost use Rattle.std.specs.Prelude.{◌≡◌, IfOk, IfSome};
+ghost use Rattle.std.specs.Prelude.{◌≡◌, IfOk, IfSome, IsTrue};
 ghost use Rattle.csp_atom.specs.Vocabulary.{vocabulary_hashes};
 ghost use Rattle.csp_compare.specs.Answers.{IsPrinted};
 ghost use Rattle.csp_order.specs.Within.{IsWithin};
@@ -45,7 +45,7 @@ pub(crate) fn carry_proof(
 
 // Whether the lists of both have the same hash-sources, in one order.
 fn have_same_hashes(alloc: Global, one: Inclusion<'_>, other: Inclusion<'_>) -> Result<bool, Memory>
-    ensures { IfOk result (λ same. same ≡ true
+    ensures { IfOk result (λ same. IsTrue same
         → vocabulary_hashes one.entry.first.now one.entry.second.now
         ≡ vocabulary_hashes other.entry.first.now other.entry.second.now) }
 {
