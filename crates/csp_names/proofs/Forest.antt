@@ -157,6 +157,9 @@ nothing_outside atoms a b h = ap (λ (o : Option Atom). both_around o (slice_get
 
 -- What numbers say
 
+pub around_before : (atoms : List Atom) → AreInOrder atoms → (outer inner : ℕ) → inner < outer → outer < length atoms → around_in atoms outer inner ≡ false
+around_before atoms order outer inner below here = around_in_is atoms order outer inner false here (omega arith) (not_around_before atoms inner outer order below here)
+
 pub range_is : (atoms : List Atom) → AreInOrder atoms → (name end k : ℕ) → name < length atoms → IsEnd atoms name end
     → around_in atoms name k ≡ (nat_le name k && nat_lt k end)
 range_is atoms order name end k here is = by (nat_le name k) (nat_lt k end) refl refl
@@ -164,7 +167,7 @@ range_is atoms order name end k here is = by (nat_le name k) (nat_lt k end) refl
     by : (s t : Bool) → nat_le name k ≡ s → nat_lt k end ≡ t → around_in atoms name k ≡ (s && t)
     by false t e f =
         let below : k < name = grind (arith, nat_tests) in
-        around_in_is atoms order name k false here (omega arith) (not_around_before atoms k name order below here)
+        around_before atoms order name k below here
     by true true e f =
         let most = is.inside in
         let low : name ≤ k = grind (arith, nat_tests) in

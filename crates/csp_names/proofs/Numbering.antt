@@ -19,7 +19,7 @@ use Rattle.csp_names.specs.Sorting.{Rise, referred, StandsAt, StandAt, Pair, Are
 use Rattle.csp_names.proofs.NameOrder.{name_total}
 use Rattle.csp_names.proofs.NameExact.{name_exact}
 
-now_of : Bor Atom → Atom
+abbrev now_of : Bor Atom → Atom
 now_of reference = reference.now
 
 -- Numbers
@@ -74,7 +74,7 @@ numbered_moved given old new moved numbered = record {
 
 -- In order
 
-is_lower : Pair → Pair → Bool
+abbrev is_lower : Pair → Pair → Bool
 is_lower x y = is_lt (name_cmp (atom_in x) (atom_in y))
 
 -- what `sort_by` ensures, where each call compares the atoms of two pairs

@@ -1,5 +1,5 @@
 -- In the order of names the atoms on one part of a check stand together.
-use Rattle.std.proofs.Common.{◌≡◌, ◌≢◌, ◌∙◌, refl, sym, ap, subst, arith, ℕ, ◌<◌, ◌≤◌, false}
+use Rattle.std.proofs.Common.{◌≡◌, ◌≢◌, ◌∙◌, refl, sym, ap, ap₂, subst, arith, ℕ, ◌<◌, ◌≤◌, false}
 use Rattle.std.specs.Prelude.{if◌then◌else◌, ◌==◌}
 use Rattle.std.specs.Cmp.{ranks, tied_itself, nat_cmp_total}
 use Rattle.std.specs.Ordering.{nat_cmp, ordering_then, is_gt, MatchOrdering}
@@ -15,7 +15,7 @@ use Rattle.csp_names.proofs.NameOrder.{then_level}
 
 -- A part is told by its number
 
-part_at : ℕ → CheckPart
+abbrev part_at : ℕ → CheckPart
 part_at n =
     if n == 0 then part.Host else if n == 1 then part.Path else if n == 2 then part.Port else if n == 3 then part.PlainScheme
     else if n == 4 then part.Nonce else if n == 5 then part.Integrity else if n == 6 then part.Digest Sha256
@@ -69,3 +69,14 @@ stand_together a b c e low high =
     let second = parts_rise b c high in
     let same : number_of a ≡ number_of c = ap part_number e in
     same_part (part_of a) (part_of b) (omega (arith, first, second, same))
+
+-- by numbers that were found of the two parts
+pub one_part : (a b : Atom) (p q : CheckPart) (m n : ℕ) → p ≡ part_of a → q ≡ part_of b → m ≡ part_number p → n ≡ part_number q → m ≡ n → part_of a ≡ part_of b
+one_part a b p q m n e f g h same = same_part (part_of a) (part_of b) (sym (g ∙ ap part_number e) ∙ same ∙ h ∙ ap part_number f)
+
+pub apart_by : (a b : Atom) (p q : CheckPart) (m n : ℕ) (r : Ordering) → p ≡ part_of a → q ≡ part_of b → m ≡ part_number p → n ≡ part_number q → (m ≢ n) → r ≡ nat_cmp m n
+    → r ≡ name_cmp a b
+apart_by a b p q m n r e f g h apart is =
+    let first : m ≡ number_of a = g ∙ ap part_number e in
+    let second : n ≡ number_of b = h ∙ ap part_number f in
+    is ∙ ap₂ nat_cmp first second ∙ other_part a b (λ same. apart (first ∙ same ∙ sym second))

@@ -1,5 +1,5 @@
 -- What the table says of two atoms, told by which of them is around the other and by their parts.
-use Rattle.std.proofs.Common.{◌≡◌, ◌≢◌, ◌∙◌, refl, sym, ap, ℕ, ◌==◌, ◌&&◌, not, Bool, true, false, Option, Some, None}
+use Rattle.std.proofs.Common.{◌≡◌, ◌≢◌, ◌∙◌, refl, sym, ap, ap₂, subst, ℕ, ◌<◌, List, length, get_or, ◌==◌, ◌&&◌, not, Bool, true, false, Option, Some, None}
 use Rattle.std.specs.Prelude.{if◌then◌else◌}
 use Rattle.std.proofs.lemmas.Bool.Decides.{Decides-eqb}
 use Rattle.csp_model.specs.declared.check.CheckPart.TheVariants as part
@@ -8,6 +8,9 @@ use Rattle.csp_atom.specs.Follows.{follows, follows_true, nested, true_where, fa
 use Rattle.csp_atom.specs.declared.atom.Atom.{Atom}
 use Rattle.csp_names.specs.Around.{is_around, StandsAlone, are_exclusive, said_by}
 use Rattle.csp_names.specs.Order.{part_number, number_of}
+use Rattle.std.proofs.lemmas.List.{get_or_default}
+use Rattle.csp_names.specs.Numbers.{around_in}
+use Rattle.csp_names.proofs.Forest.{around_in_there}
 use Rattle.csp_names.proofs.Nesting.{around_same_part}
 use Rattle.csp_names.proofs.PartOrder.{same_part}
 use Rattle.csp_names.proofs.Rows.{rows, row_of_denial, rows_of_pairs, rows_apart}
@@ -50,3 +53,14 @@ module _ (known asked : Atom) where
       ∙ ap (λ (t : Bool). said_by positive t outer (are_exclusive known asked)) e
       ∙ ap (λ (t : Bool). said_by positive back t (are_exclusive known asked)) f
       ∙ ap (said_by positive back on) g
+
+-- by the names of the two
+pub said_at : (atoms there : List Atom) (known asked : ℕ) (d x y : Atom) (positive back on exclusive : Bool) → there ≡ atoms
+    → known < length atoms → asked < length atoms → x ≡ get_or there known x → y ≡ get_or there asked y
+    → back ≡ around_in atoms asked known → on ≡ around_in atoms known asked → exclusive ≡ are_exclusive x y
+    → said_by positive back on exclusive ≡ follows (record { atom = get_or atoms known d; positive = positive }) (get_or atoms asked d)
+said_at atoms there known asked d x y positive back on exclusive same h k p q e f g =
+    let first : get_or atoms known d ≡ x = get_or_default atoms known d x h ∙ sym (subst (λ (l : List Atom). x ≡ get_or l known x) same p) in
+    let second : get_or atoms asked d ≡ y = get_or_default atoms asked d y k ∙ sym (subst (λ (l : List Atom). y ≡ get_or l asked y) same q) in
+    sym (said_where (get_or atoms known d) (get_or atoms asked d) positive back on exclusive
+    (sym (around_in_there atoms asked known d k h) ∙ sym e) (sym (around_in_there atoms known asked d h k) ∙ sym f) (ap₂ are_exclusive first second ∙ sym g))
