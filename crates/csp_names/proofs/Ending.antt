@@ -9,7 +9,7 @@ use Rattle.std.specs.declared.cmp.Ordering.TheVariants.{Greater}
 use Rattle.csp_atom.specs.declared.atom.Atom.{Atom}
 use Rattle.csp_names.specs.Around.{is_around}
 use Rattle.csp_names.specs.Order.{name_cmp}
-use Rattle.csp_names.specs.Numbers.{AreInOrder, IsAroundIs, IsEnd, AreEndsFrom, AreEnds}
+use Rattle.csp_names.specs.Numbers.{AreInOrder, IsAroundIs, IsEnd, AreEndsFrom}
 use Rattle.csp_names.proofs.NameOrder.{name_total, itself}
 use Rattle.csp_names.proofs.Nesting.{low as around_is_low, between_too, through}
 

@@ -10,7 +10,7 @@ use Rattle.csp_names.specs.Around.{is_around}
 use Rattle.csp_names.specs.Numbers.{AreInOrder, IsForest, IsAroundIs, IsEnd, IsOuter, IsOutermost, IsOuterOr, both_around, around_in}
 use Rattle.csp_names.specs.Order.{name_cmp}
 use Rattle.std.specs.Cmp.{tied_itself}
-use Rattle.csp_names.proofs.NameOrder.{name_total, itself}
+use Rattle.csp_names.proofs.NameOrder.{name_total}
 use Rattle.csp_names.proofs.Ending.{not_above, not_around_before}
 use Rattle.csp_names.proofs.Nesting.{between_too, nest, through}
 use Rattle.csp_names.proofs.PartOrder.{stand_together}

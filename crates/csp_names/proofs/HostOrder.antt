@@ -1,12 +1,11 @@
 -- In the order of facts on hosts, what a fact is around stands right behind it.
-use Rattle.std.proofs.Common.{◌≡◌, ◌∙◌, sym, ap, subst, ℕ, ◌<◌, true, false, List, [], ◌++◌, append_assoc}
+use Rattle.std.proofs.Common.{◌≡◌, ◌∙◌, sym, ap, subst, ℕ, ◌<◌, true, false, List, ◌++◌, append_assoc}
 use Rattle.std.specs.Cmp.{IsTotalOrder, ranks, nat_cmp_total}
 use Rattle.std.specs.Cmp.Lexicographic.{slice_cmp, on_texts}
 use Rattle.std.specs.Ordering.{nat_cmp, is_gt}
 use Rattle.std.specs.declared.cmp.Ordering.{Ordering}
 use Rattle.std.specs.declared.cmp.Ordering.TheVariants.{Equal}
 use Rattle.std.specs.Ordering.{MatchOrdering}
-use Rattle.std.proofs.lemmas.List.{append-nil}
 use Rattle.csp_atom.specs.declared.atom.Atom.{Atom}
 use Rattle.csp_names.specs.Around.{is_around}
 use Rattle.csp_names.specs.Hosts.{host_key, host_cmp, IsHostAtom}
@@ -18,9 +17,6 @@ exact m n e = subst (λ (o : Ordering). MatchOrdering o (m < n) (m ≡ n) (n < m
 
 pub host_total : IsTotalOrder host_cmp
 host_total = on_texts host_key
-
-pub itself : (a : Atom) → IsHostAtom a → is_around a a ≡ true
-itself a one = front_is_around a a one one ([], sym (append-nil (host_key a)))
 
 pub through : (a b c : Atom) → IsHostAtom a → IsHostAtom b → IsHostAtom c → is_around a b ≡ true → is_around b c ≡ true → is_around a c ≡ true
 through a b c one two three h k =

@@ -1,10 +1,10 @@
 -- What the table says of two atoms, told by which of them is around the other and by their parts.
-use Rattle.std.proofs.Common.{◌≡◌, ◌≢◌, ◌∙◌, refl, sym, ap, ap₂, subst, ℕ, ◌<◌, List, length, get_or, ◌==◌, ◌&&◌, not, Bool, true, false, Option, Some, None}
+use Rattle.std.proofs.Common.{◌≡◌, ◌∙◌, refl, sym, ap, ap₂, subst, ℕ, ◌<◌, List, length, get_or, ◌==◌, ◌&&◌, not, Bool, true, false, Some, None}
 use Rattle.std.specs.Prelude.{if◌then◌else◌}
 use Rattle.std.proofs.lemmas.Bool.Decides.{Decides-eqb}
 use Rattle.csp_model.specs.declared.check.CheckPart.TheVariants as part
 use Rattle.csp_atom.specs.Atoms.{part_of}
-use Rattle.csp_atom.specs.Follows.{follows, follows_true, nested, true_where, false_where}
+use Rattle.csp_atom.specs.Follows.{follows, follows_true}
 use Rattle.csp_atom.specs.declared.atom.Atom.{Atom}
 use Rattle.csp_names.specs.Around.{is_around, StandsAlone, are_exclusive, said_by}
 use Rattle.csp_names.specs.Order.{part_number, number_of}

@@ -1,4 +1,4 @@
-use Rattle.std.proofs.Common.{◌∙◌, sym}
+use Rattle.std.proofs.Common.{◌∙◌}
 use Rattle.csp_names.proofs.Comparing.{by_atoms}
 use Rattle.csp_names.proofs.order.compare_on_part.Goals as goal
 
