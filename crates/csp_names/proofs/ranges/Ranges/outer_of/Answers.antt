@@ -1,4 +1,4 @@
-use Rattle.std.proofs.Common.{◌∙◌, sym, subst, ℕ, true, false, List, Option, Some}
+use Rattle.std.proofs.Common.{◌∙◌, sym, subst, ℕ, List, Option, Some}
 use Rattle.csp_atom.specs.declared.atom.Atom.{Atom}
 use Rattle.csp_names.specs.Numbers.{AreInOrder}
 use Rattle.csp_names.proofs.Forest.{IsLeft, left_first, left_next, left_found}
