@@ -1,0 +1,13 @@
+pub mod Comparing
+pub mod Ending
+pub mod Forest
+pub mod HostKeys
+pub mod HostOrder
+pub mod NameExact
+pub mod NameOrder
+pub mod Nesting
+pub mod Numbering
+pub mod PartOrder
+pub mod Prefixes
+pub mod Rows
+pub mod Saying
