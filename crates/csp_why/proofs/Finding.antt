@@ -79,20 +79,6 @@ module _ {A : Type 0} where
   first_some None os = refl
   first_some (Some a) os = refl
 
-  -- the first of several, as one or else another
-  pub first_of_three : (a b c : Option A) → option_or (option_or a b) c ≡ first_of (a ∷ b ∷ c ∷ [])
-  first_of_three (Some x) b c = refl
-  first_of_three None (Some y) c = refl
-  first_of_three None None (Some z) = refl
-  first_of_three None None None = refl
-
-  pub first_of_four : (a b c d : Option A) → option_or (option_or (option_or a b) c) d ≡ first_of (a ∷ b ∷ c ∷ d ∷ [])
-  first_of_four (Some x) b c d = refl
-  first_of_four None (Some y) c d = refl
-  first_of_four None None (Some z) d = refl
-  first_of_four None None None (Some w) = refl
-  first_of_four None None None None = refl
-
   -- P of each that is there
   abbrev pub Each : (A → Type 0) → List (Option A) → Type 0
   Each P [] = Unit {0}
