@@ -1,6 +1,6 @@
 -- The last check decides where none before it is blocked, blocked or not.
-use Rattle.std.proofs.Common.{◌≡◌, ◌∙◌, ◌++◌, ◌+◌, ◌-◌, ap, refl, sym, cond, ℕ, zero, suc, Bool, true, false, List, [], ◌∷◌, length, Option, Some, None}
-use Rattle.std.specs.Prelude.{slice_get}
+use Rattle.std.proofs.Common.{◌≡◌, ◌++◌, ◌+◌, ◌-◌, arith, refl, cond, Bor, ℕ, Bool, true, false, List, [], ◌∷◌, length, Option, Some, None}
+use Rattle.std.specs.Prelude.{option_copied, slice_get}
 use Rattle.std.specs.List.{find}
 use Rattle.std.specs.Option.{option_or}
 use Rattle.std.proofs.lemmas.List.Folds.{find-append}
@@ -23,3 +23,7 @@ module _ {X : Type 0} (p : X → Bool) where
       (rw is
       (rw (find-append p before (x ∷ []))
       (rw (at_end before x) (last_or (find p before) (p x) x))))
+
+  pub copied_or : (o : Option (Bor X)) (x : Bor X) → option_copied (option_or o (Some x)) ≡ option_or (option_copied o) (Some x.now)
+  copied_or None x = refl
+  copied_or (Some y) x = refl
