@@ -1,2 +1,3 @@
+pub mod Deciding
 pub mod NamedDigests
 pub mod SameStatus

@@ -1,7 +1,9 @@
 //! What `why` prints behind the line of a verdict: the check that decided, and what each policy says of
 //! it.
-ghost use Rattle.std.specs.Prelude.{◌≡◌, ◌≤◌, ◌++◌, OnOk, length, option_copied};
+ghost use Rattle.std.specs.Prelude.{◌≡◌, ◌≤◌, ◌++◌, not, OnOk, length, option_copied};
+ghost use Rattle.std.specs.List.{find};
 ghost use Rattle.csp_model.specs.Policies.{policy_limit};
+ghost use Rattle.csp_model.specs.Verdict as verdicts;
 ghost use Rattle.csp_reasons.specs.Explanations as spec;
 
 use csp_match::governor;
@@ -29,16 +31,18 @@ pub(crate) fn push_reasons(
     }
 }
 
-// The check that decided.
+// The check that decided. The last one does where none before it is blocked, so it isn't judged.
 fn deciding<'a>(list: &PolicyList, checks: &'a [Check]) -> Option<&'a Check>
     ensures { option_copied result ≡ spec.deciding list.now checks.now }
 {
-    for check in checks {
-        if !list_allows(list, check) {
-            return Some(check);
-        }
-    }
-    checks.last()
+    let (last, before) = checks.split_last()?;
+    first_blocked(list, before).or(Some(last))
+}
+
+fn first_blocked<'a>(list: &PolicyList, checks: &'a [Check]) -> Option<&'a Check>
+    ensures { option_copied result ≡ find (λ c. not (verdicts.list_allows list.now c)) checks.now }
+{
+    checks.iter().find(|check| !list_allows(list, check))
 }
 
 fn push_check(

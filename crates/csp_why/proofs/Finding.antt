@@ -1,7 +1,6 @@
 -- The first item that passes a test, its place, and the first of several answers.
 use Rattle.std.proofs.Common.{◌≡◌, ℕ, zero, suc, Bool, true, false, ◌||◌, cond, List, [], ◌∷◌, length, nat_lt, Option, Some, None, refl, sym, ◌∙◌, subst, inl, inr}
 use Rattle.std.specs.Prelude.{slice_get, position, is_some}
-use Rattle.std.specs.Option.{option_or}
 use Rattle.std.specs.List.{find, list_any, position_or_len, filter}
 use Rattle.std.proofs.lemmas.Bool.{cases_Bool, cond-true, cond-false, lt-ltb, le-ltb, or_right, or_left, or_cases}
 use Rattle.std.proofs.lemmas.List.Folds.{find_at}
@@ -78,20 +77,6 @@ module _ {A : Type 0} where
   pub first_some : (o : Option A) (os : List (Option A)) → is_some (first_of (o ∷ os)) ≡ (is_some o || is_some (first_of os))
   first_some None os = refl
   first_some (Some a) os = refl
-
-  -- the first of several, as one or else another
-  pub first_of_three : (a b c : Option A) → option_or (option_or a b) c ≡ first_of (a ∷ b ∷ c ∷ [])
-  first_of_three (Some x) b c = refl
-  first_of_three None (Some y) c = refl
-  first_of_three None None (Some z) = refl
-  first_of_three None None None = refl
-
-  pub first_of_four : (a b c d : Option A) → option_or (option_or (option_or a b) c) d ≡ first_of (a ∷ b ∷ c ∷ d ∷ [])
-  first_of_four (Some x) b c d = refl
-  first_of_four None (Some y) c d = refl
-  first_of_four None None (Some z) d = refl
-  first_of_four None None None (Some w) = refl
-  first_of_four None None None None = refl
 
   -- P of each that is there
   abbrev pub Each : (A → Type 0) → List (Option A) → Type 0

@@ -1,11 +1,15 @@
 //! The first rule by which a directive allows a check, and its first token.
-ghost use Rattle.std.specs.Prelude.{◌≡◌, position};
+ghost use Rattle.std.specs.Prelude.{◌≡◌, ℕ, Option, not, position};
+ghost use Rattle.std.specs.Option.{option_or};
 ghost use Rattle.csp_match.specs.Shown.{shown};
 ghost use Rattle.csp_model.specs.DecideInline as inline_spec;
 ghost use Rattle.csp_model.specs.DecideNavigation.{grants};
 ghost use Rattle.csp_model.specs.DecideTokens as token_spec;
+ghost use Rattle.csp_model.specs.Inline.{is_element_kind};
 ghost use Rattle.csp_model.specs.Reading.{first_of};
+ghost use Rattle.csp_model.specs.declared.source.Keyword.TheVariants as keyword;
 ghost use Rattle.csp_why.specs.Allowances as spec;
+ghost use Rattle.csp_why.specs.declared.reason.Rule.TheVariants as rules;
 
 use crate::reason::{Allowance, Rule};
 use csp_inline::is_element_kind;
@@ -39,9 +43,13 @@ pub(crate) fn allowance(
             parser_inserted,
         } => {
             let rule = group.rule(found.name);
-            let listed = source_token(origin, url, *redirects != 0, sources);
-            let listed = only_where(counts, listed);
-            fetch_allowance(rule, sources, nonce, integrity, *parser_inserted, listed)
+            let redirected = *redirects != 0;
+            fetch_allowance(rule, sources, nonce, integrity, *parser_inserted).or_else(|| {
+                by(
+                    Rule::Source,
+                    counted_source(counts, origin, url, redirected, sources),
+                )
+            })
         }
         Check::Inline {
             kind,
@@ -56,10 +64,12 @@ pub(crate) fn allowance(
             Rule::UnsafeEval,
             keyword_token(Keyword::UnsafeEval, sources),
         )
-        .or(by(
-            Rule::WasmUnsafeEval,
-            keyword_token(Keyword::WasmUnsafeEval, sources),
-        )),
+        .or_else(|| {
+            by(
+                Rule::WasmUnsafeEval,
+                keyword_token(Keyword::WasmUnsafeEval, sources),
+            )
+        }),
         Check::Base { url } | Check::Ancestor { url } => {
             by(Rule::Source, source_token(origin, url, false, sources))
         }
@@ -80,31 +90,23 @@ pub(crate) fn allowance(
     }
 }
 
-// The first rule of a fetch, where `listed` is the first source expression that counts and matches its
-// URL.
+// The first rule of a fetch, but for the last, which looks at its URL.
 fn fetch_allowance(
     rule: FetchRule,
     sources: &List<Source>,
     nonce: &Text,
     integrity: &List<Hash>,
     parser_inserted: bool,
-    listed: Option<usize>,
 ) -> Option<Allowance>
-    ensures { result ≡ first_of (spec.fetch_allowances rule sources.now nonce.now integrity.now
-        parser_inserted listed) }
+    ensures { (listed : Option ℕ) → option_or result (spec.by rules.Source listed)
+        ≡ first_of (spec.fetch_allowances rule sources.now nonce.now integrity.now parser_inserted listed) }
 {
     match rule {
-        FetchRule::Script => {
-            let dynamic = keyword_token(Keyword::StrictDynamic, sources);
-            by(Rule::Nonce, nonce_token(nonce, sources))
-                .or(by(Rule::Integrity, integrity_token(integrity, sources)))
-                .or(by(Rule::StrictDynamic, only_where(!parser_inserted, dynamic)))
-                .or(by(Rule::Source, listed))
-        }
-        FetchRule::Style => {
-            by(Rule::Nonce, nonce_token(nonce, sources)).or(by(Rule::Source, listed))
-        }
-        FetchRule::List => by(Rule::Source, listed),
+        FetchRule::Script => by(Rule::Nonce, nonce_token(nonce, sources))
+            .or_else(|| by(Rule::Integrity, integrity_token(integrity, sources)))
+            .or_else(|| by(Rule::StrictDynamic, dynamic_token(parser_inserted, sources))),
+        FetchRule::Style => by(Rule::Nonce, nonce_token(nonce, sources)),
+        FetchRule::List => None,
     }
 }
 
@@ -118,12 +120,9 @@ fn inline_allowance(
 ) -> Option<Allowance>
     ensures { result ≡ first_of (spec.inline_allowances counts kind nonce.now digests.now sources.now) }
 {
-    let unsafe_inline = keyword_token(Keyword::UnsafeInline, sources);
-    let nonce = nonce_token(nonce, sources);
-    let digest = digest_token(digests, sources);
-    by(Rule::UnsafeInline, only_where(counts, unsafe_inline))
-        .or(by(Rule::Nonce, only_where(is_element_kind(kind), nonce)))
-        .or(by(Rule::Hash, only_where(hash_counts(kind, sources), digest)))
+    by(Rule::UnsafeInline, inline_token(counts, sources))
+        .or_else(|| by(Rule::Nonce, element_token(kind, nonce, sources)))
+        .or_else(|| by(Rule::Hash, counted_digest(kind, digests, sources)))
 }
 
 fn by(rule: Rule, token: Option<usize>) -> Option<Allowance>
@@ -132,10 +131,22 @@ fn by(rule: Rule, token: Option<usize>) -> Option<Allowance>
     token.map(|token| Allowance { rule, token })
 }
 
-fn only_where(condition: bool, token: Option<usize>) -> Option<usize>
-    ensures { result ≡ spec.only_where condition token }
+// The first source expression that matches, where they count.
+fn counted_source(
+    counts: bool,
+    origin: &Origin,
+    url: &Url,
+    redirected: bool,
+    sources: &List<Source>,
+) -> Option<usize>
+    ensures { result
+        ≡ spec.only_where counts (spec.source_token origin.now url.now redirected sources.now) }
 {
-    if condition { token } else { None }
+    if counts {
+        source_token(origin, url, redirected, sources)
+    } else {
+        None
+    }
 }
 
 fn source_token(
@@ -161,11 +172,49 @@ fn keyword_token(word: Keyword, sources: &List<Source>) -> Option<usize>
         .position(|source| is_keyword(source, word))
 }
 
+// `'strict-dynamic'`, for a script that no parser inserted.
+fn dynamic_token(parser_inserted: bool, sources: &List<Source>) -> Option<usize>
+    ensures { result
+        ≡ spec.only_where (not parser_inserted) (spec.keyword_token keyword.StrictDynamic sources.now) }
+{
+    if parser_inserted {
+        None
+    } else {
+        keyword_token(Keyword::StrictDynamic, sources)
+    }
+}
+
+// `'unsafe-inline'`, where it counts.
+fn inline_token(counts: bool, sources: &List<Source>) -> Option<usize>
+    ensures { result ≡ spec.only_where counts (spec.keyword_token keyword.UnsafeInline sources.now) }
+{
+    if counts {
+        keyword_token(Keyword::UnsafeInline, sources)
+    } else {
+        None
+    }
+}
+
+// The nonce-source of an element's nonce.
+fn element_token(kind: InlineKind, nonce: &Text, sources: &List<Source>) -> Option<usize>
+    ensures { result ≡ spec.only_where (is_element_kind kind) (spec.nonce_token nonce.now sources.now) }
+{
+    if is_element_kind(kind) {
+        nonce_token(nonce, sources)
+    } else {
+        None
+    }
+}
+
 fn nonce_token(nonce: &Text, sources: &List<Source>) -> Option<usize>
     ensures { result ≡ spec.nonce_token nonce.now sources.now }
 {
     let value = nonce.as_str();
-    only_where(!value.is_empty(), nonce_source(value, sources))
+    if value.is_empty() {
+        None
+    } else {
+        nonce_source(value, sources)
+    }
 }
 
 fn nonce_source(nonce: &str, sources: &List<Source>) -> Option<usize>
@@ -180,10 +229,11 @@ fn nonce_source(nonce: &str, sources: &List<Source>) -> Option<usize>
 fn integrity_token(integrity: &List<Hash>, sources: &List<Source>) -> Option<usize>
     ensures { result ≡ spec.integrity_token integrity.now sources.now }
 {
-    only_where(
-        integrity_matches(integrity, sources),
-        some_hash_source(integrity, sources),
-    )
+    if integrity_matches(integrity, sources) {
+        some_hash_source(integrity, sources)
+    } else {
+        None
+    }
 }
 
 fn some_hash_source(integrity: &List<Hash>, sources: &List<Source>) -> Option<usize>
@@ -203,6 +253,19 @@ fn is_some_hash(integrity: &List<Hash>, source: &Source) -> bool
         .as_slice()
         .iter()
         .any(|pair| is_hash(source, pair))
+}
+
+// The first hash of the very text, where hashes count.
+fn counted_digest(kind: InlineKind, digests: &Digests, sources: &List<Source>) -> Option<usize>
+    ensures { result
+        ≡ spec.only_where (inline_spec.hash_counts kind sources.now)
+        (spec.digest_token digests.now sources.now) }
+{
+    if hash_counts(kind, sources) {
+        digest_token(digests, sources)
+    } else {
+        None
+    }
 }
 
 fn digest_token(digests: &Digests, sources: &List<Source>) -> Option<usize>
@@ -235,10 +298,11 @@ fn grant_token(capability: Capability, tokens: &List<Text>) -> Option<usize>
 fn worker_token(tokens: &List<Text>) -> Option<usize>
     ensures { result ≡ spec.worker_token tokens.now }
 {
-    only_where(
-        grants(tokens, Capability::Scripts) && grants(tokens, Capability::SameOrigin),
-        token_for_worker(tokens),
-    )
+    if grants(tokens, Capability::Scripts) && grants(tokens, Capability::SameOrigin) {
+        token_for_worker(tokens)
+    } else {
+        None
+    }
 }
 
 fn token_for_worker(tokens: &List<Text>) -> Option<usize>
