@@ -1,5 +1,5 @@
 -- An output of `differ` ends as one of `compare`.
-use Rattle.std.proofs.Common.{◌≡◌, ◌∙◌, ◌↔◌, sym, ap, subst, refl, ℕ, eqb, Bool, true, false, List, [], ◌∷◌, ◌++◌, append_assoc, get_or}
+use Rattle.std.proofs.Common.{◌≡◌, ◌∙◌, ◌↔◌, sym, ap, refl, ℕ, eqb, Bool, true, false, List, [], ◌∷◌, ◌++◌, append_assoc, get_or}
 use Rattle.std.specs.Prelude.{codes}
 use Rattle.std.specs.List.{flat_map}
 use Rattle.csp_compare.specs.Differences.{AreDifferences}

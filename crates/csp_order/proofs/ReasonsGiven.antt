@@ -1,5 +1,5 @@
 -- Chains show inclusion, and relations with their reasons grow at their end.
-use Rattle.std.proofs.Common.{◌≡◌, ◌≢◌, ◌∙◌, ◌↔◌, sym, ap, subst, refl, ℕ, ◌≤◌, ◌<◌, ◌-◌, true, false, List, [], ◌∷◌, ◌++◌, length, map, get_or, All, Contains, append-nil, append_assoc, IsTrue, arith}
+use Rattle.std.proofs.Common.{◌≡◌, ◌≢◌, ◌∙◌, ◌↔◌, sym, ap, subst, refl, ℕ, ◌-◌, true, false, List, [], ◌∷◌, ◌++◌, map, All, append-nil, append_assoc, IsTrue}
 use Rattle.std.specs.List.{flat_map}
 use Rattle.std.proofs.lemmas.Bool.{false≢true}
 use Rattle.std.proofs.lemmas.List.Concat.{flat_map-append}

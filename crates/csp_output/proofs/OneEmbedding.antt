@@ -12,7 +12,7 @@ use Rattle.csp_embed.specs.declared.decision.Decision.TheVariants.{Added, Served
 use Rattle.csp_output.specs.Embeddings.{IsEmbedding, IsEnforcedList, IsOwnAnswer, added_output, answer_word, first_line}
 use Rattle.csp_output.specs.declared.built.Built.{Built}
 use Rattle.csp_output.specs.declared.status.Status.{Status}
-use Rattle.csp_output.specs.declared.status.Status.TheVariants.{Clean, Found}
+use Rattle.csp_output.specs.declared.status.Status.TheVariants.{Clean}
 use Rattle.csp_output.proofs.OneStatus.{clean_where_subsumed, inclusion, same_status}
 
 abbrev word_of : Status → List ℕ

@@ -1,5 +1,5 @@
 -- What the texts of `compare` and `check` show.
-use Rattle.std.proofs.Common.{◌≡◌, ◌∙◌, sym, ap, refl, ℕ, Bool, true, false, not, ◌&&◌, List, [], ◌∷◌, Any, Option, Some, None}
+use Rattle.std.proofs.Common.{◌≡◌, ◌∙◌, sym, ap, refl, ℕ, Bool, true, not, ◌&&◌, List, [], ◌∷◌, Any, Option, Some, None}
 use Rattle.std.proofs.lemmas.List.Folds.{Any-from_list_any}
 use Rattle.csp_model.specs.Inclusion.{Subsumes}
 use Rattle.csp_model.specs.Policies.{IsReadable}

@@ -1,12 +1,11 @@
 -- A tidied list of printable policies reads back from its header lines.
-use Rattle.std.proofs.Common.{◌≡◌, ◌∙◌, sym, ap, subst, inl, inr, ℕ, Bool, true, List, [], ◌∷◌, Option, Some, None, Result, Ok, Err}
+use Rattle.std.proofs.Common.{◌≡◌, ◌∙◌, sym, ap, subst, inl, inr, ℕ, Bool, true, List, [], ◌∷◌, Option, Some, None, Ok}
 use Rattle.std.specs.List.{All, AllZip}
 use Rattle.std.proofs.lemmas.List.Elements.{All-nil, All-cons, All-head, All-tail}
 use Rattle.csp_model.specs.Ascii.{lower}
 use Rattle.csp_model.specs.Policies.{IsReadable, IsReadablePolicy, is_for_meta, policies}
 use Rattle.csp_model.specs.Validity.{IsValidOrigin}
 use Rattle.csp_model.specs.declared.policy.Directive.{Directive}
-use Rattle.csp_model.specs.declared.policy.Disposition.TheVariants.{Enforce}
 use Rattle.csp_model.specs.declared.policy.Policy.{Policy}
 use Rattle.csp_model.specs.declared.policy.PolicyList.{PolicyList}
 use Rattle.csp_model.specs.declared.url.Origin.{Origin}

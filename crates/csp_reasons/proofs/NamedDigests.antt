@@ -1,5 +1,5 @@
 -- What is printed of inline code or style rests on those digests alone whose algorithms the list's hash-sources name.
-use Rattle.std.proofs.Common.{◌≡◌, ◌∙◌, ◌+◌, ◌++◌, ◌||◌, ap, refl, sym, cond, ℕ, Bool, true, false, not, List, [], ◌∷◌, Option, Some, None, IsTrue}
+use Rattle.std.proofs.Common.{◌≡◌, ◌∙◌, ◌+◌, ◌++◌, ◌||◌, ap, refl, sym, cond, ℕ, Bool, true, false, not, List, [], ◌∷◌, Some, None, IsTrue}
 use Rattle.std.proofs.lemmas.Bool.{or_left, or_right}
 use Rattle.std.specs.List.{list_any}
 use Rattle.std.specs.Option.{option_or}

@@ -1,5 +1,5 @@
 -- A list without one token is as reading makes it, where the list is.
-use Rattle.std.proofs.Common.{arith, ◌≡◌, ◌≢◌, ◌∙◌, sym, ap, refl, subst, ℕ, zero, suc, ◌+◌, ◌<◌, ◌≤◌, List, [], ◌∷◌, ◌++◌, length, map, max, get_or, All, AllPairs}
+use Rattle.std.proofs.Common.{arith, ◌≡◌, ◌≢◌, ◌∙◌, sym, ap, refl, subst, ℕ, zero, suc, ◌+◌, ◌<◌, ◌≤◌, List, [], ◌∷◌, length, map, max, get_or}
 use Rattle.std.specs.List.{fold, flat_map, remove, sum_by}
 use Rattle.std.proofs.Math.Nat.{le_trans, le-max_left, le-max_right, max-le}
 use Rattle.std.proofs.lemmas.List.Sums.{fold-append}

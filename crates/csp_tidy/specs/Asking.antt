@@ -1,6 +1,6 @@
 -- Words of private contracts, which stand here since contracts cite only specs/: what comes of asking whether a
 -- token can go, and of a round over all candidates.
-use Rattle.std.specs.Prelude.{◌≡◌, ℕ, ◌<◌, ◌≤◌, List, map, All, MatchOption, slice_get}
+use Rattle.std.specs.Prelude.{◌≡◌, ◌<◌, ◌≤◌, List, map, All, MatchOption, slice_get}
 use Rattle.std.specs.List.{filter}
 use Rattle.csp_compare.specs.Differences.{effective_names}
 use Rattle.csp_model.specs.Policies.{IsReadable, token_count}

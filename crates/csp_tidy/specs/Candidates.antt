@@ -1,5 +1,5 @@
 -- The tokens of a list of policies that may be taken away, by their places.
-use Rattle.std.specs.Prelude.{◌≡◌, ℕ, zero, suc, ◌+◌, Bool, true, false, not, ◌&&◌, if◌then◌else◌, List, [], ◌∷◌, ◌++◌, IsTrue, MatchOption, slice_get}
+use Rattle.std.specs.Prelude.{◌≡◌, ℕ, zero, suc, ◌+◌, Bool, true, false, not, ◌&&◌, if◌then◌else◌, List, [], ◌∷◌, ◌++◌, MatchOption, slice_get}
 use Rattle.std.specs.List.{remove}
 use Rattle.csp_model.specs.Governing.{is_named}
 use Rattle.csp_model.specs.Verdict.{is_enforce}

@@ -1,10 +1,9 @@
 -- What comes of tidying a list of policies.
-use Rattle.std.specs.Prelude.{◌≡◌, ℕ, ◌<◌, ◌^◌, Bool, true, false, not, List, map, All, length, Ok}
+use Rattle.std.specs.Prelude.{◌≡◌, not, map, All}
 use Rattle.csp_compare.specs.Answers.{IsPrinted}
 use Rattle.csp_model.specs.Validity.{IsValidCheck}
 use Rattle.csp_model.specs.Policies.{IsReadable}
 use Rattle.csp_model.specs.Verdict.{list_allows}
-use Rattle.csp_model.specs.declared.policy.Policy.{Policy}
 use Rattle.csp_model.specs.declared.policy.PolicyList.{PolicyList}
 use Rattle.csp_tidy.specs.Candidates.{candidates, without}
 use Rattle.csp_tidy.specs.Thinnings.{AreEquivalent, IsThinning}

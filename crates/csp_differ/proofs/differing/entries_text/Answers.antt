@@ -1,7 +1,3 @@
-use Rattle.std.proofs.Common.{arith, ◌≡◌, ◌∙◌, ap, subst, List, ℕ, take, All}
-use Rattle.std.specs.List.{flat_map}
-use Rattle.std.proofs.lemmas.List.{take_all}
-use Rattle.csp_differ.specs.Differing.{HasValidCheck, IsReadBack, entry_text}
 use Rattle.csp_differ.proofs.Written.{one_more, told_more}
 use Rattle.csp_differ.proofs.differing.entries_text.Goals as goal
 

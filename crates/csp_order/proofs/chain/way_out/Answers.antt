@@ -1,7 +1,6 @@
-use Rattle.std.proofs.Common.{sym, subst, All, arith, take}
+use Rattle.std.proofs.Common.{subst, All, arith}
 use Rattle.std.proofs.lemmas.List.{take_all}
 use Rattle.std.proofs.lemmas.List.Elements.{All-more}
-use Rattle.csp_order.specs.declared.pair.Pair.{Pair}
 use Rattle.csp_order.specs.declared.way.Way.{Way}
 use Rattle.csp_order.proofs.WaysFound.{IsFollowed, all_followed}
 use Rattle.csp_order.proofs.chain.way_out.Goals as goal

@@ -1,5 +1,5 @@
-use Rattle.std.proofs.Common.{◌≡◌, ◌≢◌, ◌≤◌, ◌<◌, ap, arith, length, rules}
-use Rattle.csp_tidy.specs.Candidates.{directive_without, policy_without}
+use Rattle.std.proofs.Common.{◌<◌, ap, arith, length, rules}
+use Rattle.csp_tidy.specs.Candidates.{directive_without}
 use Rattle.csp_tidy.proofs.Changes.{all_taken, front_changed, front_kept}
 use Rattle.csp_tidy.proofs.without.policy_without.Goals as goal
 use Rattle.csp_tidy.proofs.without.policy_without.Goals.{then-number-place+in_ok-directive_without, else-number-place+in_ok-copy}

@@ -1,5 +1,5 @@
-use Rattle.std.proofs.Common.{◌≡◌, ◌≢◌, ◌≤◌, ◌<◌, ap, arith, length, rules}
-use Rattle.csp_tidy.specs.Candidates.{directive_without, policy_without}
+use Rattle.std.proofs.Common.{◌<◌, ap, arith, length, rules}
+use Rattle.csp_tidy.specs.Candidates.{policy_without}
 use Rattle.csp_tidy.proofs.Changes.{all_taken, front_changed, front_kept}
 use Rattle.csp_tidy.proofs.without.without.Goals as goal
 use Rattle.csp_tidy.proofs.without.without.Goals.{then-number-place+in_ok-policy_without, else-number-place+in_ok-copy}
