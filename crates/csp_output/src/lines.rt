@@ -3,7 +3,7 @@ ghost use Rattle.std.specs.Prelude.{◌≡◌, ◌++◌, OnOk};
 ghost use Rattle.std.specs.List.{flat_map};
 ghost use Rattle.csp_output.specs.Lines as lines;
 
-use csp_model::{Item, Memory, Verdict, name_text};
+use csp_model::{Item, Memory, name_text};
 use itoa::Buffer;
 
 /// Writes pieces one after the other.
@@ -54,17 +54,4 @@ pub(crate) fn outcome_text(blocked: bool) -> &'static str
     ensures { result.now ≡ lines.outcome_text blocked }
 {
     if blocked { " blocked" } else { " allowed" }
-}
-
-/// Writes the line of the verdict on the request of this number, as `judge` prints it. For many lines
-/// `VerdictLines` is faster.
-pub fn push_verdict(text: &mut Vec<u8>, request: u32, verdict: &Verdict) -> Result<(), Memory>
-    ensures { OnOk result (text.new.items ≡ text.old.items ++ lines.verdict_line request verdict.now) }
-{
-    let mut digits = Buffer::new();
-    let outcome = outcome_text(verdict.blocked);
-    push_all(text, &[digits.format(request), outcome])?;
-    push_items(text, verdict.items.as_slice())?;
-    text.push(b'\n')?;
-    Ok(())
 }

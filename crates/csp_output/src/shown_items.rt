@@ -1,16 +1,19 @@
 //! Items, written.
-ghost use Rattle.std.specs.Prelude.{◌≡◌, [], OnOk};
+ghost use Rattle.std.specs.Prelude.{◌≡◌, ◌++◌, [], OnOk};
 ghost use Rattle.std.specs.List.{flat_map};
-ghost use Rattle.csp_output.specs.Lines.{item_text};
+ghost use Rattle.csp_output.specs.Lines.{item_text, verdict_line};
 
-use crate::lines::push_items;
-use csp_model::{Item, List, Memory};
+use crate::lines::{outcome_text, push_all, push_items};
+use csp_model::{Item, List, Memory, Verdict};
+use itoa::Buffer;
 use std::alloc::Global;
 use std::marker::Model;
 
-// Items, and what they are written as. Contracts see the items.
+/// The items of a verdict, and what they are written as. It is seen as the items.
+///
+/// The next verdict often has the same items, which then aren't written anew.
 #[derive(Drop)]
-pub(crate) struct ShownItems {
+pub struct ShownItems {
     items: List<Item>,
     text: Vec<u8>,
 }
@@ -30,8 +33,8 @@ impl Model for ShownItems {
 }
 
 impl ShownItems {
-    // No item. It keeps the allocator, and takes no memory.
-    pub(crate) fn new(alloc: Global) -> ShownItems
+    /// No item. It keeps the allocator, and takes no memory.
+    pub fn new(alloc: Global) -> ShownItems
         ensures { result ≡ [] }
     {
         ShownItems {
@@ -40,8 +43,27 @@ impl ShownItems {
         }
     }
 
+    /// Writes the line of the verdict on the request of this number, as `judge` prints it.
+    pub fn push_verdict(
+        &mut self,
+        alloc: Global,
+        text: &mut Vec<u8>,
+        request: u32,
+        verdict: Verdict,
+    ) -> Result<(), Memory>
+        ensures { OnOk result (text.new.items ≡ text.old.items ++ verdict_line request verdict) }
+    {
+        let mut digits = Buffer::new();
+        let outcome = outcome_text(verdict.blocked);
+        push_all(text, &[digits.format(request), outcome])?;
+        self.replace(alloc, verdict.items)?;
+        text.extend_from_slice(self.as_slice())?;
+        text.push(b'\n')?;
+        Ok(())
+    }
+
     // Has these items from now on. Those that are there already aren't written anew.
-    pub(crate) fn replace(&mut self, alloc: Global, items: List<Item>) -> Result<(), Memory>
+    fn replace(&mut self, alloc: Global, items: List<Item>) -> Result<(), Memory>
         ensures { OnOk result (self.new ≡ items) }
     {
         if self.items == items {
@@ -58,7 +80,7 @@ impl ShownItems {
     }
 
     // What they are written as.
-    pub(crate) fn as_slice(&self) -> &[u8]
+    fn as_slice(&self) -> &[u8]
         ensures { result.now ≡ flat_map item_text self.now }
     {
         self.text.as_slice()

@@ -2,10 +2,8 @@
 ghost use Rattle.std.specs.Prelude.{◌≡◌, ◌++◌, [], OnOk};
 ghost use Rattle.csp_output.specs.Lines as lines;
 
-use crate::lines::{outcome_text, push_all};
 use crate::shown_items::ShownItems;
 use csp_model::{Bytes, Memory, Verdict};
-use itoa::Buffer;
 use std::alloc::Global;
 use std::marker::Model;
 
@@ -42,13 +40,8 @@ impl VerdictLines {
     pub fn push(&mut self, alloc: Global, request: u32, verdict: Verdict) -> Result<(), Memory>
         ensures { OnOk result (self.new ≡ self.old ++ lines.verdict_line request verdict) }
     {
-        let mut digits = Buffer::new();
-        let outcome = outcome_text(verdict.blocked);
-        push_all(&mut self.text, &[digits.format(request), outcome])?;
-        self.last.replace(alloc, verdict.items)?;
-        self.text.extend_from_slice(self.last.as_slice())?;
-        self.text.push(b'\n')?;
-        Ok(())
+        self.last
+            .push_verdict(alloc, &mut self.text, request, verdict)
     }
 
     /// The text. Nothing is copied.

@@ -6,7 +6,7 @@ ghost use Rattle.csp_verdict.specs.Algorithms.{algorithms_of};
 
 use crate::reason_lines::push_reasons;
 use csp_model::{Bytes, Described, Memory, PolicyList};
-use csp_output::{Built, Status, push_verdict};
+use csp_output::{Built, ShownItems, Status};
 use csp_token::Algorithms;
 use csp_verdict::CompiledList;
 use std::alloc::Global;
@@ -23,6 +23,7 @@ pub struct Explanation<'a> {
     list: &'a PolicyList,
     compiled: CompiledList<'a>,
     text: Vec<u8>,
+    last: ShownItems,
     blocked: bool,
 }
 
@@ -48,6 +49,7 @@ impl<'a> Explanation<'a> {
             list,
             compiled: CompiledList::new(alloc, list)?,
             text: Vec::new(alloc),
+            last: ShownItems::new(alloc),
             blocked: false,
         })
     }
@@ -66,7 +68,8 @@ impl<'a> Explanation<'a> {
     {
         let verdict = self.compiled.judge(alloc, request)?;
         self.blocked |= verdict.blocked;
-        push_verdict(&mut self.text, number, &verdict)?;
+        self.last
+            .push_verdict(alloc, &mut self.text, number, verdict)?;
         push_reasons(alloc, &mut self.text, self.list, request.checks.as_slice())
     }
 
