@@ -3,6 +3,7 @@ use Rattle.std.proofs.Common.{◌≡◌, ℕ, Bool, true, false, not, ◌&&◌, 
 use Rattle.std.specs.Prelude.{position, is_some}
 use Rattle.std.specs.List.{list_any, list_all}
 use Rattle.std.proofs.lemmas.Bool.{and_parts, or_left, false≢true}
+use Rattle.std.proofs.Common.{true≢false}
 use Rattle.csp_model.specs.Ascii.{is_nonempty}
 use Rattle.csp_model.specs.DecideFetch.{sources_allow}
 use Rattle.csp_model.specs.DecideInline.{allows_all_inline, hash_counts, sources_allow_inline}
@@ -304,3 +305,21 @@ told_blocks p asked g displaced counts found near acts is_displaced counted allo
     ap (λ (l : List Near). Blocks g.name l)
     (subst (λ (x : Option Word). near ≡ near_from (near_word p.origin asked x) 0 g.directive.sources) is_displaced these)
     ∙ sym (reason_at p asked g None acts (first_by p asked g displaced counts found None is_displaced counted allowed is))
+
+none_where : (o : Option Allowance) → is_some o ≡ false → o ≡ None
+none_where None none = refl
+none_where (Some a) none = absurd (true≢false none)
+
+pub told_blocked : (p : Policy) (asked : Check) (g : Governor) (displaced : Option Word) (near : List Near)
+    → acting p asked ≡ Some g → displaced ≡ displacement asked g.name g.directive.sources → allows p asked ≡ false
+    → near ≡ near_from (near_word p.origin asked displaced) 0 g.directive.sources → Blocks g.name near ≡ reason p asked
+told_blocked p asked g displaced near acts is_displaced blocks these =
+    let counts = is_none (displacement asked g.name g.directive.sources) in
+    told_blocks p asked g displaced (is_none displaced) (first_of (allowances p.origin asked (is_none displaced) g)) near acts
+    is_displaced (counted displaced) refl
+    (subst (λ (x : Option Word). first_of (allowances p.origin asked (is_none x) g) ≡ None) (sym is_displaced)
+    (none_where (first_of (allowances p.origin asked counts g)) (test_decided p.origin asked g ∙ (sym (governed p asked g acts) ∙ blocks))))
+    these where
+  counted : (x : Option Word) → is_some x ≡ not (is_none x)
+  counted None = refl
+  counted (Some w) = refl

@@ -1,5 +1,5 @@
 //! Why a policy allows or blocks a check.
-ghost use Rattle.std.specs.Prelude.{◌≡◌, IfOk};
+ghost use Rattle.std.specs.Prelude.{◌≡◌, false, IfOk};
 ghost use Rattle.std.specs.Option.{option_map};
 ghost use Rattle.csp_match.specs.Shown.{shown};
 ghost use Rattle.csp_model.specs.DecideVerdict.{allows};
@@ -36,6 +36,22 @@ pub fn explain(alloc: Global, policy: &Policy, check: &Check) -> Result<Reason, 
     if let Some(by) = allowance(&policy.origin, check, displaced.is_none(), &found) {
         return Ok(Reason::Allows { directive, by });
     }
+    let near = near_tokens(alloc, &policy.origin, check, displaced, sources)?;
+    Ok(Reason::Blocks { directive, near })
+}
+
+/// As `explain`, where the policy is known to block the check. Only what nearly allows it is looked for.
+#[tactic(auto, using(crate::proofs::Decided::reason_decided))]
+pub fn explain_blocked(alloc: Global, policy: &Policy, check: &Check) -> Result<Reason, Memory>
+    requires { allows policy.now check.now ≡ false }
+    ensures reason { IfOk result (λ made. made ≡ spec.reason policy.now check.now) }
+{
+    let Some(found) = acting(policy, check) else {
+        return Ok(Reason::Ungoverned);
+    };
+    let directive = found.name;
+    let sources = &found.directive.sources;
+    let displaced = displacement(check, directive, sources);
     let near = near_tokens(alloc, &policy.origin, check, displaced, sources)?;
     Ok(Reason::Blocks { directive, near })
 }

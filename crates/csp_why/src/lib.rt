@@ -9,5 +9,5 @@ pub mod laws;
 mod near;
 mod reason;
 
-pub use explaining::explain;
+pub use explaining::{explain, explain_blocked};
 pub use reason::{Allowance, Near, Reason, Rule, Word};
