@@ -1,3 +1,4 @@
 pub mod Deciding
 pub mod NamedDigests
+pub mod Refusals
 pub mod SameStatus

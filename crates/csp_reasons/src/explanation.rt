@@ -67,7 +67,13 @@ impl<'a> Explanation<'a> {
         let verdict = self.compiled.judge(alloc, request)?;
         self.blocked |= verdict.blocked;
         push_verdict(&mut self.text, number, &verdict)?;
-        push_reasons(alloc, &mut self.text, self.list, request.checks.as_slice())
+        push_reasons(
+            alloc,
+            &mut self.text,
+            self.list,
+            request.checks.as_slice(),
+            verdict.items.as_slice(),
+        )
     }
 
     /// The text, with the status `Found` where a request is blocked and else `Clean`. Nothing is copied.
