@@ -1,23 +1,25 @@
 //! What a page calls: the program over words and files in memory.
 #![tactic(auto)]
 
-ghost use Rattle.std.specs.Prelude.{◌≡◌, ◌≢◌, ◌≤◌, ℕ, List as Items, IfOk, length, map, take};
+ghost use Rattle.std.specs.Prelude.{◌≡◌, ◌≢◌, ◌≤◌, ◌⊎◌, ℕ, List as Items, IfOk, IsErrOf, IsUtf8};
+ghost use Rattle.std.specs.Prelude.{length, map, min, take};
 ghost use Rattle.csp_io.specs.Files.{contents_of};
 ghost use Rattle.csp_page.specs.Files.{page_contents};
-ghost use Rattle.csp_page.specs.Page.{IsPageAnswer, file_of, word_of};
+ghost use Rattle.csp_page.specs.Page.{HasBad, IsCutAnswer, IsGiven, IsPageAnswer, file_of, name_of, word_of};
 
 mod files;
+mod sink;
 #[cfg(test)]
 mod tests;
 
 use crate::files::PageInputs;
+use crate::sink::PageSink;
 use csp_desk::{Lines, Reporter, Tally};
-use csp_io::{MemorySink, Sink};
 use csp_model::{Bytes, List, Memory, Text};
 use csp_run::{exit_code, run};
 use std::alloc::Global;
 
-// The code where the output is longer than what it is written to.
+// The code where the answer is longer than what it is written to.
 const WRITE_FAULT: u32 = 9;
 
 // The code where there is no memory for what the page gives.
@@ -26,8 +28,9 @@ const NO_MEMORY: u32 = 10;
 // The code where a word or the name of a file isn't UTF-8.
 const BAD_WORDS: u32 = 14;
 
-// The most bytes that a write moves.
-const PIECE: usize = 65_536;
+// The room of the sink beyond that of `out`: one byte more than the line `no memory` has. So what fills the
+// sink is longer than `out`, and it isn't that line.
+const SPARE: usize = 11;
 
 /// A word.
 #[repr(C)]
@@ -44,8 +47,9 @@ pub struct File<'a> {
 
 /// Does what the words say over these files, as the program does, and answers its exit code.
 ///
-/// The output goes to the front of `out`, and `written` says how many bytes it has. Of two files of one
-/// name the first counts. A code is a whole word, as hosts read no less.
+/// The output goes to the front of `out`, and `written` says how many bytes it has. Where it is longer than
+/// `out`, the code is 9, and `out` has as much of it as fits. Of two files of one name the first counts. A
+/// code is a whole word, as hosts read no less.
 #[unsafe(no_mangle)]
 pub extern "C" fn csp_page(
     alloc: Global,
@@ -54,26 +58,51 @@ pub extern "C" fn csp_page(
     out: &mut [u8],
     written: &mut usize,
 ) -> u32
-    // Every code but four comes with the answer to these very words and bytes: those where `out` is too short,
-    // where memory ran out, where a reporter refused a violation, and where a word or a name isn't UTF-8.
-    ensures answer { result ≢ 9 → result ≢ 10 → result ≢ 11 → result ≢ 14
-        → IsPageAnswer (map word_of words.now) (contents_of (map file_of files.now)) result (take written.new out.new) }
+    // Every code but three comes with the answer to these very words and bytes. 10 says that memory ran out.
+    ensures answer { result ≢ 9 → result ≢ 10 → result ≢ 14
+        → IsPageAnswer (map word_of words.now) (contents_of (map file_of files.now)) result
+        (take written.new out.new) }
+
+    // 9: the answer to them is longer than `out`, which its front fills.
+    ensures too_long { result ≡ 9
+        → IsCutAnswer (map word_of words.now) (contents_of (map file_of files.now)) (length out.new)
+        (take written.new out.new) }
+
+    // 11: never, since neither reporter refuses a violation.
+    ensures never_refused { result ≢ 11 }
+
+    // 14: a word or the name of a file isn't UTF-8.
+    ensures bad_words { result ≡ 14 → HasBad (map word_of words.now) ⊎ HasBad (map name_of files.now) }
     ensures within { written.new ≤ length out.new }
 {
     *written = 0;
-    match answered(alloc, words, files, out.len()) {
+    let room = out.len() + SPARE;
+    match answered(alloc, words, files, room) {
         Err(Unfit::Memory) => NO_MEMORY,
         Err(Unfit::Text) => BAD_WORDS,
         Ok((code, text)) => {
             let text = text.as_slice();
+            let code = u32::from(code);
+            *written = fill(out, text);
+            if code == NO_MEMORY {
+                return NO_MEMORY;
+            }
             if text.len() > out.len() {
                 return WRITE_FAULT;
             }
-            *written = text.len();
-            out[..text.len()].copy_from_slice(text);
-            u32::from(code)
+            code
         }
     }
+}
+
+// Writes the front of a text, as much as fits, and answers how many bytes that is.
+fn fill(out: &mut [u8], text: &[u8]) -> usize
+    ensures count { result ≡ min (length out.new) (length text.now) }
+    ensures front { take result out.new ≡ take (length out.new) text.now }
+{
+    let front = out.len().min(text.len());
+    out[..front].copy_from_slice(&text[..front]);
+    front
 }
 
 // Why what the page gives can't be taken over.
@@ -83,20 +112,26 @@ enum Unfit {
 }
 
 impl From<Memory> for Unfit {
+    ghost use Rattle.csp_page.specs.declared.Unfit.TheVariants as unfit;
+
+    ghost from_gives = { λ _ made. made ≡ unfit.Memory };
+
     fn from(_: Memory) -> Unfit {
         Unfit::Memory
     }
 }
 
-// The exit code, and the output.
+// The exit code, and the output, or its front where that fills a sink of this room.
 fn answered(
     alloc: Global,
     words: &[Word<'_>],
     files: &[File<'_>],
     room: usize,
 ) -> Result<(u8, Bytes), Unfit>
-    ensures { IfOk result (λ got. got.0 ≢ 9 → got.0 ≢ 10 → got.0 ≢ 11
-        → IsPageAnswer (map word_of words.now) (contents_of (map file_of files.now)) got.0 got.1) }
+    ensures given { IfOk result
+        (λ got. IsGiven (map word_of words.now) (contents_of (map file_of files.now)) room got.0 got.1) }
+    ensures bad { IsErrOf result Unfit.Text
+        → HasBad (map word_of words.now) ⊎ HasBad (map name_of files.now) }
 {
     let words = words_of(alloc, words)?;
     let mut inputs = inputs_of(alloc, files)?;
@@ -110,19 +145,19 @@ fn run_words(
     inputs: &mut PageInputs,
     room: usize,
 ) -> Result<(u8, Bytes), Memory>
-    ensures { IfOk result (λ got. got.0 ≢ 9 → got.0 ≢ 10 → got.0 ≢ 11
-        → IsPageAnswer words.now (page_contents inputs.old) got.0 got.1) }
+    ensures { IfOk result (λ got. IsGiven words.now (page_contents inputs.old) room got.0 got.1) }
 {
     let mut desk: Vec<Box<dyn Reporter>> = Vec::new(alloc);
     desk.push(Box::new(alloc, Lines::new(alloc))?)?;
     desk.push(Box::new(alloc, Tally::new(alloc))?)?;
-    let mut sink = MemorySink::new(alloc, room, PIECE, List::new(alloc))?;
+    let mut sink = PageSink::new(alloc, room)?;
     let status = run(alloc, words, inputs, &mut sink, &mut desk);
-    Ok((exit_code(status), Bytes::new(alloc, sink.taken())?))
+    Ok((exit_code(status), Bytes::new(alloc, sink.bytes())?))
 }
 
 fn text_of(alloc: Global, bytes: &[u8]) -> Result<Text, Unfit>
-    ensures { IfOk result (λ text. text ≡ bytes.now) }
+    ensures text { IfOk result (λ text. text ≡ bytes.now) }
+    ensures bad { IsErrOf result Unfit.Text → ¬ (IsUtf8 bytes.now) }
 {
     match str::from_utf8(bytes) {
         Ok(text) => Ok(Text::new(alloc, text)?),
@@ -131,7 +166,8 @@ fn text_of(alloc: Global, bytes: &[u8]) -> Result<Text, Unfit>
 }
 
 fn words_of(alloc: Global, words: &[Word<'_>]) -> Result<List<Text>, Unfit>
-    ensures { IfOk result (λ made. made ≡ map word_of words.now) }
+    ensures made { IfOk result (λ made. made ≡ map word_of words.now) }
+    ensures bad { IsErrOf result Unfit.Text → HasBad (map word_of words.now) }
 {
     let mut made = List::new(alloc);
     for word in words {
@@ -141,7 +177,8 @@ fn words_of(alloc: Global, words: &[Word<'_>]) -> Result<List<Text>, Unfit>
 }
 
 fn files_of(alloc: Global, files: &[File<'_>]) -> Result<List<(Text, Bytes)>, Unfit>
-    ensures { IfOk result (λ made. made ≡ map file_of files.now) }
+    ensures made { IfOk result (λ made. made ≡ map file_of files.now) }
+    ensures bad { IsErrOf result Unfit.Text → HasBad (map name_of files.now) }
 {
     let mut made = List::new(alloc);
     for file in files {
@@ -151,8 +188,9 @@ fn files_of(alloc: Global, files: &[File<'_>]) -> Result<List<(Text, Bytes)>, Un
 }
 
 fn inputs_of(alloc: Global, files: &[File<'_>]) -> Result<PageInputs, Unfit>
-    ensures { IfOk result (λ inputs. (n : Items ℕ)
+    ensures contents { IfOk result (λ inputs. (n : Items ℕ)
         → page_contents inputs n ≡ contents_of (map file_of files.now) n) }
+    ensures bad { IsErrOf result Unfit.Text → HasBad (map name_of files.now) }
 {
     Ok(PageInputs::new(alloc, files_of(alloc, files)?))
 }
