@@ -1,5 +1,6 @@
 //! Laws of names, each the contract of a function with no body.
-ghost use Rattle.std.specs.Prelude.{◌≡◌, ◌≢◌, ◌↔◌, ◌⊎◌, ◌<◌, ◌≤◌, ℕ, List as Items, None, false, true, length};
+ghost use Rattle.std.specs.Prelude.{◌≡◌, ◌≢◌, ◌↔◌, ◌⊎◌, ◌<◌, ◌≤◌, ℕ, List as Items, None, length};
+ghost use Rattle.std.specs.Prelude.{false, true};
 ghost use Rattle.std.specs.List.{slice_index_or};
 ghost use Rattle.csp_model.specs.declared.check.CheckPart.TheVariants as part;
 ghost use Rattle.csp_atom.specs.Atoms.{part_of, IsValidAtom};
