@@ -1,7 +1,7 @@
 pub mod HoldingDecided
-pub mod LastPieces
 pub mod OrderLaws
 pub mod Own
+pub mod PathOrder
 pub mod Refutes
 pub mod SameAtom
 pub mod Sound

@@ -9,6 +9,7 @@ use Rattle.std.specs.Cmp.Lexicographic.{slice_cmp, lists_ties, pointwise_decides
 use Rattle.std.specs.Ordering.{nat_cmp, ordering_then, is_eq, is_lt, is_gt}
 use Rattle.std.specs.declared.cmp.Ordering.{Ordering}
 use Rattle.std.specs.declared.cmp.Ordering.TheVariants.{Less, Equal, Greater}
+use Rattle.csp_model.specs.Paths.{front_text}
 use Rattle.csp_model.specs.declared.check.Digest.TheVariants as digest
 use Rattle.csp_model.specs.declared.source.Algorithm.{Algorithm}
 use Rattle.csp_model.specs.declared.source.Algorithm.TheVariants.{Sha256, Sha384, Sha512}
@@ -60,8 +61,8 @@ level_same (HostIs (Address s)) (HostIs (Address t)) e = ap (λ (x : List ℕ). 
 level_same (HostUnder s) (HostUnder t) e = ap HostUnder (same_text s t e)
 level_same HostDomain HostDomain e = refl
 level_same (PortIs m) (PortIs n) e = ap PortIs (same_number m n e)
-level_same (PathIs p) (PathIs q) e = ap PathIs (same_path p q e)
-level_same (PathUnder p) (PathUnder q) e = ap PathUnder (same_path p q e)
+level_same (PathIs p) (PathIs q) e = ap PathIs (same_path p q (then_second (text_cmp (front_text p) (front_text q)) (slice_cmp text_cmp p q) e))
+level_same (PathUnder p) (PathUnder q) e = ap PathUnder (same_path p q (then_second (text_cmp (front_text p) (front_text q)) (slice_cmp text_cmp p q) e))
 level_same (SchemeIs s) (SchemeIs t) e = ap SchemeIs (same_text s t e)
 level_same (NonceIs s) (NonceIs t) e = ap NonceIs (same_text s t e)
 level_same (IntegrityHas g) (IntegrityHas h) e = ap IntegrityHas (same_hash g h e)

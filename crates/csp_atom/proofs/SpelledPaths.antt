@@ -7,8 +7,7 @@ use Rattle.percent_encoding.specs.AsciiSet.{should_percent_encode}
 use Rattle.percent_encoding.specs.Percent.{percent_encode, percent_decode}
 use Rattle.percent_encoding.proofs.AsciiSetLemmas.{ascii_from_kept}
 use Rattle.percent_encoding.proofs.PercentLemmas.{IsEscapeByte, All-percent_encode}
-use Rattle.csp_model.specs.Grammar.{pieces_of}
-use Rattle.csp_model.specs.Paths.{path_text}
+use Rattle.csp_model.specs.Paths.{path_text, pieces_of}
 use Rattle.csp_model.specs.declared.path.TheConstants.{ESCAPED}
 use Rattle.csp_model.proofs.PieceBytes.{pieces_bytes}
 use Rattle.csp_model.proofs.PathText.{split_at-path_text, decoded_again}

@@ -10,7 +10,7 @@ use Rattle.csp_model.specs.declared.url.Host.TheVariants.{Domain, Address}
 use Rattle.csp_model.specs.declared.source.Algorithm.{Algorithm}
 use Rattle.csp_atom.specs.declared.atom.Atom.{Atom}
 use Rattle.csp_atom.specs.declared.atom.Atom.TheVariants.{HostIs, HostUnder, PortIs, PathIs, PathUnder, SchemeIs, NonceIs, IntegrityHas, DigestIs}
-use Rattle.csp_atom.specs.Order.{rank, algorithm_rank}
+use Rattle.csp_atom.specs.Order.{rank, algorithm_rank, path_key}
 
 abbrev pub text_cmp : List ℕ → List ℕ → Ordering
 text_cmp = slice_cmp nat_cmp
@@ -26,12 +26,15 @@ abbrev pub tagged_cmp : Algorithm → List ℕ → Algorithm → List ℕ → Or
 tagged_cmp algorithm one by other =
     ordering_then (nat_cmp (algorithm_rank algorithm) (algorithm_rank by)) (text_cmp one other)
 
+abbrev pub path_cmp : List (List ℕ) → List (List ℕ) → Ordering
+path_cmp one other = slice_cmp text_cmp (path_key one) (path_key other)
+
 abbrev pub by_kind : Atom → Atom → Ordering
 by_kind (HostIs one) (HostIs other) = host_cmp one other
 by_kind (HostUnder one) (HostUnder other) = text_cmp one other
 by_kind (PortIs one) (PortIs other) = nat_cmp one other
-by_kind (PathIs one) (PathIs other) = slice_cmp text_cmp one other
-by_kind (PathUnder one) (PathUnder other) = slice_cmp text_cmp one other
+by_kind (PathIs one) (PathIs other) = path_cmp one other
+by_kind (PathUnder one) (PathUnder other) = path_cmp one other
 by_kind (SchemeIs one) (SchemeIs other) = text_cmp one other
 by_kind (NonceIs one) (NonceIs other) = text_cmp one other
 by_kind (IntegrityHas one) (IntegrityHas other) =

@@ -3,6 +3,7 @@ use Rattle.std.specs.Prelude.{ℕ, List, [], ◌∷◌}
 use Rattle.std.specs.Cmp.Lexicographic.{slice_cmp}
 use Rattle.std.specs.Ordering.{nat_cmp}
 use Rattle.std.specs.declared.cmp.Ordering.{Ordering}
+use Rattle.csp_model.specs.Paths.{front_text}
 use Rattle.csp_model.specs.Tokens.{algorithm_of, bytes_of}
 use Rattle.csp_model.specs.declared.source.Algorithm.{Algorithm}
 use Rattle.csp_model.specs.declared.source.Algorithm.TheVariants.{Sha256, Sha384, Sha512}
@@ -34,14 +35,19 @@ abbrev pub host_key : Host → List (List ℕ)
 host_key (Domain domain) = (0 ∷ []) ∷ domain ∷ []
 host_key (Address address) = (1 ∷ []) ∷ address ∷ []
 
+-- paths are in order by their texts, each with a "/" at its end, so all that begin with the same pieces stand
+-- together; no two have one text
+abbrev pub path_key : List (List ℕ) → List (List ℕ)
+path_key pieces = front_text pieces ∷ pieces
+
 -- what an atom says, as strings of numbers
 abbrev pub content : Atom → List (List ℕ)
 content (HostIs host) = host_key host
 content (HostUnder suffix) = suffix ∷ []
 content HostDomain = []
 content (PortIs n) = (n ∷ []) ∷ []
-content (PathIs pieces) = pieces
-content (PathUnder pieces) = pieces
+content (PathIs pieces) = path_key pieces
+content (PathUnder pieces) = path_key pieces
 content (SchemeIs scheme) = scheme ∷ []
 content (NonceIs value) = value ∷ []
 content (IntegrityHas hash) = (algorithm_rank hash.algorithm ∷ []) ∷ hash.value ∷ []

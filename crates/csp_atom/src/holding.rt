@@ -4,8 +4,7 @@ ghost use Rattle.csp_atom.specs.Atoms.{Holds};
 ghost use Rattle.csp_atom.specs.Holding as spec;
 
 use crate::atom::{Atom, Vocabulary};
-use crate::hosts::{is_domain_host, is_host_under};
-use csp_model::{Check, Digest, Digests, Hash, List, Url, goes_beyond};
+use csp_model::{Check, Digest, Digests, Hash, List, Url};
 
 /// Whether an atom holds for a check. A check without the part that the atom speaks of doesn't have the fact.
 /// The vocabulary counts for `IntegrityOutside` alone.
@@ -35,15 +34,13 @@ fn holds_of_url(atom: &Atom, url: &Url) -> bool
 {
     match (atom, url) {
         (Atom::HostIs(known), Url::Hosted { host, .. }) => host == known,
-        (Atom::HostUnder(suffix), Url::Hosted { host, .. }) => is_host_under(host, suffix.as_str()),
-        (Atom::HostDomain, Url::Hosted { host, .. }) => is_domain_host(host),
+        (Atom::HostUnder(suffix), Url::Hosted { host, .. }) => host.is_under(suffix.as_str()),
+        (Atom::HostDomain, Url::Hosted { host, .. }) => host.is_domain(),
         (Atom::PortIs(number), Url::Hosted { scheme, port, .. }) => {
             port.unwrap_or(scheme.default_port()) == *number
         }
-        (Atom::PathIs(known), Url::Hosted { path, .. }) => known.pieces() == path,
-        (Atom::PathUnder(pieces), Url::Hosted { path, .. }) => {
-            goes_beyond(path.as_slice(), pieces.as_slice())
-        }
+        (Atom::PathIs(known), Url::Hosted { path, .. }) => known == path,
+        (Atom::PathUnder(front), Url::Hosted { path, .. }) => path.goes_beyond(front),
         (Atom::SchemeIs(known), Url::Plain { scheme }) => scheme == known,
         _ => false,
     }

@@ -9,7 +9,6 @@ mod holding;
 mod hosts;
 pub mod laws;
 pub mod order;
-mod paths;
 mod table;
 mod valid;
 mod vocabulary;

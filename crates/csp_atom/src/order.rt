@@ -1,14 +1,13 @@
 //! An order of atoms, for sets and for searches of lists.
 ghost use Rattle.std.specs.Prelude.{◌≡◌};
-ghost use Rattle.std.specs.Cmp.Lexicographic.{slice_cmp};
-ghost use Rattle.std.specs.Ordering.{nat_cmp};
+ghost use Rattle.csp_model.specs.Paths.{front_text};
 ghost use Rattle.csp_model.specs.Tokens.{algorithm_of};
 ghost use Rattle.csp_atom.specs.declared.atom.Atom.TheVariants.{DigestIs};
 ghost use Rattle.csp_atom.specs.Kinds as kinds;
 ghost use Rattle.csp_atom.specs.Order as spec;
 
 use crate::atom::Atom;
-use csp_model::{Algorithm, Bytes, Digest, Host};
+use csp_model::{Algorithm, Digest, Host, Path};
 use std::cmp::Ordering;
 
 /// The order of two atoms: by kind, so that those on one part of a check stand together, and then by what
@@ -26,8 +25,8 @@ fn by_kind(one: &Atom, other: &Atom) -> Ordering
         (Atom::HostIs(one), Atom::HostIs(other)) => compare_hosts(one, other),
         (Atom::HostUnder(one), Atom::HostUnder(other)) => one.cmp(other),
         (Atom::PortIs(one), Atom::PortIs(other)) => one.cmp(other),
-        (Atom::PathIs(one), Atom::PathIs(other)) => one.cmp(other),
-        (Atom::PathUnder(one), Atom::PathUnder(other)) => one.cmp(other),
+        (Atom::PathIs(one), Atom::PathIs(other)) => compare_paths(one, other),
+        (Atom::PathUnder(one), Atom::PathUnder(other)) => compare_paths(one, other),
         (Atom::SchemeIs(one), Atom::SchemeIs(other)) => one.cmp(other),
         (Atom::NonceIs(one), Atom::NonceIs(other)) => one.cmp(other),
         (Atom::IntegrityHas(one), Atom::IntegrityHas(other)) => algorithm_rank(one.algorithm)
@@ -49,13 +48,12 @@ fn compare_hosts(one: &Host, other: &Host) -> Ordering
     }
 }
 
-/// The order of two paths given by their pieces, piece by piece and each by its bytes.
-pub fn compare_paths(one: &[Bytes], other: &[Bytes]) -> Ordering
-    ensures { result ≡ slice_cmp (slice_cmp nat_cmp) one.now other.now }
+/// The order of two paths: that of their texts, so that those that begin with the same pieces stand together.
+pub fn compare_paths(one: &Path, other: &Path) -> Ordering
+    ensures value { result ≡ kinds.path_cmp one.now other.now }
+    ensures text { result ≡ kinds.text_cmp (front_text one.now) (front_text other.now) }
 {
-    let ours = one.iter().map(|piece| piece.as_slice());
-    let theirs = other.iter().map(|piece| piece.as_slice());
-    ours.cmp(theirs)
+    one.as_front().cmp(other.as_front())
 }
 
 fn compare_digests(one: &Digest, other: &Digest) -> Ordering

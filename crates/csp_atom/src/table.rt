@@ -6,8 +6,7 @@ ghost use Rattle.csp_atom.specs.Follows as spec;
 ghost use Rattle.csp_atom.specs.Holding.{holds, is_true_of};
 
 use crate::atom::{Atom, Literal};
-use crate::hosts::{is_domain_host, is_host_under, lies_within};
-use crate::paths::{begins, is_path_under};
+use crate::hosts::lies_within;
 use csp_model::Digest;
 
 /// What a literal says of an atom: the value that the atom has for each check of which the literal is true.
@@ -80,32 +79,25 @@ fn follows_true(known: &Atom, asked: &Atom) -> Option<bool>
 {
     match (known, asked) {
         (Atom::HostIs(host), Atom::HostIs(other)) => Some(host == other),
-        (Atom::HostIs(host), Atom::HostUnder(suffix)) => Some(is_host_under(host, suffix.as_str())),
-        (Atom::HostIs(host), Atom::HostDomain) => Some(is_domain_host(host)),
+        (Atom::HostIs(host), Atom::HostUnder(suffix)) => Some(host.is_under(suffix.as_str())),
+        (Atom::HostIs(host), Atom::HostDomain) => Some(host.is_domain()),
         (Atom::HostUnder(_) | Atom::HostDomain, Atom::HostDomain) => Some(true),
         (Atom::HostUnder(known), Atom::HostUnder(asked)) => nested(
             lies_within(known.as_str(), asked.as_str()),
             lies_within(asked.as_str(), known.as_str()),
         ),
-        (Atom::HostUnder(suffix), Atom::HostIs(host)) => false_where(!is_host_under(
-            host,
+        (Atom::HostUnder(suffix), Atom::HostIs(host)) => false_where(!host.is_under(
             suffix.as_str(),
         )),
-        (Atom::HostDomain, Atom::HostIs(host)) => false_where(!is_domain_host(host)),
+        (Atom::HostDomain, Atom::HostIs(host)) => false_where(!host.is_domain()),
         (Atom::PortIs(known), Atom::PortIs(asked)) => Some(known == asked),
         (Atom::PathIs(known), Atom::PathIs(asked)) => Some(known == asked),
-        (Atom::PathIs(path), Atom::PathUnder(front)) => Some(is_path_under(
-            path.as_slice(),
-            front.as_slice(),
-        )),
+        (Atom::PathIs(path), Atom::PathUnder(front)) => Some(path.goes_beyond(front)),
         (Atom::PathUnder(known), Atom::PathUnder(asked)) => nested(
-            begins(known.as_slice(), asked.as_slice()),
-            begins(asked.as_slice(), known.as_slice()),
+            known.begins_with(asked),
+            asked.begins_with(known),
         ),
-        (Atom::PathUnder(front), Atom::PathIs(path)) => false_where(!is_path_under(
-            path.as_slice(),
-            front.as_slice(),
-        )),
+        (Atom::PathUnder(front), Atom::PathIs(path)) => false_where(!path.goes_beyond(front)),
         (Atom::SchemeIs(known), Atom::SchemeIs(asked)) => Some(known == asked),
         (Atom::NonceIs(known), Atom::NonceIs(asked)) => Some(known == asked),
         (Atom::DigestIs(known), Atom::DigestIs(asked)) => same_digest(known, asked),
@@ -125,22 +117,15 @@ fn follows_false(known: &Atom, asked: &Atom) -> Option<bool>
             asked.as_str(),
             known.as_str(),
         )),
-        (Atom::HostUnder(suffix), Atom::HostIs(host)) => false_where(is_host_under(
-            host,
+        (Atom::HostUnder(suffix), Atom::HostIs(host)) => false_where(host.is_under(
             suffix.as_str(),
         )),
         (Atom::HostDomain, Atom::HostDomain | Atom::HostUnder(_)) => Some(false),
-        (Atom::HostDomain, Atom::HostIs(host)) => false_where(is_domain_host(host)),
+        (Atom::HostDomain, Atom::HostIs(host)) => false_where(host.is_domain()),
         (Atom::PortIs(known), Atom::PortIs(asked)) => false_where(known == asked),
         (Atom::PathIs(known), Atom::PathIs(asked)) => false_where(known == asked),
-        (Atom::PathUnder(known), Atom::PathUnder(asked)) => false_where(begins(
-            asked.as_slice(),
-            known.as_slice(),
-        )),
-        (Atom::PathUnder(front), Atom::PathIs(path)) => false_where(is_path_under(
-            path.as_slice(),
-            front.as_slice(),
-        )),
+        (Atom::PathUnder(known), Atom::PathUnder(asked)) => false_where(asked.begins_with(known)),
+        (Atom::PathUnder(front), Atom::PathIs(path)) => false_where(path.goes_beyond(front)),
         (Atom::SchemeIs(known), Atom::SchemeIs(asked)) => false_where(known == asked),
         (Atom::NonceIs(known), Atom::NonceIs(asked)) => false_where(known == asked),
         (Atom::DigestIs(known), Atom::DigestIs(asked)) => false_of_digest(known, asked),

@@ -1,13 +1,12 @@
 //! Which atoms are valid, and what they speak of.
 ghost use Rattle.std.specs.Prelude.{◌≡◌, ◌↔◌, ◌<◌, ◌^◌, true, IsNone, IsTrue};
 ghost use Rattle.csp_model.specs.Schemes.{scheme_named};
-ghost use Rattle.std.specs.List.{list_all};
 ghost use Rattle.csp_model.specs.Validity as validity;
 ghost use Rattle.csp_atom.specs.Atoms as spec;
 
 use crate::atom::Atom;
-use csp_grammar::{is_address, is_base64_value, is_domain, is_lower_scheme, is_piece};
-use csp_model::{Algorithm, Bytes, CheckPart, Digest, Host, Scheme};
+use csp_grammar::{is_address, is_base64_value, is_domain, is_lower_scheme};
+use csp_model::{Algorithm, CheckPart, Digest, Host, Path, Scheme};
 
 impl Atom {
     /// Whether the atom is valid: a check can be as it says, and a proof can spell it.
@@ -17,7 +16,7 @@ impl Atom {
         match self {
             Atom::HostIs(host) => is_valid_host(host),
             Atom::HostUnder(suffix) => is_domain(suffix.as_str()),
-            Atom::PathIs(pieces) | Atom::PathUnder(pieces) => is_valid_path(pieces.as_slice()),
+            Atom::PathIs(path) | Atom::PathUnder(path) => is_valid_path(path),
             Atom::SchemeIs(scheme) => is_plain_scheme(scheme.as_str()),
             Atom::NonceIs(value) => is_base64_value(value.as_str().as_bytes()),
             Atom::IntegrityHas(hash) => is_base64_value(hash.value.as_str().as_bytes()),
@@ -54,16 +53,10 @@ fn is_valid_host(host: &Host) -> bool
     }
 }
 
-fn are_pieces(pieces: &[Bytes]) -> bool
-    ensures { result ≡ list_all validity.is_piece pieces.now }
+fn is_valid_path(path: &Path) -> bool
+    ensures { (result ≡ true) ↔ spec.IsValidPath path.now }
 {
-    pieces.iter().all(|piece| is_piece(piece.as_slice()))
-}
-
-fn is_valid_path(pieces: &[Bytes]) -> bool
-    ensures { (result ≡ true) ↔ spec.IsValidPath pieces.now }
-{
-    !pieces.is_empty() && are_pieces(pieces)
+    !path.is_empty() && !path.has_dot_segment()
 }
 
 // Whether a URL without a host can have this scheme.

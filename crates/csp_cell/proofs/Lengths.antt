@@ -1,11 +1,13 @@
 -- A denied suffix or front that is no longer than another one does not lie below it, unless they are equal.
-use Rattle.std.proofs.Common.{◌≡◌, ◌∙◌, ◌+◌, ◌≤◌, ℕ, Bool, true, false, not, List, [], ◌∷◌, ◌++◌, length, length-append, append-nil, filter, None, All, refl, sym, ap, subst, arith}
+use Rattle.std.proofs.Common.{◌≡◌, ◌∙◌, ◌+◌, ◌<◌, ◌≤◌, ℕ, Bool, true, false, not, List, [], ◌∷◌, ◌++◌, length, length-append, append-nil, filter, None, All, refl, sym, ap, subst, arith, leb-true}
 use Rattle.std.proofs.lemmas.Bool.{false≢true}
 use Rattle.std.proofs.lemmas.Bool.Decides.{nat_tests}
 use Rattle.std.proofs.lemmas.List.Elements.{All-head, All-tail}
 use Rattle.csp_model.proofs.EndLaws.{begins_Decides, subdomain_Decides}
+use Rattle.csp_model.proofs.PathFronts.{longer_beyond}
 use Rattle.csp_model.specs.Ascii.{code}
 use Rattle.csp_model.specs.DecideEnds.{begins_with}
+use Rattle.csp_model.specs.Paths.{front_text}
 use Rattle.csp_atom.specs.Follows.{lies_within, false_where, follows, decided}
 use Rattle.csp_atom.specs.declared.atom.Atom.{Atom}
 use Rattle.csp_atom.specs.declared.atom.Atom.TheVariants.{HostUnder, PathUnder}
@@ -19,21 +21,17 @@ pub unless : (test : Bool) → false_where test ≡ None → test ≡ false
 unless true e = cc
 unless false e = refl
 
-empty : {X : Type 0} (xs : List X) → length xs ≡ 0 → xs ≡ []
-empty [] e = refl
-empty (x ∷ xs) e = absurd (omega arith)
-
 same_end : (inner outer front : List ℕ) → code "." ∷ inner ≡ front ++ code "." ∷ outer → length inner ≤ length outer → inner ≡ outer
 same_end inner outer [] e h = cc
 same_end inner outer (c ∷ front) e h =
     let long : length (code "." ∷ inner) ≡ length (c ∷ front) + length (code "." ∷ outer) = ap length e ∙ length-append (c ∷ front) (code "." ∷ outer) in
     absurd (omega arith)
 
-same_front : (inner outer rest : List (List ℕ)) → inner ≡ outer ++ rest → length inner ≤ length outer → inner ≡ outer
-same_front inner outer rest e h =
-    let long : length inner ≡ length outer + length rest = ap length e ∙ length-append outer rest in
-    let none : rest ≡ [] = empty rest (omega arith) in
-    e ∙ ap (λ (xs : List (List ℕ)). outer ++ xs) none ∙ append-nil outer
+same_front : (inner outer rest : List (List ℕ)) → inner ≡ outer ++ rest → length (front_text inner) ≤ length (front_text outer) → inner ≡ outer
+same_front inner outer [] e h = e ∙ append-nil outer
+same_front inner outer (piece ∷ rest) e h =
+    let long : length (front_text outer) < length (front_text inner) = longer_beyond inner outer (piece ∷ rest) (λ never. cc) e in
+    absurd (omega (arith, h, long))
 
 -- a name that lies within another only if they are equal doesn't where the other one doesn't lie within it
 pub under_denied : (inner outer : List ℕ) → ((front : List ℕ) → code "." ∷ inner ≡ front ++ code "." ∷ outer → inner ≡ outer)
@@ -48,14 +46,16 @@ under_denied inner outer whole left = by_test (lies_within inner outer) refl
         let swapped : lies_within outer inner ≡ true = subst (λ (x : List ℕ). lies_within x inner ≡ true) same (subst (λ (x : List ℕ). lies_within inner x ≡ true) (sym same) e) in
         absurd (false≢true (sym left ∙ swapped))
 
-beyond_denied : (inner outer : List (List ℕ)) → length inner ≤ length outer → begins_with outer inner ≡ false → begins_with inner outer ≡ false
-beyond_denied inner outer h left = by_test (begins_with inner outer) refl
+-- nor does a path that begins with another only if they are equal
+pub beyond_denied : (inner outer : List (List ℕ)) → ((rest : List (List ℕ)) → inner ≡ outer ++ rest → inner ≡ outer)
+    → begins_with outer inner ≡ false → begins_with inner outer ≡ false
+beyond_denied inner outer whole left = by_test (begins_with inner outer) refl
   where
     by_test : (t : Bool) → begins_with inner outer ≡ t → t ≡ false
     by_test false e = refl
     by_test true e =
         let (rest, begins) = (begins_Decides inner outer).0 e in
-        let same : inner ≡ outer = same_front inner outer rest begins h in
+        let same : inner ≡ outer = whole rest begins in
         let swapped : begins_with outer inner ≡ true = subst (λ (x : List (List ℕ)). begins_with x inner ≡ true) same (subst (λ (x : List (List ℕ)). begins_with inner x ≡ true) (sym same) e) in
         absurd (false≢true (sym left ∙ swapped))
 
@@ -66,12 +66,13 @@ pub unless_implied : (test : Bool) → test ≡ false → is_answer false (false
 unless_implied true e = cc
 unless_implied false e = refl
 
-pub short_denied : (b a : Atom) → is_no_longer b a ≡ true → follows (denied b) a ≡ None → implies (denied a) (denied b) ≡ false
+short_denied : (b a : Atom) → is_no_longer b a ≡ true → follows (denied b) a ≡ None → implies (denied a) (denied b) ≡ false
 short_denied (HostUnder t) (HostUnder s) short left =
     let no_longer : length t ≤ length s = grind (arith, nat_tests) in
     unless_implied (lies_within t s) (under_denied t s (λ front e. same_end t s front e no_longer) (unless (lies_within s t) left))
 short_denied (PathUnder q) (PathUnder p) short left =
-    unless_implied (begins_with q p) (beyond_denied q p (grind (arith, nat_tests)) (unless (begins_with p q) left))
+    let no_longer : length (front_text q) ≤ length (front_text p) = leb-true (length (front_text q)) (length (front_text p)) short in
+    unless_implied (begins_with q p) (beyond_denied q p (λ rest e. same_front q p rest e no_longer) (unless (begins_with p q) left))
 short_denied b a short left = absurd (false≢true short)
 
 -- What is too short isn't made needless

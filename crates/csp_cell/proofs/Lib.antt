@@ -1,5 +1,6 @@
 pub mod Alone
 pub mod Covering
+pub mod FrontTexts
 pub mod Inserting
 pub mod Lengths
 pub mod LookupIs

@@ -1,5 +1,5 @@
 -- A denied suffix makes no name needless of no more labels, and a denied front no path of no more pieces.
-use Rattle.std.proofs.Common.{◌≡◌, ◌∙◌, ◌+◌, ◌<◌, ◌≤◌, ◌==◌, ℕ, Bool, true, false, not, cond, List, [], ◌∷◌, ◌++◌, length, None, All, refl, sym, ap, arith}
+use Rattle.std.proofs.Common.{◌≡◌, ◌∙◌, ◌+◌, ◌<◌, ◌≤◌, ◌==◌, ℕ, Bool, true, false, not, cond, List, [], ◌∷◌, ◌++◌, length, length-append, append-nil, None, All, refl, sym, ap, arith}
 use Rattle.std.specs.List.{slice_index_or}
 use Rattle.std.proofs.Math.Nat.{le_trans, le-max_left, le-max_right}
 use Rattle.std.proofs.lemmas.Bool.{false≢true}
@@ -8,7 +8,7 @@ use Rattle.std.proofs.lemmas.List.Elements.{All-weaker}
 use Rattle.std.proofs.lemmas.List.Sums.{sum_by-append, sum_by-cons}
 use Rattle.csp_model.proofs.EndLaws.{subdomain_Decides}
 use Rattle.csp_model.specs.Ascii.{code}
-use Rattle.csp_model.specs.DecideEnds.{is_subdomain, goes_beyond}
+use Rattle.csp_model.specs.DecideEnds.{is_subdomain, begins_with, goes_beyond}
 use Rattle.csp_model.specs.declared.url.Host.TheVariants.{Domain}
 use Rattle.csp_atom.proofs.Refutes.{false_false}
 use Rattle.csp_atom.specs.Follows.{lies_within, follows, decided}
@@ -19,7 +19,7 @@ use Rattle.csp_cell.specs.Cells.{implies, needed_beside, Takes}
 use Rattle.csp_cell.specs.Longest.{dots, dots_of, pieces_of, IsWithin, longest_with, is_longest, leaves_all}
 use Rattle.csp_cell.specs.declared.longest.Longest.{Longest}
 use Rattle.csp_cell.proofs.Covering.{implied}
-use Rattle.csp_cell.proofs.Lengths.{denied, unless, unless_implied, under_denied, short_denied}
+use Rattle.csp_cell.proofs.Lengths.{denied, unless, unless_implied, under_denied, beyond_denied}
 use Rattle.csp_cell.proofs.Parts.{all_pass}
 use Rattle.csp_cell.proofs.Taking.{all_none, all_taken}
 
@@ -51,6 +51,10 @@ whole_end inner outer (c ∷ front) e h =
 not_beyond : (path front : List (List ℕ)) → length path ≤ length front → goes_beyond path front ≡ false
 not_beyond path front h = grind (arith, nat_tests)
 
+whole_front : (inner outer rest : List (List ℕ)) → inner ≡ outer ++ rest → length inner ≤ length outer → inner ≡ outer
+whole_front inner outer [] e h = e ∙ append-nil outer
+whole_front inner outer (piece ∷ rest) e h = absurd (omega (arith, h, ap length e, length-append outer (piece ∷ rest)))
+
 left_denied : (longest : Longest) (a b : Atom) → is_longest longest a ≡ true → IsWithin longest (denied b) → follows (denied b) a ≡ None
     → implies (denied a) (denied b) ≡ false
 left_denied longest (HostUnder s) (HostIs (Domain t)) long within left =
@@ -62,7 +66,8 @@ left_denied longest (HostUnder s) b long within left = refl
 left_denied longest (PathUnder p) (PathIs q) long within left =
     unless_implied (goes_beyond q p) (not_beyond q p (grind (arith, nat_tests)))
 left_denied longest (PathUnder p) (PathUnder q) long within left =
-    short_denied (PathUnder q) (PathUnder p) (grind (arith, nat_tests)) left
+    let no_more : length q ≤ length p = grind (arith, nat_tests) in
+    unless_implied (begins_with q p) (beyond_denied q p (λ rest e. whole_front q p rest e no_more) (unless (begins_with p q) left))
 left_denied longest (PathUnder p) b long within left = refl
 left_denied longest a b long within left = absurd (false≢true long)
 

@@ -6,6 +6,7 @@ use Rattle.csp_atom.specs.Holding.{is_true_of}
 use Rattle.csp_atom.specs.declared.atom.Atom.{Atom}
 use Rattle.csp_atom.specs.declared.atom.Atom.TheVariants.{HostUnder, HostDomain, PathUnder, IntegrityHas, IntegrityOutside}
 use Rattle.csp_atom.specs.declared.atom.Literal.{Literal}
+use Rattle.csp_model.specs.Paths.{front_text}
 use Rattle.csp_model.specs.declared.check.Check.{Check}
 use Rattle.csp_model.specs.declared.source.Hash.{Hash}
 use Rattle.csp_shape.specs.Shapes.{looks_at}
@@ -59,10 +60,11 @@ implies literal other = is_answer other.positive (follows literal other.atom)
 abbrev pub needed_beside : Literal → List Literal → List Literal
 needed_beside literal literals = filter (λ other. not (implies literal other)) literals
 
--- of two suffixes, or of two fronts, the first is no longer than the other
+-- of two suffixes, or of the texts of two fronts, the first is no longer than the other
 abbrev pub is_no_longer : Atom → Atom → Bool
 is_no_longer (HostUnder inner) (HostUnder outer) = nat_le (length inner) (length outer)
-is_no_longer (PathUnder inner) (PathUnder outer) = nat_le (length inner) (length outer)
+is_no_longer (PathUnder inner) (PathUnder outer) =
+    nat_le (length (front_text inner)) (length (front_text outer))
 is_no_longer inner outer = false
 
 -- both are denied, and the other one is too short to lie below the literal's

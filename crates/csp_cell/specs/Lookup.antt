@@ -1,8 +1,9 @@
 -- What literals that rise say of an atom, looked up by the atoms that can decide it.
-use Rattle.std.specs.Prelude.{◌≡◌, ℕ, suc, zero, ◌==◌, ◌&&◌, ◌||◌, Bool, false, List, [], ◌∷◌, length, take, Option, Some, None, if◌then◌else◌, AllPairs}
+use Rattle.std.specs.Prelude.{◌≡◌, ℕ, suc, zero, ◌==◌, ◌&&◌, ◌||◌, Bool, false, List, [], ◌∷◌, length, take, Option, Some, None, if◌then◌else◌, AllPairs, ⊤}
 use Rattle.std.specs.List.{list_any}
 use Rattle.std.specs.Ordering.{is_eq, is_lt, is_gt}
 use Rattle.csp_model.specs.Ascii.{code}
+use Rattle.csp_model.specs.Paths.{front_pieces, front_text}
 use Rattle.csp_model.specs.declared.url.Host.TheVariants.{Domain}
 use Rattle.csp_atom.specs.Follows.{false_where}
 use Rattle.csp_atom.specs.declared.atom.Atom.{Atom}
@@ -15,7 +16,13 @@ use Rattle.csp_cell.specs.declared.wanted.Wanted.TheVariants as wanted
 abbrev pub atom_of : Wanted → Atom
 atom_of (wanted.Itself atom) = atom.now
 atom_of (wanted.Under suffix) = HostUnder suffix.now
-atom_of (wanted.Beyond pieces) = PathUnder pieces.now
+atom_of (wanted.Beyond front) = PathUnder (front_pieces front.now)
+
+-- a front is given by the text of a path, which ends in "/"
+abbrev pub IsWanted : Wanted → Type 0
+IsWanted (wanted.Itself atom) = ⊤
+IsWanted (wanted.Under suffix) = ⊤
+IsWanted (wanted.Beyond front) = front.now ≡ front_text (front_pieces front.now)
 
 -- no literal's atom is above a later one's
 abbrev pub Rises : List Literal → Type 0

@@ -50,8 +50,9 @@ fn is_no_longer(inner: &Atom, outer: &Atom) -> bool
         (Atom::HostUnder(inner), Atom::HostUnder(outer)) => {
             inner.as_str().len() <= outer.as_str().len()
         }
-        (Atom::PathUnder(inner), Atom::PathUnder(outer)) => inner.as_slice().len()
-            <= outer.as_slice().len(),
+        (Atom::PathUnder(inner), Atom::PathUnder(outer)) => {
+            inner.as_front().len() <= outer.as_front().len()
+        }
         _ => false,
     }
 }

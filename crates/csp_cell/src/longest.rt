@@ -43,7 +43,7 @@ impl Longest {
     {
         match atom {
             Atom::HostUnder(suffix) => self.dots <= dots(suffix.as_str()),
-            Atom::PathUnder(front) => self.pieces <= front.as_slice().len(),
+            Atom::PathUnder(front) => self.pieces <= front.len(),
             _ => false,
         }
     }
@@ -69,7 +69,7 @@ fn pieces_of(atom: &Atom) -> usize
     ensures { result ≡ spec.pieces_of atom.now }
 {
     match atom {
-        Atom::PathIs(path) | Atom::PathUnder(path) => path.as_slice().len(),
+        Atom::PathIs(path) | Atom::PathUnder(path) => path.len(),
         _ => 0,
     }
 }

@@ -7,7 +7,7 @@ ghost use Rattle.csp_cell.specs.Lookup as spec;
 use crate::wanted::{Wanted, compare_wanted};
 use csp_atom::order::compare;
 use csp_atom::{Atom, Literal};
-use csp_model::{Bytes, Host};
+use csp_model::{Host, Path};
 
 // What the literals say of the atom. Each that can decide it is looked for by a binary search.
 pub(crate) fn look_up(literals: &[Literal], atom: &Atom) -> Option<bool>
@@ -26,7 +26,7 @@ pub(crate) fn look_up(literals: &[Literal], atom: &Atom) -> Option<bool>
                 || has_above(literals, suffix.as_str().as_bytes()),
         ),
         Atom::PathIs(path) | Atom::PathUnder(path) => false_where(
-            has(literals, Wanted::Itself(atom)) || has_front(literals, path.as_slice()),
+            has(literals, Wanted::Itself(atom)) || has_front(literals, path),
         ),
         _ => kept(literals, Wanted::Itself(atom)),
     }
@@ -40,7 +40,8 @@ fn false_where(test: bool) -> Option<bool>
 
 // The sign of the literal of this atom, where there is one.
 fn kept(literals: &[Literal], wanted: Wanted) -> Option<bool>
-    requires { spec.Rises literals.now }
+    requires rises { spec.Rises literals.now }
+    requires wanted { spec.IsWanted wanted }
     ensures { result ≡ spec.kept literals.now (spec.atom_of wanted.entry) }
 {
     let place = literals.partition_point(|literal| compare_wanted(&literal.atom, wanted).is_lt());
@@ -53,6 +54,7 @@ fn kept(literals: &[Literal], wanted: Wanted) -> Option<bool>
 
 // The literal's sign, where its atom is this one.
 fn sign_of(literal: &Literal, wanted: Wanted) -> Option<bool>
+    requires { spec.IsWanted wanted }
     ensures { result ≡ spec.sign_of literal.now (spec.atom_of wanted.entry) }
 {
     if compare_wanted(&literal.atom, wanted).is_eq() {
@@ -63,7 +65,8 @@ fn sign_of(literal: &Literal, wanted: Wanted) -> Option<bool>
 }
 
 fn has(literals: &[Literal], wanted: Wanted) -> bool
-    requires { spec.Rises literals.now }
+    requires rises { spec.Rises literals.now }
+    requires wanted { spec.IsWanted wanted }
     ensures { result ≡ spec.has literals.now (spec.atom_of wanted.entry) }
 {
     kept(literals, wanted).is_some()
@@ -82,13 +85,15 @@ fn has_above(literals: &[Literal], text: &[u8]) -> bool
     false
 }
 
-// Whether there is one of the path's first pieces, not all of them.
-fn has_front(literals: &[Literal], path: &[Bytes]) -> bool
+// Whether there is one of the path's first pieces, not all of them. Each of these ends at a slash of its text.
+fn has_front(literals: &[Literal], path: &Path) -> bool
     requires { spec.Rises literals.now }
     ensures { result ≡ spec.has_front literals.now path.now (length path.now) }
 {
-    for count in 0..path.len() {
-        if has(literals, Wanted::Beyond(&path[..count])) {
+    let text = path.as_front().as_bytes();
+    let last = text.len().saturating_sub(1);
+    for at in 0..last {
+        if text[at] == b'/' && has(literals, Wanted::Beyond(&text[..at + 1])) {
             return true;
         }
     }

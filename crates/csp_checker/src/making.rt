@@ -9,27 +9,11 @@ ghost use Rattle.csp_checker.specs.Walk.{is_unmet, is_unmet_below, splits_below}
 
 use crate::asked::NumberedPair;
 use crate::walk::splits;
-use csp_model::{Disposition, Duplicate, Memory, PolicyList};
+use csp_model::{Duplicate, Memory, PolicyList};
 use csp_placed::PlacedFormulas;
 use csp_proof::{Body, Node, Tree};
 use csp_valuation::Valuation;
 use std::alloc::Global;
-
-// The numbers of the enforced policies, in order.
-fn enforced_of(alloc: Global, list: &PolicyList) -> Result<Vec<u32>, Memory>
-    requires { length list.now.policies ≤ policy_limit }
-    ensures { IfOk result (λ made. made.items ≡ accepts.enforced list.now) }
-{
-    let mut enforced = Vec::new(alloc);
-    let mut number = 0;
-    for policy in list.policies.as_slice() {
-        if let Disposition::Enforce = policy.disposition {
-            enforced.push(number)?;
-        }
-        number += 1;
-    }
-    Ok(enforced)
-}
 
 // Adds the pairs of one shape.
 fn push_pairs(pairs: &mut Vec<NumberedPair>, shape: u8, enforced: &[u32]) -> Result<(), Memory>
@@ -50,7 +34,7 @@ pub(crate) fn pairs_of(alloc: Global, second: &PolicyList) -> Result<Vec<Numbere
     requires { length second.now.policies ≤ policy_limit }
     ensures { IfOk result (λ made. made.items ≡ map numbered (due second.now)) }
 {
-    let enforced = enforced_of(alloc, second)?;
+    let enforced = second.enforced(alloc)?;
     let mut pairs = Vec::new(alloc);
     for shape in 0..189 {
         push_pairs(&mut pairs, shape, &enforced)?;

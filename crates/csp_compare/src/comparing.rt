@@ -5,7 +5,6 @@ ghost use Rattle.csp_compare.specs.Tasks.{IsTableOf, IsTask};
 ghost use Rattle.csp_model.specs.Policies.{IsReadable};
 
 use crate::draft::Draft;
-use crate::enforced::enforced_of;
 use crate::kinds::show_shape;
 use crate::probing::probe_shapes;
 use crate::task::Task;
@@ -39,7 +38,7 @@ pub fn compare(alloc: Global, first: &PolicyList, second: &PolicyList) -> Result
 {
     let vocabulary = vocabulary_of(alloc, first, second)?;
     let table = FormulaTable::new(alloc, first, second, &vocabulary)?;
-    let policies = enforced_of(alloc, second)?;
+    let policies = second.enforced(alloc)?;
     let task = Task {
         first,
         second,

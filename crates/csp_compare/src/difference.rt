@@ -12,7 +12,6 @@ ghost use Rattle.csp_shape.specs.Shapes.{is_shape};
 ghost use Rattle.csp_table.specs.Tables.{AreAt};
 
 use crate::comparing::SHAPE_COUNT;
-use crate::enforced::enforced_of;
 use crate::task::Task;
 use csp_atom::vocabulary_of;
 use csp_formula::laws::a_formula_is_what_the_policy_allows;
@@ -78,7 +77,7 @@ pub fn find_difference_among(
 {
     let vocabulary = vocabulary_of(alloc, first, second)?;
     let table = FormulaTable::new(alloc, first, second, &vocabulary)?;
-    let policies = enforced_of(alloc, second)?;
+    let policies = second.enforced(alloc)?;
     let task = Task {
         first,
         second,

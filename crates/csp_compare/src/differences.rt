@@ -5,7 +5,6 @@ ghost use Rattle.csp_compare.specs.Tasks.{IsTableOf, IsTask};
 ghost use Rattle.csp_model.specs.Policies.{IsReadable};
 
 use crate::difference::{effective_directives, find_by_table};
-use crate::enforced::enforced_of;
 use crate::task::Task;
 use csp_atom::vocabulary_of;
 use csp_model::{Check, List, Memory, Name, PolicyList};
@@ -36,7 +35,7 @@ pub fn find_differences(
 {
     let vocabulary = vocabulary_of(alloc, first, second)?;
     let table = FormulaTable::new(alloc, first, second, &vocabulary)?;
-    let policies = enforced_of(alloc, second)?;
+    let policies = second.enforced(alloc)?;
     let task = Task {
         first,
         second,

@@ -6,7 +6,6 @@ mod comparing;
 mod difference;
 mod differences;
 mod draft;
-mod enforced;
 mod kinds;
 pub mod laws;
 mod natural;

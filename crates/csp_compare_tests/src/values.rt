@@ -4,7 +4,7 @@ ghost use Rattle.csp_model.specs.Policies.{IsReadable};
 ghost use Rattle.csp_proof.specs.WellFormed.{IsWellFormed};
 
 use csp_atom::{Atom, Literal};
-use csp_model::{Algorithm, Digest, Hash, Host, List, Memory, Path, PolicyList, Text, pieces_of};
+use csp_model::{Algorithm, Digest, Hash, Host, List, Memory, Path, PolicyList, Text};
 use csp_policy::{BlockError, read_block};
 use csp_proof::{Proof, ProofError, read_proof};
 use csp_url::read_origin;
@@ -140,8 +140,8 @@ pub(crate) fn atom(alloc: Global, spelling: &str) -> Result<Atom, Memory> {
         "domain" => Atom::HostDomain,
         "https" => Atom::PortIs(443),
         "8080" => Atom::PortIs(8080),
-        "path" => Atom::PathIs(Path::new(alloc, pieces_of(alloc, text.as_bytes())?)?),
-        "below" => Atom::PathUnder(Path::new(alloc, pieces_of(alloc, text.as_bytes())?)?),
+        "path" => Atom::PathIs(Path::read(alloc, text.as_bytes())?),
+        "below" => Atom::PathUnder(Path::read(alloc, text.as_bytes())?),
         "scheme" => Atom::SchemeIs(Text::new(alloc, text)?),
         "nonce" => Atom::NonceIs(Text::new(alloc, text)?),
         "has" => Atom::IntegrityHas(Hash {

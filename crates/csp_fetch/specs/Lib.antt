@@ -1,2 +1,1 @@
-pub mod Destinations
 pub mod Listed

@@ -153,39 +153,23 @@ fn path_outline(part: &PathPart, shape: Shape) -> PathOutline
     match part {
         PathPart::Absent => PathOutline::Constant(true),
         PathPart::Exact(_) if after_redirect(shape) => PathOutline::Constant(true),
-        PathPart::Exact(pieces) => piece_outline(pieces, shape),
-        PathPart::Prefix(pieces) if after_redirect(shape) || pieces.as_slice().is_empty() => {
+        PathPart::Exact(path) => piece_outline(path, shape),
+        PathPart::Prefix(front) if after_redirect(shape) || front.is_empty() => {
             PathOutline::Constant(true)
         }
-        PathPart::Prefix(pieces) => piece_outline(pieces, shape),
+        PathPart::Prefix(front) => piece_outline(front, shape),
     }
 }
 
 // The outline of pieces that are looked at. Those of an ancestor, and those that no URL has, are never there.
-fn piece_outline(pieces: &Path, shape: Shape) -> PathOutline
-    ensures { result ≡ spec.pieces_outline (sentences.has_dots pieces.now) (sentences.is_ancestor shape) }
+fn piece_outline(path: &Path, shape: Shape) -> PathOutline
+    ensures { result ≡ spec.pieces_outline (sentences.has_dots path.now) (sentences.is_ancestor shape) }
 {
-    if has_dots(pieces) || is_ancestor(shape) {
+    if path.has_dot_segment() || is_ancestor(shape) {
         PathOutline::Constant(false)
     } else {
         PathOutline::Itself
     }
-}
-
-// Whether `.` or `..` is a piece, as in no URL.
-fn has_dots(pieces: &Path) -> bool
-    ensures { result ≡ sentences.has_dots pieces.now }
-{
-    pieces
-        .as_slice()
-        .iter()
-        .any(|piece| is_dots(piece.as_slice()))
-}
-
-fn is_dots(piece: &[u8]) -> bool
-    ensures { result ≡ sentences.is_dots piece.now }
-{
-    matches!(piece, b"." | b"..")
 }
 
 // Whether two outlines are one.

@@ -8,7 +8,7 @@ use Rattle.std.proofs.lemmas.Grind.{common_steps}
 use Rattle.std.proofs.lemmas.Bool.Decides.{nat_tests}
 use Rattle.csp_model.specs.Ascii.{lower}
 use Rattle.csp_model.specs.Grammar.{is_scheme}
-use Rattle.csp_model.specs.Validity.{are_bytes, is_piece, is_lower_scheme}
+use Rattle.csp_model.specs.Validity.{are_bytes, is_lower_scheme}
 
 pub bytes_are : (p : List ℕ) → ((i : ℕ) → get_or p i 0 < 256) → are_bytes p ≡ true
 bytes_are [] small = refl
@@ -16,17 +16,6 @@ bytes_are (b ∷ p) small =
     let first : b < 256 = small 0 in
     let rest : are_bytes p ≡ true = bytes_are p (λ i. small (suc i)) in
     grind (arith, nat_tests, first, rest)
-
-turned : (b d : Bool) → not (b || d) ≡ (not b && not d)
-turned true d = refl
-turned false d = refl
-
--- a piece is bytes that are neither "." nor ".."
-pub piece_is : (p : List ℕ) (dots : Bool) → ((i : ℕ) → get_or p i 0 < 256) → dots ≡ (bytes_eq p (codes ".") || bytes_eq p (codes "..")) → not dots ≡ is_piece p
-unfolding is_piece
-piece_is p dots small is = by (are_bytes p) (bytes_eq p (codes ".")) (bytes_eq p (codes "..")) (bytes_are p small) is where
-  by : (a b d : Bool) → a ≡ true → dots ≡ (b || d) → not dots ≡ (a && not b && not d)
-  by a b d k e = rw (k, e) (turned b d)
 
 lower_same : (text : List ℕ) → list_all (λ b. not (is_ascii_uppercase b)) text ≡ bytes_eq (lower text) text
 lower_same [] = refl

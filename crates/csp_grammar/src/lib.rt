@@ -1,5 +1,5 @@
-//! Small parts of the grammar of URLs and policies, as tests: domains, addresses, schemes, pieces of paths
-//! and base64-values (URL Standard; Content Security Policy Level 3, section 2.3.1).
+//! Small parts of the grammar of URLs and policies, as tests: domains, addresses, schemes and
+//! base64-values (URL Standard; Content Security Policy Level 3, section 2.3.1).
 //!
 //! No call takes memory.
 #![tactic(auto)]
@@ -7,11 +7,9 @@
 mod address;
 mod base64;
 mod domain;
-mod piece;
 mod scheme;
 
 pub use address::{is_address, is_four_numbers};
 pub use base64::is_base64_value;
 pub use domain::is_domain;
-pub use piece::is_piece;
 pub use scheme::is_lower_scheme;

@@ -4,11 +4,9 @@
 //! No call takes memory.
 #![tactic(auto)]
 
-mod element;
 mod governed;
 mod inline;
 pub mod laws;
 
-pub use element::{Element, element_nonce, nonceable};
 pub use governed::{governed_eval_allows, governed_inline_allows, governed_wasm_allows};
 pub use inline::{eval_allows, inline_allows, is_element_kind, is_script_kind, wasm_allows};

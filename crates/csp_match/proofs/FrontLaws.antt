@@ -1,81 +1,90 @@
--- The entries of one host, narrowed down by the fronts of a path.
-use Rattle.std.proofs.Common.{◌≡◌, ℕ, ◌+◌, ◌<◌, true, false, List, [], ◌∷◌, zero, suc, length, take, drop, get_or, refl, sym, ◌∙◌, ap, All, IsSortedBy, is_eq, is_lt, add-one, ap₂, arith}
-use Rattle.std.specs.Cmp.Lexicographic.{slice_cmp}
-use Rattle.std.specs.List.{slice_get}
-use Rattle.std.proofs.lemmas.Bool.{false≢true}
-use Rattle.std.proofs.lemmas.Cmp.{tied_itself}
-use Rattle.std.proofs.lemmas.List.Elements.{All-drop, All-take}
-use Rattle.std.proofs.lemmas.Slice.Eq.{bytes_eq-Decides}
+-- Texts in order, of which some begin others.
+use Rattle.std.proofs.Common.{◌≡◌, ℕ, ◌+◌, ◌-◌, ◌<◌, ◌≤◌, true, List, [], ◌∷◌, ◌++◌, length, take, drop, refl, sym, ◌∙◌, ap, IsSortedBy, Ordering, Less, Equal, Greater, is_lt, is_le, nat_cmp, inl, inr, ◌⊎◌, arith, append_assoc, take-append-drop}
+use Rattle.std.specs.Ordering.{ordering_then}
+use Rattle.std.proofs.Math.Seq.{take-append-add}
+use Rattle.std.proofs.lemmas.Bool.{false≢true, cases_lt}
+use Rattle.std.proofs.lemmas.Bool.Decides.{nat_tests}
+use Rattle.std.proofs.lemmas.List.Prefix.{front_fits, front_reads}
 use Rattle.csp_match.specs.contracts.host_source.TargetOrd.TheImpl as target_order
-use Rattle.csp_match.specs.Entries.{Entry, entry_pieces}
-use Rattle.csp_match.specs.Fronts.{goes_on, place_cmp, Rises, IsFronted}
-use Rattle.csp_match.specs.Pieces.{piece_cmp, piece_ties, piece_total}
-use Rattle.csp_match.proofs.RunOfKey.{part_sorted, then_less}
+use Rattle.csp_match.specs.Entries.{Entry}
+use Rattle.csp_match.specs.Fronts.{text_cmp, IsShared, Rises}
+use Rattle.csp_match.proofs.RunOfKey.{then_less}
 
 -- entries that rise by their targets rise by their paths
 pub paths_rise : (entries : List Entry) → IsSortedBy (λ x y. is_lt ((target_order.ghosts).cmp x.1 y.1)) entries → Rises entries
 paths_rise entries sorted k d low high = then_less _ _ (sorted k d low high)
 
--- texts with a common front stand to each other as what is behind it
-behind_front : (depth : ℕ) (xs ys : List (List ℕ)) → take depth xs ≡ take depth ys
-    → slice_cmp piece_cmp xs ys ≡ slice_cmp piece_cmp (drop depth xs) (drop depth ys)
-behind_front zero xs ys same = refl
-behind_front (suc n) [] [] same = refl
-behind_front (suc n) [] (y ∷ ys) same = cc
-behind_front (suc n) (x ∷ xs) [] same = cc
-behind_front (suc n) (x ∷ xs) (y ∷ ys) same =
-    let heads : x ≡ y = cc in
-    let tails : take n xs ≡ take n ys = cc in
-    rw (heads, tied_itself piece_total y) (behind_front n xs ys tails)
+-- the text begins with this one
+abbrev pub Begins : List ℕ → List ℕ → Type 0
+Begins text front = (more : List ℕ) × (text ≡ front ++ more)
 
--- and so as the pieces right behind it
-head_less : (xs ys : List (List ℕ)) → is_lt (slice_cmp piece_cmp xs ys) ≡ false → is_lt (place_cmp (slice_get xs 0) (slice_get ys 0)) ≡ false
-head_less [] [] h = refl
-head_less [] (y ∷ ys) h = h
-head_less (x ∷ xs) [] h = refl
-head_less (x ∷ xs) (y ∷ ys) h = then_less (piece_cmp x y) (slice_cmp piece_cmp xs ys) h
+-- ---- order
 
-get_drop : (n : ℕ) (xs : List (List ℕ)) → slice_get (drop n xs) 0 ≡ slice_get xs n
-get_drop zero xs = refl
-get_drop (suc n) [] = refl
-get_drop (suc n) (x ∷ xs) = get_drop n xs
+less_is : (x y : ℕ) → x < y → nat_cmp x y ≡ Less
+less_is x y h = grind (arith, nat_tests)
 
-pub places_rise : (path : List (List ℕ)) (depth : ℕ) (entries : List Entry) → IsFronted path depth entries
-    → IsSortedBy (λ x y. is_lt (place_cmp (slice_get (entry_pieces x) depth) (slice_get (entry_pieces y) depth))) entries
-places_rise path depth entries fronted k d low high =
-    let x = entry_pieces (get_or entries k d) in
-    let y = entry_pieces (get_or entries (k + 1) d) in
-    let same : take depth y ≡ take depth x = fronted.front (k + 1) d (omega arith) ∙ sym (fronted.front k d (omega arith)) in
-    let after = rw (behind_front depth y x same) at (fronted.rises k d low high) in
-    rw (get_drop depth y, get_drop depth x) at (head_less (drop depth y) (drop depth x) after)
+level_is : (x : ℕ) → nat_cmp x x ≡ Equal
+level_is x = grind (arith, nat_tests)
 
--- the first pieces of a path and one more
-same_piece : (x y : List ℕ) → is_eq (piece_cmp x y) ≡ true → x ≡ y
-same_piece x y h = (bytes_eq-Decides x y).0 (piece_ties x y ∙ h)
+greater_is : (x y : ℕ) → y < x → nat_cmp x y ≡ Greater
+greater_is x y h = grind (arith, nat_tests)
 
-pub one_more : (depth : ℕ) (pieces path : List (List ℕ)) → depth < length path → take depth pieces ≡ take depth path
-    → is_eq (place_cmp (slice_get pieces depth) (slice_get path depth)) ≡ true → take (depth + 1) pieces ≡ take (depth + 1) path
-one_more depth pieces path short same h = rw add-one (along depth pieces path short same h) where
-  along : (n : ℕ) (xs ys : List (List ℕ)) → n < length ys → take n xs ≡ take n ys
-      → is_eq (place_cmp (slice_get xs n) (slice_get ys n)) ≡ true → take (suc n) xs ≡ take (suc n) ys
-  along n xs [] within front level = absurd (omega (arith, within))
-  along zero [] (y ∷ ys) within front level = absurd (false≢true level)
-  along zero (x ∷ xs) (y ∷ ys) within front level = ap (λ (p : List ℕ). p ∷ []) (same_piece x y level)
-  along (suc n) [] (y ∷ ys) within front level = cc
-  along (suc n) (x ∷ xs) (y ∷ ys) within front level =
-      let heads : x ≡ y = cc in
-      let tails : take n xs ≡ take n ys = cc in
-      ap₂ (λ (p : List ℕ) (ps : List (List ℕ)). p ∷ ps) heads (along n xs ys (omega (arith, within)) tails level)
+-- what is not greater by its first number and the rest is less by the first, or not greater by the rest
+then_le : (x y : ℕ) (o : Ordering) → is_le (ordering_then (nat_cmp x y) o) ≡ true → (x < y) ⊎ ((x ≡ y) × (is_le o ≡ true))
+then_le x y o h = elim (cases_lt x y) [
+  | inl less ↦ inl less
+  | inr over ↦ elim (cases_lt y x) [
+    | inl more ↦ absurd (false≢true (rw (greater_is x y more) at h))
+    | inr under ↦
+        let same : x ≡ y = omega arith in
+        inr (same, rw (ap (nat_cmp x) (sym same) ∙ level_is x) at h)
+  ]
+]
 
--- a part of the entries, each of which has the path's next piece, begins with one piece more
-pub fronted_more : (path : List (List ℕ)) (depth : ℕ) (entries : List Entry) (i j : ℕ) → depth < length path → IsFronted path depth entries
-    → All (λ e. goes_on path depth e ≡ true) (take j (drop i entries)) → IsFronted path (depth + 1) (take j (drop i entries))
-fronted_more path depth entries i j short fronted level =
-    let part = take j (drop i entries) in
-    let front = λ (e : Entry). take depth (entry_pieces e) ≡ take depth path in
-    let fronts : All front part = All-take front j (drop i entries) (All-drop front i entries fronted.front) in
-    record {
-      within = omega arith;
-      rises = part_sorted (λ (x y : Entry). is_lt (slice_cmp piece_cmp (entry_pieces x) (entry_pieces y))) i j entries fronted.rises;
-      front = λ k d within. one_more depth (entry_pieces (get_or part k d)) path short (fronts k d within) (level k d within);
-    }
+-- what begins a text is not behind it
+pub begins_le : (front more : List ℕ) → is_le (text_cmp front (front ++ more)) ≡ true
+begins_le [] [] = refl
+begins_le [] (m ∷ more) = refl
+begins_le (x ∷ front) more = rw (level_is x) (begins_le front more)
+
+-- what stands between a text and one that begins it begins so too
+pub between : (front middle more : List ℕ) → is_le (text_cmp front middle) ≡ true → is_le (text_cmp middle (front ++ more)) ≡ true → Begins middle front
+between [] middle more low high = (middle, refl)
+between (x ∷ front) [] more low high = absurd (false≢true low)
+between (x ∷ front) (y ∷ middle) more low high =
+    elim (then_le x y (text_cmp front middle) low) [
+      | inl less ↦ elim (then_le y x (text_cmp middle (front ++ more)) high) [
+        | inl more ↦ absurd (omega arith)
+        | inr level ↦ absurd (let e = level.0 in omega arith)
+      ]
+      | inr level ↦ elim (then_le y x (text_cmp middle (front ++ more)) high) [
+        | inl less ↦ absurd (let e = level.0 in omega arith)
+        | inr also ↦
+            let (rest, e) = between front middle more level.1 also.1 in
+            (rest, ap (λ b. b ∷ middle) (sym level.0) ∙ ap (λ t. x ∷ t) e)
+      ]
+    ]
+
+-- ---- what two texts share
+
+-- what begins two texts is no longer than what they share
+pub shared_holds : (one other front : List ℕ) (n : ℕ) → IsShared one other n → Begins one front → Begins other front → length front ≤ n
+shared_holds one other front n shared (more, e) (rest, f) =
+    elim (cases_lt n (length front)) [
+      | inl longer ↦
+          let low : n < length one = omega (arith, front_fits one front more e) in
+          let high : n < length other = omega (arith, front_fits other front rest f) in
+          absurd (shared.apart low high (front_reads 0 one front more e n longer ∙ sym (front_reads 0 other front rest f n longer)))
+      | inr fits ↦ fits
+    ]
+
+-- and begins what is cut off there
+pub cut_begins : (text front : List ℕ) (n : ℕ) → Begins text front → length front ≤ n → Begins (take n text) front
+cut_begins text front n (more, e) fits =
+    let size : n ≡ length front + (n - length front) = omega arith in
+    (take (n - length front) more, ap (take n) e ∙ ap (λ m. take m (front ++ more)) size ∙ take-append-add front more (n - length front))
+
+-- what begins a text, cut off, begins it
+pub begins_cut : (text front : List ℕ) (n : ℕ) → Begins text front → Begins text (take n front)
+begins_cut text front n (more, e) =
+    (drop n front ++ more, e ∙ ap (λ t. t ++ more) (sym (take-append-drop n front)) ∙ append_assoc (take n front) (drop n front) more)

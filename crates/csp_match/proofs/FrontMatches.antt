@@ -1,92 +1,87 @@
--- Which paths match among those that begin with the first pieces of a URL's.
-use Rattle.std.proofs.Common.{◌≡◌, ℕ, ◌<◌, ◌≤◌, Bool, true, false, not, ◌==◌, List, [], ◌∷◌, ◌++◌, zero, suc, length, take, drop, nat_lt, refl, sym, ◌∙◌, ap, is_eq, take_all, take-append-drop, append-nil, length-append, length-take, arith, inl, inr}
-use Rattle.std.specs.Cmp.Lexicographic.{options_total}
-use Rattle.std.specs.List.{slice_get}
-use Rattle.std.proofs.lemmas.Bool.{false≢true, cases_lt}
-use Rattle.std.proofs.lemmas.Bool.Decides.{Decides-eqb, Decides-ltb}
-use Rattle.std.proofs.lemmas.Cmp.{tied_itself}
+-- Which entries match a URL: only those whose text begins that of its path, by their kinds.
+use Rattle.std.proofs.Common.{◌≡◌, ◌≢◌, ℕ, ◌<◌, ◌≤◌, Bool, true, false, not, ◌&&◌, ◌==◌, List, [], ◌∷◌, ◌++◌, length, refl, sym, ◌∙◌, ap, append-nil, length-append, arith, inl, inr}
+use Rattle.std.specs.Bool.{Decides}
+use Rattle.std.proofs.lemmas.Bool.{cases_lt}
+use Rattle.std.proofs.lemmas.Bool.Decides.{Decides-eqb, Decides-like, Decides-not, same_from_decides}
 use Rattle.csp_model.specs.DecideMatching.{path_matches}
-use Rattle.csp_model.specs.Ends.{begins_with}
-use Rattle.csp_model.proofs.Deciding.{same_bool}
-use Rattle.csp_model.proofs.EndLaws.{begins_Decides}
+use Rattle.csp_model.specs.Paths.{front_text}
+use Rattle.csp_model.proofs.EndLaws.{beyond_Decides}
 use Rattle.csp_model.proofs.MatchingDecided.{pieces_decide}
+use Rattle.csp_model.proofs.PathFronts.{IsRead, begun_from_text, beyond_by_text, further, further_text, longer_beyond, is_read}
+use Rattle.csp_match.specs.declared.asked.Asked.{Asked}
 use Rattle.csp_match.specs.declared.path_key.PathKind.{PathKind}
 use Rattle.csp_match.specs.declared.path_key.PathKind.TheVariants as kind
-use Rattle.csp_match.specs.Fronts.{place_cmp}
+use Rattle.csp_match.specs.Entries.{Entry, entry_pieces, entry_text, front_fits, scheme_of, target_fits, way_fits, way_port, IsEntry}
 use Rattle.csp_match.specs.Keys.{path_of, IsPath, takes}
-use Rattle.csp_match.specs.Pieces.{piece_total}
-use Rattle.csp_match.proofs.AnyLaws.{both, first, second}
+use Rattle.csp_match.proofs.AnyLaws.{second}
+use Rattle.csp_match.proofs.FrontLaws.{Begins}
 
-not_true : (b : Bool) → (b ≡ true → ⊥) → not b ≡ true
-not_true true none = absurd (none refl)
-not_true false none = refl
-
-not_holds : (b : Bool) → not b ≡ true → b ≡ true → ⊥
-not_holds true h = λ _. false≢true h
-not_holds false h = λ f. false≢true f
-
--- a path that is a front of a URL's
-module _ (pieces path : List (List ℕ)) (depth : ℕ) (is : pieces ≡ take depth path) (within : depth ≤ length path) where
-  size : length pieces ≡ depth
-  size = omega (arith, ap length is, length-take depth path)
-
-  ends_exact : (depth == length path) ≡ path_matches (path_of kind.Exact pieces) path
-  ends_exact =
-      same_bool _ _
-      (λ h. (pieces_decide pieces path).1 (is ∙ take_all depth path (omega (arith, (Decides-eqb depth (length path)).0 h))))
-      (λ h. (Decides-eqb depth (length path)).1 (sym size ∙ ap length ((pieces_decide pieces path).0 h)))
-
-  front_begins : begins_with path pieces ≡ true
-  front_begins = (begins_Decides path pieces).1 (drop depth path, sym (take-append-drop depth path) ∙ ap (λ (xs : List (List ℕ)). xs ++ drop depth path) (sym is))
-
-  shorter : not (depth == length path) ≡ true → length pieces < length path
-  shorter h =
-      elim (cases_lt (length pieces) (length path)) [
-        | inl less ↦ less
-        | inr more ↦ absurd (not_holds (depth == length path) h ((Decides-eqb depth (length path)).1 (omega (arith, size))))
-      ]
-
-  ends_prefix : not (depth == length path) ≡ path_matches (path_of kind.Prefix pieces) path
-  ends_prefix =
-      same_bool _ _
-      (λ h. both (nat_lt (length pieces) (length path)) (begins_with path pieces)
-      ((Decides-ltb (length pieces) (length path)).1 (shorter h)) front_begins)
-      (λ h. not_true _ (λ (e : (depth == length path) ≡ true). absurd (omega (
-        arith,
-        size,
-        (Decides-eqb depth (length path)).0 e,
-        (Decides-ltb (length pieces) (length path)).0 (first (nat_lt (length pieces) (length path)) (begins_with path pieces) h),
-      ))))
-
-  pub whole_matches : (k : PathKind) → takes k (depth == length path) ≡ path_matches (path_of k pieces) path
-  whole_matches kind.Absent = refl
-  whole_matches kind.Exact = ends_exact
-  whole_matches kind.Prefix = ends_prefix
-
--- a path that matches begins with the pieces
+-- the pieces of a path that matches begin the URL's
 begun : (k : PathKind) (pieces path : List (List ℕ)) → IsPath k pieces → path_matches (path_of k pieces) path ≡ true
-    → (rest : List (List ℕ)) × (path ≡ pieces ++ rest)
+    → (more : List (List ℕ)) × (path ≡ pieces ++ more)
 begun kind.Absent pieces path shape h = (path, rw shape refl)
 begun kind.Exact pieces path shape h = ([], sym ((pieces_decide pieces path).0 h) ∙ sym (append-nil pieces))
-begun kind.Prefix pieces path shape h =
-    (begins_Decides path pieces).0 (second (nat_lt (length pieces) (length path)) (begins_with path pieces) h)
+begun kind.Prefix pieces path shape h = let (more, some, e) = (beyond_Decides path pieces).0 h in (more, e)
 
-get_front : (n : ℕ) (xs ys : List (List ℕ)) → n < length xs → slice_get (xs ++ ys) n ≡ slice_get xs n
-get_front n [] ys within = absurd (omega (arith, within))
-get_front zero (x ∷ xs) ys within = refl
-get_front (suc n) (x ∷ xs) ys within = get_front n xs ys (omega (arith, within))
+-- so does its text
+pub fitting_begins : (asked : Asked) (e : Entry) → IsEntry e → target_fits asked e ≡ true → Begins (front_text asked.path.now) (entry_text e)
+fitting_begins asked e shape fits =
+    let pieces = entry_pieces e in
+    let way = way_fits (scheme_of e.1.way) (way_port e.1.way) asked in
+    let path = path_matches (path_of e.1.kind pieces) asked.path.now in
+    let (more, is) = begun e.1.kind pieces asked.path.now shape.1 (second way path fits) in
+    (further more, ap front_text is ∙ further_text pieces more ∙ ap (λ t. t ++ further more) (sym shape.2))
 
--- so it goes on with the piece behind a front
-pub matching_goes_on : (k : PathKind) (pieces path : List (List ℕ)) (depth : ℕ) → IsPath k pieces → depth < length pieces
-    → path_matches (path_of k pieces) path ≡ true → is_eq (place_cmp (slice_get pieces depth) (slice_get path depth)) ≡ true
-matching_goes_on k pieces path depth shape longer h =
-    let b = begun k pieces path shape h in
-    let there : slice_get path depth ≡ slice_get pieces depth = ap (λ (xs : List (List ℕ)). slice_get xs depth) b.1 ∙ get_front depth pieces b.0 longer in
-    ap (λ o. is_eq (place_cmp (slice_get pieces depth) o)) there ∙ ap is_eq (tied_itself (options_total piece_total) (slice_get pieces depth))
+-- of pieces that begin a path, the path has no others where the texts are of one length
+module _ (pieces path : List (List ℕ)) (begins : (more : List (List ℕ)) × (path ≡ pieces ++ more)) where
+  no_longer : length (front_text pieces) ≤ length (front_text path)
+  no_longer =
+      let (more, e) = begins in
+      omega (arith, ap (λ p. length (front_text p)) e, ap length (further_text pieces more), length-append (front_text pieces) (further more))
 
--- and has no fewer pieces
-pub matching_short : (k : PathKind) (pieces path : List (List ℕ)) → IsPath k pieces → path_matches (path_of k pieces) path ≡ true
-    → length pieces ≤ length path
-matching_short k pieces path shape h =
-    let b = begun k pieces path shape h in
-    omega (arith, ap length b.1, length-append pieces b.0)
+  ends_Decides : Decides (length (front_text pieces) == length (front_text path)) (pieces ≡ path)
+  ends_Decides = Decides-like (length (front_text pieces) == length (front_text path))
+      (λ (same : length (front_text pieces) ≡ length (front_text path)). by begins.0 begins.1 same)
+      (λ (e : pieces ≡ path). ap (λ p. length (front_text p)) e)
+      (Decides-eqb (length (front_text pieces)) (length (front_text path))) where
+        by : (more : List (List ℕ)) → path ≡ pieces ++ more → length (front_text pieces) ≡ length (front_text path) → pieces ≡ path
+        by [] e same = sym (e ∙ append-nil pieces)
+        by (m ∷ more) e same =
+            let longer : length (front_text pieces) < length (front_text path) = longer_beyond path pieces (m ∷ more) (λ (none : m ∷ more ≡ []). cc) e in
+            absurd (omega arith)
+
+  behind_Decides : Decides (not (length (front_text pieces) == length (front_text path))) ((more : List (List ℕ)) × (more ≢ []) × (path ≡ pieces ++ more))
+  behind_Decides = Decides-like (not (length (front_text pieces) == length (front_text path)))
+      (λ (apart : pieces ≡ path → ⊥). beyond_by_text path pieces (shorter apart) begins)
+      (λ (more, some, e) same.
+      let longer : length (front_text pieces) < length (front_text path) = longer_beyond path pieces more some e in
+      let level = ap (λ p. length (front_text p)) same in
+      omega arith)
+      (Decides-not (length (front_text pieces) == length (front_text path)) ends_Decides) where
+        shorter : (pieces ≡ path → ⊥) → length (front_text pieces) < length (front_text path)
+        shorter apart = elim (cases_lt (length (front_text pieces)) (length (front_text path))) [
+          | inl less ↦ less
+          | inr over ↦ absurd (apart (ends_Decides.0 ((Decides-eqb (length (front_text pieces)) (length (front_text path))).1 (omega (arith, no_longer)))))
+        ]
+
+  pub begun_matches : (k : PathKind) → takes k (length (front_text pieces) == length (front_text path)) ≡ path_matches (path_of k pieces) path
+  begun_matches kind.Absent = refl
+  begun_matches kind.Exact = same_from_decides _ _ ends_Decides (pieces_decide pieces path)
+  begun_matches kind.Prefix = same_from_decides _ _ behind_Decides (beyond_Decides path pieces)
+
+and_swapped : (a b : Bool) → (a && b) ≡ (b && a)
+and_swapped true true = refl
+and_swapped true false = refl
+and_swapped false true = refl
+and_swapped false false = refl
+
+-- an entry whose text begins the path's matches by its kind
+pub begun_fits : (asked : Asked) (e : Entry) → IsEntry e → IsRead asked.path.now → Begins (front_text asked.path.now) (entry_text e)
+    → front_fits asked (length (entry_text e) == length (front_text asked.path.now)) e.1 ≡ target_fits asked e
+begun_fits asked e shape read (rest, is) =
+    let pieces = entry_pieces e in
+    let path = asked.path.now in
+    let way = way_fits (scheme_of e.1.way) (way_port e.1.way) asked in
+    let begins = begun_from_text path pieces rest read (is_read (entry_text e) shape.2) (is ∙ ap (λ t. t ++ rest) shape.2) in
+    and_swapped (takes e.1.kind (length (entry_text e) == length (front_text path))) way
+    ∙ ap (λ (b : Bool). way && b) (ap (λ t. takes e.1.kind (length t == length (front_text path))) shape.2 ∙ begun_matches pieces path begins e.1.kind)

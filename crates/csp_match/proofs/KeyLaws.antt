@@ -2,7 +2,7 @@
 use Rattle.std.proofs.Common.{◌≡◌, ℕ, Bool, true, ◌&&◌, ◌==◌, List, length, refl, sym, ◌∙◌, ap, ap₂, Ordering, Less, Equal, Greater, is_eq, nat_cmp, Option, Some, None}
 use Rattle.std.specs.Option.{option_eq}
 use Rattle.std.specs.Cmp.{unsigned_tied}
-use Rattle.std.specs.Cmp.Lexicographic.{pointwise, slice_cmp}
+use Rattle.std.specs.Cmp.Lexicographic.{slice_cmp}
 use Rattle.std.specs.Ordering.{ordering_then}
 use Rattle.std.specs.Str.{bytes_eq}
 use Rattle.std.proofs.lemmas.Bool.{false≢true}
@@ -10,7 +10,6 @@ use Rattle.std.proofs.lemmas.Bool.Decides.{Decides-eqb}
 use Rattle.std.proofs.lemmas.Map.Text.{is_eq-slice_cmp}
 use Rattle.std.proofs.lemmas.Slice.Eq.{bytes_eq-Decides}
 use Rattle.csp_model.proofs.Deciding.{same_bool}
-use Rattle.csp_model.proofs.MatchingDecided.{pieces_decide}
 use Rattle.csp_model.specs.declared.source.HostPart.{HostPart}
 use Rattle.csp_model.specs.declared.source.HostPart.TheVariants as host_part
 use Rattle.csp_match.specs.contracts.host_key.HostKeyOrd.TheImpl as host_order
@@ -29,7 +28,7 @@ use Rattle.csp_match.specs.declared.host_source.Target.{Target}
 use Rattle.csp_match.specs.declared.host_source.Way.{Way}
 use Rattle.csp_match.specs.Entries.{entry_parts, Entry, scheme_of, way_port}
 use Rattle.csp_match.specs.Keys.{host_of, hash_of, IsHostKey, port_of}
-use Rattle.csp_match.specs.Pieces.{pieces_of}
+use Rattle.csp_model.specs.Paths.{front_pieces}
 use Rattle.csp_match.specs.Under.{same_part}
 use Rattle.csp_match.proofs.AnyLaws.{both, first, second}
 
@@ -119,13 +118,13 @@ one_kind kind.Prefix kind.Prefix h = refl
 one_kind a b h = absurd (false≢true h)
 
 pub one_target : (a b : Target) → target_eq a b ≡ true
-    → (pieces_of a.pieces ≡ pieces_of b.pieces) × (a.kind ≡ b.kind) × (way_eq a.way b.way ≡ true)
+    → (a.text.now ≡ b.text.now) × (a.kind ≡ b.kind) × (way_eq a.way b.way ≡ true)
 one_target a b h =
-    let pieces = pointwise bytes_eq (pieces_of a.pieces) (pieces_of b.pieces) in
+    let texts = bytes_eq a.text.now b.text.now in
     let kinds = (kind_equal.ghosts).eq a.kind b.kind in
     let ways = way_eq a.way b.way in
-    let rest = second pieces (kinds && ways) h in (
-      (pieces_decide (pieces_of a.pieces) (pieces_of b.pieces)).0 (first pieces (kinds && ways) h),
+    let rest = second texts (kinds && ways) h in (
+      (bytes_eq-Decides a.text.now b.text.now).0 (first texts (kinds && ways) h),
       one_kind a.kind b.kind (first kinds ways rest),
       second kinds ways rest,
     )
@@ -137,6 +136,6 @@ one_entry a b h =
     let target = one_target a.1 b.1 (second (host_eq a.0 b.0) (target_eq a.1 b.1) h) in
     let schemes = one_scheme a.1.way b.1.way target.2 in
     let ports = one_way_port a.1.way b.1.way target.2 in
-    let pieces = target.0 in
+    let pieces = ap front_pieces target.0 in
     let kinds = target.1 in
     cc

@@ -1,9 +1,9 @@
 pub mod AnyLaws
 pub mod BuildLaws
 pub mod CandidateLaws
-pub mod FrontEntries
 pub mod FrontLaws
 pub mod FrontMatches
+pub mod FrontWalk
 pub mod HostLaws
 pub mod KeyLaws
 pub mod RunOfKey

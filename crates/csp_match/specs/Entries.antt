@@ -1,10 +1,10 @@
 -- What the entries of an index stand for, and when they fit.
-use Rattle.std.specs.Prelude.{ℕ, ◌&&◌, Bool, List, Option}
+use Rattle.std.specs.Prelude.{◌≡◌, ℕ, ◌&&◌, Bool, List, Option}
 use Rattle.csp_model.specs.DecideMatching.{own_scheme_matches, path_matches, port_matches}
+use Rattle.csp_model.specs.Paths.{front_pieces, front_text}
 use Rattle.csp_model.specs.Schemes.{scheme_text}
 use Rattle.csp_model.specs.declared.source.PortPart.{PortPart}
 use Rattle.csp_match.specs.Keys.{host_of, IsHostKey, path_of, takes, IsPath, port_of, Parts}
-use Rattle.csp_match.specs.Pieces.{pieces_of}
 use Rattle.csp_match.specs.declared.asked.Asked.{Asked}
 use Rattle.csp_match.specs.declared.host_key.HostKey.{HostKey}
 use Rattle.csp_match.specs.declared.host_source.Target.{Target}
@@ -20,9 +20,12 @@ way_port way = port_of way.port
 abbrev pub Entry : Type 0
 Entry = HostKey × Target
 
--- the pieces of its path
+-- the text of its path, which ends in "/", and the path's pieces
+abbrev pub entry_text : Entry → List ℕ
+entry_text e = e.1.text.now
+
 abbrev pub entry_pieces : Entry → List (List ℕ)
-entry_pieces e = pieces_of e.1.pieces
+entry_pieces e = front_pieces (entry_text e)
 
 abbrev pub entry_parts : Entry → Parts
 entry_parts e = record {
@@ -33,7 +36,7 @@ entry_parts e = record {
 }
 
 abbrev pub IsEntry : Entry → Type 0
-IsEntry e = IsHostKey e.0 × IsPath e.1.kind (entry_pieces e)
+IsEntry e = IsHostKey e.0 × IsPath e.1.kind (entry_pieces e) × (entry_text e ≡ front_text (entry_pieces e))
 
 -- a URL's scheme and port are those that are asked for
 abbrev pub way_fits : Option (List ℕ) → PortPart → Asked → Bool

@@ -1,37 +1,33 @@
--- Entries of one host whose paths have a common front.
-use Rattle.std.specs.Prelude.{◌≡◌, ◌==◌, ◌&&◌, ℕ, ◌≤◌, Bool, List, Option, Some, All, length, take}
+-- Entries of one host, and how the texts of paths begin.
+use Rattle.std.specs.Prelude.{◌≡◌, ◌≢◌, ℕ, ◌<◌, ◌≤◌, ◌==◌, ◌&&◌, Bool, List, length, take, slice_index}
 use Rattle.std.specs.Cmp.Lexicographic.{slice_cmp}
-use Rattle.std.specs.List.{slice_get}
 use Rattle.std.specs.List.Sorted.{IsSortedBy}
-use Rattle.std.specs.Option.{option_cmp}
-use Rattle.std.specs.Ordering.{is_eq, is_lt}
+use Rattle.std.specs.Ordering.{is_le, is_lt, nat_cmp}
 use Rattle.std.specs.declared.cmp.Ordering.{Ordering}
-use Rattle.csp_match.specs.Entries.{Entry, entry_pieces, target_fits}
+use Rattle.csp_model.specs.Paths.{front_text}
 use Rattle.csp_match.specs.declared.asked.Asked.{Asked}
-use Rattle.csp_match.specs.Pieces.{piece_cmp}
+use Rattle.csp_match.specs.declared.host_source.Target.{Target}
+use Rattle.csp_match.specs.Entries.{Entry, entry_text, front_fits}
 
--- the order of what stands at a place of a path: nothing before all pieces
-abbrev pub place_cmp : Option (List ℕ) → Option (List ℕ) → Ordering
-place_cmp = option_cmp piece_cmp
+abbrev pub text_cmp : List ℕ → List ℕ → Ordering
+text_cmp = slice_cmp nat_cmp
 
--- the entries stand in the order of their paths, piece by piece
+-- the entries stand in the order of the texts of their paths
 abbrev pub Rises : List Entry → Type 0
-Rises entries = IsSortedBy (λ x y. is_lt (slice_cmp piece_cmp (entry_pieces x) (entry_pieces y))) entries
+Rises entries = IsSortedBy (λ x y. is_lt (text_cmp (entry_text x) (entry_text y))) entries
 
--- so many pieces of each path are the first ones of this path
-pub record IsFronted (path : List (List ℕ)) (depth : ℕ) (entries : List Entry) : Type 0 where
-  pub within : depth ≤ length path
-  pub rises : Rises entries
-  pub front : All (λ e. take depth (entry_pieces e) ≡ take depth path) entries
+-- an entry's text isn't behind this one in order
+abbrev pub is_up_to : List ℕ → Entry → Bool
+is_up_to text e = is_le (text_cmp (entry_text e) text)
 
--- how what stands at a place of an entry's path stands to a piece
-abbrev pub stands : Entry → ℕ → List ℕ → Ordering
-stands e depth piece = place_cmp (slice_get (entry_pieces e) depth) (Some piece)
+-- so many of their first bytes two texts have in common, and no more
+pub record IsShared (one other : List ℕ) (n : ℕ) : Type 0 where
+  pub within : n ≤ length one
+  pub inside : n ≤ length other
+  pub same : take n one ≡ take n other
+  pub apart : n < length one → n < length other → slice_index one n ≢ slice_index other n
 
--- an entry has the piece of this path at a place
-abbrev pub goes_on : List (List ℕ) → ℕ → Entry → Bool
-goes_on path depth e = is_eq (place_cmp (slice_get (entry_pieces e) depth) (slice_get path depth))
-
--- its path is the first pieces of the URL's path, so many, and it is the URL's
-abbrev pub whole_fits : Asked → ℕ → Entry → Bool
-whole_fits asked depth e = length (entry_pieces e) == depth && target_fits asked e
+-- all of a target's text is shared with a URL's path, and the target is the URL's
+abbrev pub shared_fits : Asked → ℕ → Target → Bool
+shared_fits asked n target =
+    (n == length target.text.now) && front_fits asked (n == length (front_text asked.path.now)) target

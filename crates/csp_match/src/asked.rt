@@ -1,5 +1,5 @@
 //! What is asked of an index.
-use csp_model::{Bytes, Host, List, Origin, Scheme};
+use csp_model::{Host, Origin, Path, Scheme};
 
 // A URL with a host, in a policy of an origin.
 #[derive(Clone, Copy)]
@@ -8,6 +8,6 @@ pub(crate) struct Asked<'a> {
     pub(crate) scheme: Scheme,
     pub(crate) host: &'a Host,
     pub(crate) port: Option<u16>,
-    pub(crate) path: &'a List<Bytes>,
+    pub(crate) path: &'a Path,
     pub(crate) redirected: bool,
 }

@@ -6,8 +6,7 @@ ghost use Rattle.csp_match.specs.Entries as entries;
 
 use crate::asked::Asked;
 use crate::host_key::HostKey;
-use crate::path_key::{PathKind, pieces_of_part};
-use crate::pieces::Pieces;
+use crate::path_key::{PathKind, front_of};
 use crate::port::port_matches;
 use crate::scheme::own_scheme_matches;
 use csp_model::{PortPart, Source, Text};
@@ -62,11 +61,11 @@ impl Way<'_> {
     }
 }
 
-// Where the URLs of a host-source lie at its host, and how they are reached. Pieces come first in the order,
-// so paths with a common front stand together, and those that are this front stand before the longer ones.
+// Where the URLs of a host-source lie at its host, and how they are reached. The text of its path comes first
+// in the order, with a slash at its end.
 #[derive(Clone, Copy, PartialEq, Eq, PartialOrd, Ord)]
 pub(crate) struct Target<'a> {
-    pub(crate) pieces: Pieces<'a>,
+    pub(crate) text: &'a str,
     pub(crate) kind: PathKind,
     pub(crate) way: Way<'a>,
 }
@@ -94,7 +93,7 @@ pub(crate) fn host_source(source: &Source) -> Option<(HostKey<'_>, Target<'_>)>
         } => {
             let port = PortKey::of(*port)?;
             let target = Target {
-                pieces: pieces_of_part(path),
+                text: front_of(path),
                 kind: PathKind::of(path),
                 way: Way { scheme, port },
             };

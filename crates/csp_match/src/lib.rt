@@ -17,7 +17,6 @@ mod index;
 mod multimap;
 mod path;
 mod path_key;
-mod pieces;
 mod port;
 mod scheme;
 mod self_source;

@@ -2,15 +2,15 @@
 ghost use Rattle.std.specs.Prelude.{◌≡◌};
 ghost use Rattle.csp_model.specs.DecideMatching as spec;
 
-use csp_model::{Bytes, List, PathPart, goes_beyond};
+use csp_model::{Path, PathPart};
 
 /// Whether a host-source's path matches a URL's, piece by piece.
-pub fn path_matches(part: &PathPart, path: &List<Bytes>) -> bool
+pub fn path_matches(part: &PathPart, path: &Path) -> bool
     ensures { result ≡ spec.path_matches part.now path.now }
 {
     match part {
         PathPart::Absent => true,
-        PathPart::Exact(pieces) => pieces.as_slice() == path.as_slice(),
-        PathPart::Prefix(pieces) => goes_beyond(path.as_slice(), pieces.as_slice()),
+        PathPart::Exact(own) => own == path,
+        PathPart::Prefix(front) => path.goes_beyond(front),
     }
 }

@@ -1,9 +1,8 @@
 //! Paths of host-sources, as keys.
 ghost use Rattle.std.specs.Prelude.{◌≡◌};
 ghost use Rattle.csp_match.specs.Keys as spec;
-ghost use Rattle.csp_match.specs.Pieces.{pieces_of};
+ghost use Rattle.csp_model.specs.Paths.{front_pieces, front_text};
 
-use crate::pieces::Pieces;
 use csp_model::PathPart;
 
 // Which paths of URLs a host-source's path matches, beside its pieces.
@@ -40,14 +39,14 @@ impl PathKind {
     }
 }
 
-// The pieces of a host-source's path.
-pub(crate) fn pieces_of_part(part: &PathPart) -> Pieces<'_>
-    ensures { pieces_of result ≡ spec.part_pieces part.now }
+// The text of a host-source's path, with a slash at its end: the first pieces of a path are its where the
+// text of the path begins with it.
+pub(crate) fn front_of(part: &PathPart) -> &str
+    ensures text { result.now ≡ front_text (front_pieces result.now) }
+    ensures pieces { front_pieces result.now ≡ spec.part_pieces part.now }
 {
     match part {
-        PathPart::Absent => Pieces { pieces: &[] },
-        PathPart::Exact(pieces) | PathPart::Prefix(pieces) => Pieces {
-            pieces: pieces.as_slice(),
-        },
+        PathPart::Absent => "/",
+        PathPart::Exact(path) | PathPart::Prefix(path) => path.as_front(),
     }
 }

@@ -65,3 +65,9 @@ requests_hold first second subsumes (asked ∷ rest) valid all =
 pub requests_follow : (first second : PolicyList) → Subsumes first second → (checks : List Check) → All IsValidCheck checks
     → IsTrue (allows_all first checks) → IsTrue (allows_all second checks)
 requests_follow first second subsumes checks valid all = requests_hold first second subsumes checks valid all
+
+-- More policies
+
+pub more_is_stricter : (first second : PolicyList) → Subsumes (record { policies = first.policies ++ second.policies }) first
+more_is_stricter first second asked valid allowed =
+    (and_parts (list_allows first asked) (list_allows second asked) (sym (joined_allows first second asked) ∙ allowed)).0

@@ -23,7 +23,7 @@ escape_no_slash b h = elim (eqb_tells b 47) [
   | inr ne ↦ ne.0
 ]
 
-no_slash_in : (piece : List ℕ) → All (λ b. (b == 47) ≡ false) (percent_encode ESCAPED piece)
+pub no_slash_in : (piece : List ℕ) → All (λ b. (b == 47) ≡ false) (percent_encode ESCAPED piece)
 no_slash_in piece = All-percent_encode (λ b. (b == 47) ≡ false) ESCAPED piece kept_no_slash escape_no_slash
 
 -- behind its first slash

@@ -1,11 +1,11 @@
 -- The grammar of source expressions (Content Security Policy Level 3, section 2.3.1; RFC 3986, sections 2 and
 -- 3): which texts are a source of which kind, each text built from its parts.
-use Rattle.std.specs.Prelude.{◌≡◌, ◌≢◌, ℕ, ◌+◌, ◌-◌, ◌*◌, Bool, true, false, not, ◌&&◌, ◌||◌, nat_lt, nat_eq, ◌==◌, if◌then◌else◌, List, [], ◌∷◌, ◌++◌, map, drop, Option, Some, None, IsTrue, codes}
+use Rattle.std.specs.Prelude.{◌≡◌, ◌≢◌, ℕ, ◌+◌, ◌-◌, ◌*◌, Bool, true, false, not, ◌&&◌, ◌||◌, nat_lt, nat_eq, ◌==◌, if◌then◌else◌, List, [], ◌∷◌, ◌++◌, drop, Option, Some, None, IsTrue, codes}
 use Rattle.std.specs.List.{list_all, list_any, fold, starts_with}
 use Rattle.std.specs.Str.{bytes_eq}
 use Rattle.std.specs.Char.{is_ascii_alphabetic, is_ascii_alphanumeric, is_ascii_digit, is_ascii_hexdigit}
-use Rattle.percent_encoding.specs.Percent.{percent_decode}
 use Rattle.csp_model.specs.Ascii.{code, lower, is_nonempty, without_last, without_final, ends_in, split_at}
+pub use Rattle.csp_model.specs.Paths.{pieces_of}
 use Rattle.csp_model.specs.declared.source.Algorithm.{Algorithm}
 use Rattle.csp_model.specs.declared.source.Algorithm.TheVariants.{Sha256, Sha384, Sha512}
 use Rattle.csp_model.specs.declared.source.HostPart.{HostPart}
@@ -85,10 +85,6 @@ abbrev pub are_segments : List (List ℕ) → Bool
 are_segments [] = false
 are_segments (s ∷ []) = is_segment s
 are_segments (s ∷ t ∷ rest) = is_nonempty s && list_all is_segment (s ∷ t ∷ rest)
-
--- the pieces of a path behind its first "/", percent-decoded
-abbrev pub pieces_of : List ℕ → List (List ℕ)
-pieces_of text = map percent_decode (split_at (code "/") text)
 
 -- nothing, or path-part = path-absolute without ";" and ",": "/" [ segment-nz *( "/" segment ) ]
 unfoldable pub path_part_of : List ℕ → Option PathPart

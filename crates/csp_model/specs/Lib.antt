@@ -10,6 +10,7 @@ pub mod DecideNavigation
 pub mod DecideNonces
 pub mod DecideTokens
 pub mod DecideVerdict
+pub mod Destinations
 pub mod Ends
 pub mod Fetch
 pub mod Governing
@@ -21,7 +22,6 @@ pub mod Matching
 pub mod Names
 pub mod Navigation
 pub mod Parts
-pub mod PathKeys
 pub mod Paths
 pub mod Policies
 pub mod Reading

@@ -45,6 +45,16 @@ abbrev pub is_enforce : Disposition → Bool
 is_enforce Enforce = true
 is_enforce Report = false
 
+-- the numbers of the enforced policies, where the first policy has this number
+abbrev pub enforced_from : ℕ → List Policy → List ℕ
+enforced_from number [] = []
+enforced_from number (p ∷ ps) =
+    if is_enforce p.disposition then number ∷ enforced_from (number + 1) ps
+    else enforced_from (number + 1) ps
+
+abbrev pub enforced : PolicyList → List ℕ
+enforced list = enforced_from 0 list.policies
+
 -- a list allows a check: each enforced policy does
 abbrev pub list_allows : PolicyList → Check → Bool
 list_allows list asked =

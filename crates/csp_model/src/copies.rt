@@ -32,8 +32,8 @@ impl Duplicate for Bytes {
 }
 
 impl Duplicate for Path {
-    fn copy(&self, _alloc: Global) -> Result<Path, Memory> {
-        self.share()
+    fn copy(&self, alloc: Global) -> Result<Path, Memory> {
+        self.copied(alloc)
     }
 }
 

@@ -1,5 +1,5 @@
 //! Laws of the definitions, each the contract of a function with no body.
-ghost use Rattle.std.specs.Prelude.{◌≡◌, ◌↔◌, ◌&&◌, not, ℕ, Bool, List, [], ◌∷◌, ◌++◌, All, Any, IsTrue, IsPermutation, Option, option_and_then, slice_get};
+ghost use Rattle.std.specs.Prelude.{◌≡◌, ◌↔◌, ◌&&◌, not, ℕ, Bool, List, [], ◌∷◌, ◌++◌, All, Any, IsTrue, IsPermutation, Option, Some, option_and_then, slice_get};
 ghost use Rattle.std.specs.Option.{option_map};
 ghost use Rattle.csp_model.specs.DecideEnds.{is_host_under};
 ghost use Rattle.csp_model.specs.DecideEquality.{same_host, same_port, same_algorithm, same_hash, same_keyword};
@@ -9,13 +9,13 @@ ghost use Rattle.csp_model.specs.DecideTokens.{has_keyword, nonce_matches, integ
 ghost use Rattle.csp_model.specs.Governing.{Governor, governor, governing_place};
 ghost use Rattle.csp_model.specs.Inclusion.{Subsumes};
 ghost use Rattle.csp_model.specs.Inline.{IsNonceable, IsElementNonce};
-ghost use Rattle.csp_model.specs.Laws.{EnforcedAllow};
+ghost use Rattle.csp_model.specs.Laws.{EnforcedAllow, IsRefusal};
 ghost use Rattle.csp_model.specs.Matching.{IsHostUnder, Matches, ListMatches};
 ghost use Rattle.csp_model.specs.Policies.{firsts};
 ghost use Rattle.csp_model.specs.Tokens.{HasKeyword, NonceMatches, IntegrityMatches, DigestsMatch};
 ghost use Rattle.csp_model.specs.Validity.{IsValidCheck};
 ghost use Rattle.csp_model.specs.DecideVerdict.{allows};
-ghost use Rattle.csp_model.specs.Verdict.{Allows, list_allows, allows_all, verdict_of};
+ghost use Rattle.csp_model.specs.Verdict.{Allows, allows_all, items_from, items_of, list_allows, shown_items, verdict_of};
 ghost use Rattle.csp_model.specs.declared.check.Check.{Check};
 ghost use Rattle.csp_model.specs.declared.check.Digests.{Digests};
 ghost use Rattle.csp_model.specs.declared.name.Name.{Name};
@@ -30,6 +30,7 @@ ghost use Rattle.csp_model.specs.declared.source.Source.{Source};
 ghost use Rattle.csp_model.specs.declared.url.Host.{Host};
 ghost use Rattle.csp_model.specs.declared.url.Origin.{Origin};
 ghost use Rattle.csp_model.specs.declared.url.Url.{Url};
+ghost use Rattle.csp_model.specs.declared.verdict.Item.{Item};
 
 /// Two hosts, ports, algorithms, hashes or keywords are one by their test exactly where they are equal.
 pub fn tests_of_equality_decide_it()
@@ -95,6 +96,17 @@ pub fn a_verdict_blocks_what_the_list_refuses()
         → (verdict_of list checks).blocked ≡ not (allows_all list checks) }
 {}
 
+/// The items of a check speak of policies that don't allow it, each by its number. Each such policy has an
+/// item; of a base URL those behind the first enforced one aren't shown.
+pub fn items_are_the_policies_that_refuse()
+    ensures each { (list : PolicyList) (asked : Check) → All (IsRefusal list asked) (items_of list asked) }
+    ensures shown { (list : PolicyList) (asked : Check)
+        → items_of list asked ≡ shown_items asked (items_from 0 list.policies asked) }
+    ensures all { (list : PolicyList) (asked : Check) (number : ℕ) (p : Policy)
+        → slice_get list.policies number ≡ Some p → ¬ Allows p asked
+        → Any (λ (item : Item). item.policy ≡ number) (items_from 0 list.policies asked) }
+{}
+
 /// Policies that are added to a list can only forbid more: two lists joined allow what both of them allow.
 pub fn joined_lists_allow_what_both_allow()
     ensures { (first second : PolicyList) (asked : Check)
@@ -118,6 +130,12 @@ pub fn order_changes_nothing()
 /// Every list is at least as strict as itself.
 pub fn subsumption_is_reflexive()
     ensures { (list : PolicyList) → Subsumes list list }
+{}
+
+/// A list is at least as strict as one that has fewer of its policies.
+pub fn more_policies_are_stricter()
+    ensures { (first second : PolicyList)
+        → Subsumes (record { policies = first.policies ++ second.policies }) first }
 {}
 
 /// A list that is at least as strict as a second, which is so to a third, is so to the third.

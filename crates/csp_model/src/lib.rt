@@ -3,9 +3,10 @@
 
 mod check;
 mod copies;
+mod destination;
+mod element;
 mod ends;
 mod grammar;
-mod keyed;
 pub mod laws;
 mod list;
 mod memory;
@@ -19,12 +20,14 @@ mod verdict;
 
 pub use check::{Capability, Check, CheckPart, Digest, Digests, FetchRule, Group, InlineKind};
 pub use copies::Duplicate;
-pub use ends::{begins_with, goes_beyond, is_subdomain};
+pub use destination::{Destination, effective};
+pub use element::{Element, element_nonce, nonceable};
+pub use ends::is_subdomain;
 pub use grammar::{are_digits, decimal_value, is_scheme, is_scheme_char};
 pub use list::List;
 pub use memory::Memory;
 pub use name::{Name, name_text};
-pub use path::{ESCAPED, Path, pieces_of, push_path};
+pub use path::{ESCAPED, Path};
 pub use policy::{Directive, Disposition, Policy, PolicyList};
 pub use source::{Algorithm, Hash, HostPart, Keyword, PathPart, PortPart, Source};
 pub use text::{Bytes, Text, is_ascii_text};

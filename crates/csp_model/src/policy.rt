@@ -1,11 +1,15 @@
 //! Policies (Content Security Policy Level 3, section 2.2).
-ghost use Rattle.std.specs.Prelude.{◌≡◌};
+ghost use Rattle.std.specs.Prelude.{◌≡◌, ◌≤◌, length, IfOk};
 ghost use Rattle.csp_model.specs.Names as spec;
+ghost use Rattle.csp_model.specs.Policies.{policy_limit};
+ghost use Rattle.csp_model.specs.Verdict as verdict;
 
 use crate::list::List;
+use crate::memory::Memory;
 use crate::source::Source;
 use crate::text::Text;
 use crate::url::Origin;
+use std::alloc::Global;
 
 /// A directive of a policy.
 #[derive(Debug, PartialEq, Eq, Drop)]
@@ -53,4 +57,22 @@ pub struct Policy {
 #[derive(Debug, PartialEq, Eq, Drop)]
 pub struct PolicyList {
     pub policies: List<Policy>,
+}
+
+impl PolicyList {
+    /// The numbers of the enforced policies, counted from 0.
+    pub fn enforced(&self, alloc: Global) -> Result<Vec<u32>, Memory>
+        requires { length self.now.policies ≤ policy_limit }
+        ensures { IfOk result (λ numbers. numbers.items ≡ verdict.enforced self.now) }
+    {
+        let mut numbers = Vec::new(alloc);
+        let mut number = 0u32;
+        for policy in self.policies.as_slice() {
+            if policy.disposition == Disposition::Enforce {
+                numbers.push(number)?;
+            }
+            number += 1;
+        }
+        Ok(numbers)
+    }
 }

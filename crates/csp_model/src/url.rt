@@ -1,10 +1,13 @@
 //! URLs and origins, as far as a policy looks at them (URL Standard, sections 4.1 and 4.7).
 ghost use Rattle.std.specs.Prelude.{◌≡◌};
+ghost use Rattle.csp_model.specs.DecideEnds as ends;
+ghost use Rattle.csp_model.specs.DecideMatching as matching;
 ghost use Rattle.csp_model.specs.Paths.{host_text};
 ghost use Rattle.csp_model.specs.Schemes as spec;
 
-use crate::list::List;
-use crate::text::{Bytes, Text};
+use crate::ends::is_subdomain;
+use crate::path::Path;
+use crate::text::Text;
 
 /// A scheme whose URLs have a host that a policy can match.
 #[derive(Clone, Copy, Debug, PartialEq, Eq)]
@@ -74,6 +77,23 @@ impl Host {
             Host::Domain(text) | Host::Address(text) => text.as_str(),
         }
     }
+
+    /// Whether the host is a domain.
+    pub fn is_domain(&self) -> bool
+        ensures { result ≡ matching.is_domain_host self.now }
+    {
+        matches!(self, Host::Domain(_))
+    }
+
+    /// Whether the host is a domain that lies under a suffix: it ends in a dot and the suffix.
+    pub fn is_under(&self, suffix: &str) -> bool
+        ensures { result ≡ ends.is_host_under self.now suffix.now }
+    {
+        match self {
+            Host::Domain(domain) => is_subdomain(domain.as_str(), suffix),
+            Host::Address(_) => false,
+        }
+    }
 }
 
 /// Where a policy comes from (HTML Standard, section 7.1.1).
@@ -96,12 +116,11 @@ pub enum Url {
     Plain {
         scheme: Text,
     },
-    /// A URL with a host. A port of None stands for the scheme's default. The path is the list of its
-    /// pieces between slashes, percent-decoded: `/` is one empty piece.
+    /// A URL with a host. A port of None stands for the scheme's default. The path `/` is one empty piece.
     Hosted {
         scheme: Scheme,
         host: Host,
         port: Option<u16>,
-        path: List<Bytes>,
+        path: Path,
     },
 }

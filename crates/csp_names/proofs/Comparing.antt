@@ -1,4 +1,4 @@
--- How the order of two atoms on one part is found: paths as their pieces are, and level ones by what they are; else as atoms are in order.
+-- How the order of two atoms on one part is found: paths as their texts are, and level ones by what is said of them; else as atoms are in order.
 use Rattle.std.proofs.Common.{◌≡◌, ◌≢◌, ◌∙◌, refl, sym, ap, ap₂, ℕ, List}
 use Rattle.std.specs.Cmp.Lexicographic.{slice_cmp}
 use Rattle.std.specs.Ordering.{ordering_then}
@@ -6,10 +6,11 @@ use Rattle.std.specs.declared.cmp.Ordering.{Ordering}
 use Rattle.std.specs.declared.cmp.Ordering.TheVariants.{Less, Greater}
 use Rattle.csp_model.specs.declared.check.CheckPart.TheVariants as part
 use Rattle.csp_atom.specs.Atoms.{part_of}
+use Rattle.csp_atom.specs.Kinds.{path_cmp}
 use Rattle.csp_atom.specs.Order.{key, atom_cmp}
 use Rattle.csp_atom.specs.declared.atom.Atom.{Atom}
 use Rattle.csp_atom.specs.declared.atom.Atom.TheVariants.{HostIs, HostUnder, HostDomain, PortIs, PathIs, PathUnder, SchemeIs, NonceIs, IntegrityHas, IntegrityOutside, DigestIs}
-use Rattle.csp_names.proofs.NameOrder.{then_level, path_order, pieces_cmp}
+use Rattle.csp_names.proofs.NameOrder.{front_cmp}
 use Rattle.csp_names.specs.Order.{text_cmp, content_key, content_cmp}
 
 other_key : (a : Atom) → (part_of a ≢ part.Host) → (part_of a ≢ part.Path) → content_key a ≡ key a
@@ -31,14 +32,14 @@ by_atoms a b e no_host no_path =
 
 -- Paths
 
-pub paths_level : (a b : Atom) (p q : List (List ℕ)) (r : Ordering) → a ≡ PathIs p → b ≡ PathIs q → r ≡ pieces_cmp p q → r ≡ content_cmp a b
-paths_level a b p q r e f is = is ∙ sym (then_level (pieces_cmp p q)) ∙ sym (path_order p q 0 0) ∙ ap₂ content_cmp (sym e) (sym f)
+pub paths_level : (a b : Atom) (p q : List (List ℕ)) (r : Ordering) → a ≡ PathIs p → b ≡ PathIs q → r ≡ path_cmp p q → r ≡ content_cmp a b
+paths_level a b p q r e f is = is ∙ ap₂ content_cmp (sym e) (sym f)
 
-pub fronts_level : (a b : Atom) (p q : List (List ℕ)) (r : Ordering) → a ≡ PathUnder p → b ≡ PathUnder q → r ≡ pieces_cmp p q → r ≡ content_cmp a b
-fronts_level a b p q r e f is = is ∙ sym (then_level (pieces_cmp p q)) ∙ sym (path_order p q 1 1) ∙ ap₂ content_cmp (sym e) (sym f)
+pub fronts_level : (a b : Atom) (p q : List (List ℕ)) (r : Ordering) → a ≡ PathUnder p → b ≡ PathUnder q → r ≡ path_cmp p q → r ≡ content_cmp a b
+fronts_level a b p q r e f is = is ∙ ap₂ content_cmp (sym e) (sym f)
 
-pub path_first : (a b : Atom) (p q : List (List ℕ)) (s r : Ordering) → a ≡ PathIs p → b ≡ PathUnder q → s ≡ pieces_cmp p q → r ≡ ordering_then s Less → r ≡ content_cmp a b
-path_first a b p q s r e f was is = is ∙ ap (λ o. ordering_then o Less) was ∙ sym (path_order p q 0 1) ∙ ap₂ content_cmp (sym e) (sym f)
+pub path_first : (a b : Atom) (p q : List (List ℕ)) (s r : Ordering) → a ≡ PathIs p → b ≡ PathUnder q → s ≡ front_cmp p q → r ≡ ordering_then s Less → r ≡ content_cmp a b
+path_first a b p q s r e f was is = is ∙ ap (λ o. ordering_then o Less) was ∙ ap₂ content_cmp (sym e) (sym f)
 
-pub front_last : (a b : Atom) (p q : List (List ℕ)) (s r : Ordering) → a ≡ PathUnder p → b ≡ PathIs q → s ≡ pieces_cmp p q → r ≡ ordering_then s Greater → r ≡ content_cmp a b
-front_last a b p q s r e f was is = is ∙ ap (λ o. ordering_then o Greater) was ∙ sym (path_order p q 1 0) ∙ ap₂ content_cmp (sym e) (sym f)
+pub front_last : (a b : Atom) (p q : List (List ℕ)) (s r : Ordering) → a ≡ PathUnder p → b ≡ PathIs q → s ≡ front_cmp p q → r ≡ ordering_then s Greater → r ≡ content_cmp a b
+front_last a b p q s r e f was is = is ∙ ap (λ o. ordering_then o Greater) was ∙ ap₂ content_cmp (sym e) (sym f)

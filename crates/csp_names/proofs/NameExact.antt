@@ -12,7 +12,7 @@ use Rattle.csp_atom.specs.declared.atom.Atom.TheVariants.{HostIs, HostUnder, Hos
 use Rattle.csp_atom.specs.Atoms.{part_of}
 use Rattle.csp_atom.proofs.SameAtom.{same_atom, equal_is}
 use Rattle.csp_names.specs.Order.{text_cmp, number_of, content_cmp, name_cmp}
-use Rattle.csp_names.proofs.NameOrder.{name_total, then_level, path_order, pieces_cmp}
+use Rattle.csp_names.proofs.NameOrder.{name_total, then_level, front_cmp}
 use Rattle.csp_names.proofs.PartOrder.{same_part, parts_first}
 
 unreversed : (n : ℕ) (x y : List ℕ) → ordering_then (text_cmp (n ∷ reverse x) (n ∷ reverse y)) Equal ≡ Equal → x ≡ y
@@ -48,10 +48,10 @@ content_exact HostDomain (HostIs (Domain e)) part h = let none = unreversed 1 []
 content_exact HostDomain (HostUnder e) part h = let none = unreversed 1 [] (46 ∷ e) h in cc
 content_exact (HostIs (Domain e)) HostDomain part h = let none = unreversed 1 (0 ∷ e) [] h in cc
 content_exact (HostUnder e) HostDomain part h = let none = unreversed 1 (46 ∷ e) [] h in cc
-content_exact (PathIs p) (PathIs q) part h = same_atom (PathIs p) (PathIs q) (sym (then_level (pieces_cmp p q)) ∙ sym (path_order p q 0 0) ∙ h)
-content_exact (PathUnder p) (PathUnder q) part h = same_atom (PathUnder p) (PathUnder q) (sym (then_level (pieces_cmp p q)) ∙ sym (path_order p q 1 1) ∙ h)
-content_exact (PathIs p) (PathUnder q) part h = never_less (pieces_cmp p q) (sym (path_order p q 0 1) ∙ h)
-content_exact (PathUnder p) (PathIs q) part h = never_greater (pieces_cmp p q) (sym (path_order p q 1 0) ∙ h)
+content_exact (PathIs p) (PathIs q) part h = same_atom (PathIs p) (PathIs q) h
+content_exact (PathUnder p) (PathUnder q) part h = same_atom (PathUnder p) (PathUnder q) h
+content_exact (PathIs p) (PathUnder q) part h = never_less (front_cmp p q) h
+content_exact (PathUnder p) (PathIs q) part h = never_greater (front_cmp p q) h
 content_exact (HostIs (Domain d)) b part h = cc
 content_exact (HostIs (Address d)) b part h = cc
 content_exact (HostUnder s) b part h = cc

@@ -1,7 +1,7 @@
 -- In the order of names what an atom is around stands right behind it: hosts, paths, and atoms that are around themselves alone.
-use Rattle.std.proofs.Common.{◌≡◌, ◌≢◌, ◌∙◌, refl, sym, ap, ap₂, subst, ℕ, Bool, true, false, List, [], ◌∷◌, ◌++◌}
+use Rattle.std.proofs.Common.{◌≡◌, ◌≢◌, ◌<◌, ◌∙◌, refl, sym, ap, ap₂, subst, ℕ, Bool, true, false, List, [], ◌∷◌, ◌++◌, length, arith}
 use Rattle.std.specs.Prelude.{is_some, ◌==◌, ⊤}
-use Rattle.std.specs.Cmp.{IsTotalOrder, on_total, tied_itself}
+use Rattle.std.specs.Cmp.{IsTotalOrder, on_total, tied_itself, nat_cmp_total}
 use Rattle.std.specs.Cmp.Lexicographic.{slice_cmp, lists_total, nat_list_cmp_total}
 use Rattle.std.specs.Ordering.{nat_cmp, ordering_then, is_gt}
 use Rattle.std.specs.Str.{bytes_eq}
@@ -11,14 +11,16 @@ use Rattle.std.proofs.lemmas.Bool.Decides.{Decides-eqb}
 use Rattle.std.proofs.lemmas.Slice.Eq.{bytes_eq-Decides}
 use Rattle.csp_model.specs.DecideEnds.{begins_with, goes_beyond}
 use Rattle.csp_model.specs.DecideEquality.{same_hash}
+use Rattle.csp_model.specs.Paths.{front_text}
 use Rattle.csp_model.specs.declared.check.Digest.TheVariants.{Sha256, Sha384, Sha512}
 use Rattle.csp_model.proofs.EndLaws.{begins_Decides, beyond_Decides}
 use Rattle.csp_model.proofs.EqualityDecided.{same_hash_decides}
+use Rattle.csp_model.proofs.PathFronts.{IsRead, begun_from_text, further, further_text, longer_beyond}
 use Rattle.csp_atom.specs.Follows.{false_where, same_path}
 use Rattle.csp_atom.specs.declared.atom.Atom.{Atom}
 use Rattle.csp_atom.specs.declared.atom.Atom.TheVariants.{HostIs, HostUnder, HostDomain, PortIs, PathIs, PathUnder, SchemeIs, NonceIs, IntegrityHas, IntegrityOutside, DigestIs}
 use Rattle.csp_atom.proofs.Own.{own}
-use Rattle.std.proofs.lemmas.Map.Lookups.{exact_bytes}
+use Rattle.std.proofs.lemmas.Map.Lookups.{exact_bytes, exact_unsigned}
 use Rattle.std.proofs.lemmas.List.{append-nil}
 use Rattle.csp_atom.proofs.TableTests.{same_path_decides}
 use Rattle.csp_names.specs.Around.{is_around}
@@ -40,6 +42,11 @@ not_gt_first Less s h = refl
 not_gt_first Equal s h = refl
 not_gt_first Greater s h = h
 
+not_gt_then : (r s : Ordering) → is_gt r ≡ false → is_gt s ≡ false → is_gt (ordering_then r s) ≡ false
+not_gt_then Less s h k = refl
+not_gt_then Equal s h k = k
+not_gt_then Greater s h k = h
+
 pub itself : (a : Atom) → is_around a a ≡ true
 itself a = ap is_some (own (record { atom = a; positive = false }))
 
@@ -56,22 +63,11 @@ host_order a b one two = ap₂ (slice_cmp text_cmp) (key_of_host a one) (key_of_
 
 -- Paths
 
-pub path_order : (p q : List (List ℕ)) (m n : ℕ)
-    → slice_cmp text_cmp (path_key p (m ∷ [])) (path_key q (n ∷ [])) ≡ ordering_then (slice_cmp text_cmp p q) (nat_cmp m n)
-path_order [] [] m n = then_level (text_cmp (m ∷ []) (n ∷ [])) ∙ then_level (nat_cmp m n)
-path_order [] (y ∷ q) m n = refl
-path_order (x ∷ p) [] m n = refl
-path_order (x ∷ p) (y ∷ q) m n = by (text_cmp x y) (path_order p q m n)
-  where
-    by : (o : Ordering) → slice_cmp text_cmp (path_key p (m ∷ [])) (path_key q (n ∷ [])) ≡ ordering_then (slice_cmp text_cmp p q) (nat_cmp m n)
-        → ordering_then o (slice_cmp text_cmp (path_key p (m ∷ [])) (path_key q (n ∷ [])))
-        ≡ ordering_then (ordering_then o (slice_cmp text_cmp p q)) (nat_cmp m n)
-    by Less e = refl
-    by Equal e = e
-    by Greater e = refl
-
 abbrev pub pieces_cmp : List (List ℕ) → List (List ℕ) → Ordering
 pieces_cmp = slice_cmp text_cmp
+
+abbrev pub front_cmp : List (List ℕ) → List (List ℕ) → Ordering
+front_cmp p q = text_cmp (front_text p) (front_text q)
 
 pub shown : (test : Bool) → is_some (false_where test) ≡ true → test ≡ true
 shown true e = refl
@@ -80,13 +76,18 @@ shown false e = cc
 pub show : (test : Bool) → test ≡ true → is_some (false_where test) ≡ true
 show test e = rw e refl
 
-pub first_of_both : (p q : List (List ℕ)) (m n : ℕ) → is_gt (slice_cmp text_cmp (path_key p (m ∷ [])) (path_key q (n ∷ []))) ≡ false
-    → is_gt (pieces_cmp p q) ≡ false
-first_of_both p q m n h = not_gt_first (pieces_cmp p q) (nat_cmp m n) (subst (λ (o : Ordering). is_gt o ≡ false) (path_order p q m n) h)
+pub first_of_both : (p q : List (List ℕ)) (m n : ℕ) → is_gt (slice_cmp text_cmp (path_key p m) (path_key q n)) ≡ false
+    → is_gt (front_cmp p q) ≡ false
+first_of_both p q m n h = not_gt_first (front_cmp p q) (slice_cmp text_cmp ((m ∷ []) ∷ p) ((n ∷ []) ∷ q)) h
 
--- what lies under a front begins with it, and what begins with it and is not above itself lies under it
-pub fronts_between : (p q : List (List ℕ)) (r : List (List ℕ)) → is_gt (pieces_cmp p q) ≡ false → is_gt (pieces_cmp q (p ++ r)) ≡ false → IsFrontOf p q
-fronts_between p q r low high = between text_cmp nat_list_cmp_total exact_bytes p q r low high
+-- what stands between a front and a path that begins with it begins with it too
+pub fronts_between : (p q s : List (List ℕ)) → IsRead p → IsRead q → IsFrontOf p s
+    → is_gt (front_cmp p q) ≡ false → is_gt (front_cmp q s) ≡ false → IsFrontOf p q
+fronts_between p q s read also (more, e) low high =
+    let text : front_text s ≡ front_text p ++ further more = ap front_text e ∙ further_text p more in
+    let found = between nat_cmp nat_cmp_total exact_unsigned (front_text p) (front_text q) (further more) low
+    (subst (λ (t : List ℕ). is_gt (text_cmp (front_text q) t) ≡ false) text high) in
+    begun_from_text q p found.0 also read found.1
 
 pub front_front : (p q : List (List ℕ)) → IsFrontOf p q → is_around (PathUnder p) (PathUnder q) ≡ true
 front_front p q (r, e) = show (begins_with q p) ((begins_Decides q p).1 (r, e))
@@ -94,8 +95,8 @@ front_front p q (r, e) = show (begins_with q p) ((begins_Decides q p).1 (r, e))
 pub front_path : (p q : List (List ℕ)) → IsFrontOf p q → is_gt (name_cmp (PathUnder p) (PathIs q)) ≡ false → is_around (PathUnder p) (PathIs q) ≡ true
 front_path p q ([], e) low =
     let same : p ≡ q = sym (e ∙ append-nil p) in
-    let level : pieces_cmp p p ≡ Equal = tied_itself (lists_total nat_list_cmp_total) p in
-    let order : name_cmp (PathUnder p) (PathIs p) ≡ Greater = path_order p p 1 0 ∙ ap (λ o. ordering_then o Greater) level in
+    let level : front_cmp p p ≡ Equal = tied_itself nat_list_cmp_total (front_text p) in
+    let order : name_cmp (PathUnder p) (PathIs p) ≡ Greater = ap (λ o. ordering_then o Greater) level in
     let here : is_gt (name_cmp (PathUnder p) (PathIs p)) ≡ false = subst (λ (x : List (List ℕ)). is_gt (name_cmp (PathUnder p) (PathIs x)) ≡ false) (sym same) low in
     let up : true ≡ false = sym (ap is_gt order) ∙ here in
     cc
@@ -103,15 +104,24 @@ front_path p q (x ∷ r, e) low = show (goes_beyond q p) ((beyond_Decides q p).1
 
 pub under_is_low : (p q : List (List ℕ)) (r : List (List ℕ)) → q ≡ p ++ r → is_gt (name_cmp (PathUnder p) (PathUnder q)) ≡ false
 under_is_low p q r e =
-    ap is_gt (path_order p q 1 1 ∙ then_level (pieces_cmp p q))
-    ∙ subst (λ (l : List (List ℕ)). is_gt (pieces_cmp p l) ≡ false) (sym e) (front_is_low text_cmp nat_list_cmp_total exact_bytes p r)
+    let text : front_text q ≡ front_text p ++ further r = ap front_text e ∙ further_text p r in
+    let first : is_gt (front_cmp p q) ≡ false =
+    subst (λ (t : List ℕ). is_gt (text_cmp (front_text p) t) ≡ false) (sym text) (front_is_low nat_cmp nat_cmp_total exact_unsigned (front_text p) (further r)) in
+    let second : is_gt (pieces_cmp p q) ≡ false =
+    subst (λ (l : List (List ℕ)). is_gt (pieces_cmp p l) ≡ false) (sym e) (front_is_low text_cmp nat_list_cmp_total exact_bytes p r) in
+    not_gt_then (front_cmp p q) (pieces_cmp p q) first second
+
+-- a text is below a longer one that begins with it
+below_longer : (front rest text : List ℕ) → text ≡ front ++ rest → length front < length text → text_cmp front text ≡ Less
+below_longer front [] text e long = absurd (omega (arith, ap length (e ∙ append-nil front)))
+below_longer front (b ∷ rest) text e long =
+    subst (λ (t : List ℕ). text_cmp front t ≡ Less) (sym e) (front_is_below nat_cmp nat_cmp_total exact_unsigned front rest b)
 
 pub beyond_is_low : (p q : List (List ℕ)) (r : List (List ℕ)) → (r ≢ []) → q ≡ p ++ r → is_gt (name_cmp (PathUnder p) (PathIs q)) ≡ false
-beyond_is_low p q [] some e = absurd (some refl)
-beyond_is_low p q (x ∷ r) some e =
-    let less : pieces_cmp p q ≡ Less =
-    subst (λ (l : List (List ℕ)). pieces_cmp p l ≡ Less) (sym e) (front_is_below text_cmp nat_list_cmp_total exact_bytes p r x) in
-    ap is_gt (path_order p q 1 0 ∙ ap (λ o. ordering_then o Greater) less)
+beyond_is_low p q r some e =
+    let less : front_cmp p q ≡ Less =
+    below_longer (front_text p) (further r) (front_text q) (ap front_text e ∙ further_text p r) (longer_beyond q p r some e) in
+    ap is_gt (ap (λ o. ordering_then o Greater) less)
 
 -- Atoms that are around themselves alone
 

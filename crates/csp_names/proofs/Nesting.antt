@@ -7,6 +7,7 @@ use Rattle.std.specs.declared.cmp.Ordering.TheVariants.{Less, Equal, Greater}
 use Rattle.csp_model.specs.DecideEnds.{begins_with, goes_beyond}
 use Rattle.csp_model.specs.declared.check.CheckPart.TheVariants as part
 use Rattle.csp_model.proofs.EndLaws.{begins_Decides, beyond_Decides}
+use Rattle.csp_model.proofs.PathFronts.{valid_read}
 use Rattle.csp_atom.specs.Atoms.{part_of, IsValidAtom}
 use Rattle.csp_atom.specs.declared.atom.Atom.{Atom}
 use Rattle.csp_atom.specs.declared.atom.Atom.TheVariants.{HostIs, HostUnder, HostDomain, PortIs, PathIs, PathUnder, SchemeIs, NonceIs, IntegrityHas, IntegrityOutside, DigestIs}
@@ -16,7 +17,7 @@ use Rattle.csp_names.specs.Hosts.{IsHostAtom}
 use Rattle.csp_names.specs.Order.{name_cmp}
 use Rattle.csp_names.specs.Prefix.{IsFrontOf}
 use Rattle.csp_names.proofs.HostOrder as hosts
-use Rattle.csp_names.proofs.NameOrder.{name_total, itself, host_order, shown, show, first_of_both, fronts_between, front_front, front_path, under_is_low, beyond_is_low, flat_alone, IsFlat, pieces_cmp}
+use Rattle.csp_names.proofs.NameOrder.{name_total, itself, host_order, shown, show, first_of_both, fronts_between, front_front, front_path, under_is_low, beyond_is_low, flat_alone, IsFlat}
 use Rattle.csp_names.proofs.NameExact.{name_exact}
 use Rattle.csp_names.proofs.PartOrder.{stand_together}
 
@@ -109,21 +110,15 @@ between_on_part (HostUnder x) b c v w u e f h lo hi =
 between_on_part HostDomain b c v w u e f h lo hi =
     host_between HostDomain b c (record { part = refl; valid = v }) (host_atom HostDomain b refl e w) (host_atom HostDomain c refl f u) h lo hi
 between_on_part (PathUnder p) (PathUnder q) (PathUnder s) v w u e f h lo hi =
-    let front = begins p s h in
-    front_front p q (fronts_between p q front.0 (first_of_both p q 1 1 lo)
-    (subst (λ (l : List (List ℕ)). is_gt (pieces_cmp q l) ≡ false) front.1 (first_of_both q s 1 1 hi)))
+    front_front p q (fronts_between p q s (valid_read p v.1) (valid_read q w.1) (begins p s h) (first_of_both p q 1 1 lo) (first_of_both q s 1 1 hi))
 between_on_part (PathUnder p) (PathUnder q) (PathIs s) v w u e f h lo hi =
     let front = goes p s h in
-    front_front p q (fronts_between p q front.0 (first_of_both p q 1 1 lo)
-    (subst (λ (l : List (List ℕ)). is_gt (pieces_cmp q l) ≡ false) front.2 (first_of_both q s 1 0 hi)))
+    front_front p q (fronts_between p q s (valid_read p v.1) (valid_read q w.1) (front.0, front.2) (first_of_both p q 1 1 lo) (first_of_both q s 1 0 hi))
 between_on_part (PathUnder p) (PathIs q) (PathUnder s) v w u e f h lo hi =
-    let front = begins p s h in
-    front_path p q (fronts_between p q front.0 (first_of_both p q 1 0 lo)
-    (subst (λ (l : List (List ℕ)). is_gt (pieces_cmp q l) ≡ false) front.1 (first_of_both q s 0 1 hi))) lo
+    front_path p q (fronts_between p q s (valid_read p v.1) (valid_read q w.1) (begins p s h) (first_of_both p q 1 0 lo) (first_of_both q s 0 1 hi)) lo
 between_on_part (PathUnder p) (PathIs q) (PathIs s) v w u e f h lo hi =
     let front = goes p s h in
-    front_path p q (fronts_between p q front.0 (first_of_both p q 1 0 lo)
-    (subst (λ (l : List (List ℕ)). is_gt (pieces_cmp q l) ≡ false) front.2 (first_of_both q s 0 0 hi))) lo
+    front_path p q (fronts_between p q s (valid_read p v.1) (valid_read q w.1) (front.0, front.2) (first_of_both p q 1 0 lo) (first_of_both q s 0 0 hi)) lo
 between_on_part (PathUnder p) b c v w u e f h lo hi = cc
 between_on_part (PortIs n) b c v w u e f h lo hi = flat_between (PortIs n) b c tt h lo hi
 between_on_part (PathIs p) b c v w u e f h lo hi = flat_between (PathIs p) b c tt h lo hi

@@ -1,9 +1,10 @@
 -- One order of atoms. Those on one part of a check stand together, and those that an atom is around right
 -- behind it.
-use Rattle.std.specs.Prelude.{ℕ, List, [], ◌∷◌, ◌++◌, map}
+use Rattle.std.specs.Prelude.{ℕ, List, [], ◌∷◌}
 use Rattle.std.specs.Cmp.Lexicographic.{slice_cmp}
 use Rattle.std.specs.Ordering.{nat_cmp}
 use Rattle.std.specs.declared.cmp.Ordering.{Ordering}
+use Rattle.csp_model.specs.Paths.{front_text}
 use Rattle.csp_model.specs.declared.check.CheckPart.{CheckPart}
 use Rattle.csp_model.specs.declared.check.CheckPart.TheVariants as part
 use Rattle.csp_model.specs.declared.source.Algorithm.TheVariants.{Sha256, Sha384, Sha512}
@@ -31,18 +32,19 @@ part_number (part.Digest Sha512) = 8
 abbrev pub number_of : Atom → ℕ
 number_of atom = part_number (part_of atom)
 
--- the pieces, and behind them an end that is below each piece
-abbrev pub path_key : List (List ℕ) → List ℕ → List (List ℕ)
-path_key pieces end = map (λ piece. 1 ∷ piece) pieces ++ (0 ∷ end) ∷ []
+-- the text with a "/" at its end, which begins with that of each front of the path; then a number for what is
+-- said of the path; and the pieces, so that no two keys are one
+abbrev pub path_key : List (List ℕ) → ℕ → List (List ℕ)
+path_key pieces number = front_text pieces ∷ (number ∷ []) ∷ pieces
 
--- hosts by their texts from the end, paths by their pieces, a path before the front of its own pieces; the
+-- hosts by their texts from the end, paths by their texts, a path before the front of its own pieces; the
 -- others as atoms are in order
 abbrev pub content_key : Atom → List (List ℕ)
 content_key (HostIs host) = host_key (HostIs host) ∷ []
 content_key (HostUnder suffix) = host_key (HostUnder suffix) ∷ []
 content_key HostDomain = host_key HostDomain ∷ []
-content_key (PathIs pieces) = path_key pieces (0 ∷ [])
-content_key (PathUnder pieces) = path_key pieces (1 ∷ [])
+content_key (PathIs pieces) = path_key pieces 0
+content_key (PathUnder pieces) = path_key pieces 1
 content_key atom = key atom
 
 abbrev pub content_cmp : Atom → Atom → Ordering

@@ -6,7 +6,7 @@ ghost use Rattle.csp_atom.specs.declared.atom.Atom.TheVariants.{HostIs, HostDoma
 ghost use Rattle.csp_names.specs.Order as spec;
 
 use csp_atom::Atom;
-use csp_atom::order::compare;
+use csp_atom::order::{compare, compare_paths};
 use csp_model::{Algorithm, CheckPart, Host};
 use std::cmp::Ordering;
 
@@ -86,10 +86,14 @@ fn compare_on_paths(one: &Atom, other: &Atom) -> Ordering
     ensures { result ≡ spec.content_cmp one.now other.now }
 {
     match (one, other) {
-        (Atom::PathIs(one), Atom::PathIs(other)) => one.cmp(other),
-        (Atom::PathIs(one), Atom::PathUnder(other)) => one.cmp(other).then(Ordering::Less),
-        (Atom::PathUnder(one), Atom::PathIs(other)) => one.cmp(other).then(Ordering::Greater),
-        (Atom::PathUnder(one), Atom::PathUnder(other)) => one.cmp(other),
+        (Atom::PathIs(one), Atom::PathIs(other)) => compare_paths(one, other),
+        (Atom::PathIs(one), Atom::PathUnder(other)) => {
+            compare_paths(one, other).then(Ordering::Less)
+        }
+        (Atom::PathUnder(one), Atom::PathIs(other)) => {
+            compare_paths(one, other).then(Ordering::Greater)
+        }
+        (Atom::PathUnder(one), Atom::PathUnder(other)) => compare_paths(one, other),
         _ => Ordering::Equal,
     }
 }

@@ -8,6 +8,7 @@ pub mod HostMeets
 pub mod HostNames
 pub mod HostPlaced
 pub mod Joining
+pub mod LastSegments
 pub mod Listing
 pub mod Marking
 pub mod NoncesMet

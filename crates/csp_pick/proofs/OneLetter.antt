@@ -1,18 +1,22 @@
 -- One lower-case letter, once or more often, is a piece of a path, and a scheme of URLs without a host.
-use Rattle.std.proofs.Common.{◌≡◌, ◌≢◌, ℕ, suc, zero, Bool, true, false, List, [], ◌∷◌, replicate, IsTrue, refl, ap, subst, arith, codes}
+use Rattle.std.proofs.Common.{◌≡◌, ◌≢◌, ◌<◌, ◌∙◌, ℕ, suc, zero, Bool, true, false, not, ◌||◌, List, [], ◌∷◌, replicate, IsTrue, refl, sym, ap, subst, arith, codes}
 use Rattle.std.specs.Prelude.{nat_lt, IsNone}
 use Rattle.std.specs.Char.{is_ascii_lowercase, is_ascii_alphabetic, to_ascii_lowercase}
 use Rattle.std.specs.List.{list_all}
 use Rattle.std.specs.Str.{bytes_eq}
-use Rattle.std.proofs.lemmas.Bool.{false≢true, false_from_ne_true}
+use Rattle.std.proofs.lemmas.Bool.{false≢true, false_from_ne_true, agree_below_at}
 use Rattle.std.proofs.lemmas.Bool.Decides.{nat_tests}
 use Rattle.std.proofs.lemmas.List.Elements.{All-replicate}
 use Rattle.std.proofs.lemmas.List.Sums.{list_all-from_AllPass}
 use Rattle.std.proofs.lemmas.Slice.Eq.{bytes_eq-Decides}
+use Rattle.percent_encoding.specs.AsciiSet.{should_percent_encode}
+use Rattle.percent_encoding.specs.Percent.{percent_encode}
+use Rattle.percent_encoding.proofs.PercentLemmas.{percent_encode_unchanged}
 use Rattle.csp_model.specs.Ascii.{code, lower, is_ascii_text}
 use Rattle.csp_model.specs.Grammar.{is_scheme, is_scheme_char}
 use Rattle.csp_model.specs.Schemes.{scheme_named}
 use Rattle.csp_model.specs.Validity.{is_piece, is_lower_scheme}
+use Rattle.csp_model.specs.declared.path.TheConstants.{ESCAPED}
 use Rattle.csp_pick.specs.Fresh.{IsOneLetter}
 
 all_of : (p : ℕ → Bool) (n letter : ℕ) → p letter ≡ true → list_all p (replicate n letter) ≡ true
@@ -65,6 +69,24 @@ unfolding is_piece
 letters_are_piece text (n, letter, e, is_letter) =
     let dot = no_dot letter is_letter in
     rw (e, all_of (λ b. nat_lt b 256) (suc n) letter (byte letter is_letter), other_first n letter (code ".") [] dot, other_first n letter (code ".") (codes ".") dot) refl
+
+-- a letter is written as it is
+
+turned : (b : Bool) → not b ≡ true → b ≡ false
+turned true e = sym e
+turned false e = refl
+
+letter_kept : (letter : ℕ) → is_ascii_lowercase letter ≡ true → should_percent_encode ESCAPED letter ≡ false
+unfolding should_percent_encode
+letter_kept letter e =
+    let small : letter < 128 = grind (arith, nat_tests) in
+    let tested = agree_below_at (λ n. not (is_ascii_lowercase n) || not (should_percent_encode ESCAPED n)) (λ _. true) 128 letter refl small in
+    turned (should_percent_encode ESCAPED letter) (ap (λ t. not t || not (should_percent_encode ESCAPED letter)) (sym e) ∙ tested)
+
+pub letters_are_kept : (text : List ℕ) → IsOneLetter text → percent_encode ESCAPED text ≡ text
+letters_are_kept text (n, letter, e, is_letter) =
+    percent_encode_unchanged ESCAPED text
+    (rw e (All-replicate (λ b. should_percent_encode ESCAPED b ≡ false) (suc n) letter (letter_kept letter is_letter)))
 
 pub letters_are_ascii : (text : List ℕ) → IsOneLetter text → is_ascii_text text ≡ true
 letters_are_ascii text (n, letter, e, is_letter) = rw e (all_of (λ b. nat_lt b 128) (suc n) letter (ascii letter is_letter))

@@ -105,7 +105,7 @@ at_end : (p : List (List ℕ)) (piece : List ℕ) → slice_get (p ++ piece ∷ 
 at_end [] piece = refl
 at_end (r ∷ p) piece = at_end p piece
 
-last_of : (p : List (List ℕ)) (piece : List ℕ) → slice_get (p ++ piece ∷ []) (length (p ++ piece ∷ []) - 1) ≡ Some piece
+pub last_of : (p : List (List ℕ)) (piece : List ℕ) → slice_get (p ++ piece ∷ []) (length (p ++ piece ∷ []) - 1) ≡ Some piece
 last_of p piece =
     let last : length (p ++ piece ∷ []) - 1 ≡ length p = omega (arith, length-append p (piece ∷ [])) in
     ap (slice_get (p ++ piece ∷ [])) last ∙ at_end p piece

@@ -6,16 +6,17 @@ ghost use Rattle.csp_model.specs.Validity.{is_piece};
 ghost use Rattle.csp_model.specs.declared.check.CheckPart.TheVariants as part;
 ghost use Rattle.csp_pick.specs.Fresh.{ListsEach};
 ghost use Rattle.csp_pick.specs.Parts.{MeetPart, path_holds};
-ghost use Rattle.csp_pick.specs.Said.{front_of, last_piece_of, path_of};
+ghost use Rattle.csp_pick.specs.Said.{front_of, last_piece_of, last_segment_of, path_of, segment_at_end};
 
 use crate::fresh::{fresh_text, is_among};
 use csp_atom::{Atom, Literal};
 use csp_cell::Cell;
-use csp_model::{Bytes, Duplicate, List, Memory};
+use csp_model::{Duplicate, Memory, Path};
+use memchr::memrchr;
 use std::alloc::Global;
 
 // A valid path of which each literal on paths is true.
-pub(crate) fn pick_path(alloc: Global, cell: &Cell) -> Result<List<Bytes>, Memory>
+pub(crate) fn pick_path(alloc: Global, cell: &Cell) -> Result<Path, Memory>
     ensures some { IfOk result (λ path. path ≢ []) }
     ensures valid { IfOk result (λ path. IsTrue (list_all is_piece path)) }
     ensures meets { IfOk result (λ path. MeetPart part.Path (path_holds path) cell.now.literals) }
@@ -29,7 +30,7 @@ pub(crate) fn pick_path(alloc: Global, cell: &Cell) -> Result<List<Bytes>, Memor
 }
 
 // The path that a literal names.
-fn wanted_path(literals: &[Literal]) -> Option<&List<Bytes>>
+fn wanted_path(literals: &[Literal]) -> Option<&Path>
     ensures { MatchOption result
         (All (λ l. path_of l.atom ≡ None) literals.now)
         (λ path. Any (λ l. path_of l.atom ≡ Some path.now) literals.now) }
@@ -37,17 +38,17 @@ fn wanted_path(literals: &[Literal]) -> Option<&List<Bytes>>
     literals.iter().find_map(named_path)
 }
 
-fn named_path(literal: &Literal) -> Option<&List<Bytes>>
+fn named_path(literal: &Literal) -> Option<&Path>
     ensures { option_copied result ≡ path_of literal.now.atom }
 {
     match &literal.atom {
-        Atom::PathIs(path) => Some(path.pieces()),
+        Atom::PathIs(path) => Some(path),
         _ => None,
     }
 }
 
 // The first pieces that a literal asks of paths, which have more.
-fn wanted_front(literals: &[Literal]) -> Option<&List<Bytes>>
+fn wanted_front(literals: &[Literal]) -> Option<&Path>
     ensures { MatchOption result
         (All (λ l. front_of l.atom ≡ None) literals.now)
         (λ front. Any (λ l. front_of l.atom ≡ Some front.now) literals.now) }
@@ -55,66 +56,73 @@ fn wanted_front(literals: &[Literal]) -> Option<&List<Bytes>>
     literals.iter().find_map(named_front)
 }
 
-fn named_front(literal: &Literal) -> Option<&List<Bytes>>
+fn named_front(literal: &Literal) -> Option<&Path>
     ensures { option_copied result ≡ front_of literal.now.atom }
 {
     match &literal.atom {
-        Atom::PathUnder(path) => Some(path.pieces()),
+        Atom::PathUnder(path) => Some(path),
         _ => None,
     }
 }
 
 // The pieces of the front, if there is one, and behind them a piece that ends no path that a literal names.
-fn path_behind(
-    alloc: Global,
-    front: Option<&List<Bytes>>,
-    literals: &[Literal],
-) -> Result<List<Bytes>, Memory>
+fn path_behind(alloc: Global, front: Option<&Path>, literals: &[Literal]) -> Result<Path, Memory>
     ensures { IfOk result (λ path. (piece : Items ℕ) × IsTrue (is_piece piece)
         × (path ≡ unwrap_or (option_copied front.entry) [] ++ piece ∷ [])
         × All (λ l. last_piece_of l.atom ≢ Some piece) literals.now) }
 {
     let mut path = match front {
         Some(front) => front.copy(alloc)?,
-        None => List::new(alloc),
+        None => Path::new(alloc)?,
     };
-    path.push(free_piece(alloc, literals)?)?;
+    path.push(&free_piece(alloc, literals)?)?;
     Ok(path)
 }
 
 // A piece that ends no path that a literal names: the empty one or `x`, where it is one.
-fn free_piece(alloc: Global, literals: &[Literal]) -> Result<Bytes, Memory>
-    ensures valid { IfOk result (λ piece. IsTrue (is_piece piece)) }
-    ensures free { IfOk result (λ piece. All (λ l. last_piece_of l.atom ≢ Some piece) literals.now) }
+fn free_piece(alloc: Global, literals: &[Literal]) -> Result<Vec<u8>, Memory>
+    ensures valid { IfOk result (λ piece. IsTrue (is_piece piece.items)) }
+    ensures free { IfOk result (λ piece. All (λ l. last_piece_of l.atom ≢ Some piece.items) literals.now) }
 {
     let last = last_pieces(alloc, literals)?;
     if !is_among(&last, b"") {
-        return Bytes::new(alloc, b"");
+        return Ok(Vec::new(alloc));
     }
     if !is_among(&last, b"x") {
-        return Bytes::new(alloc, b"x");
+        return Ok(Vec::from_slice(alloc, b"x")?);
     }
-    Ok(Bytes::from_vec(fresh_text(alloc, &last)?))
+    fresh_text(alloc, &last)
 }
 
-// The last pieces of the paths that literals name.
+// The last pieces of the paths that literals name, as they are written.
 fn last_pieces<'a>(alloc: Global, literals: &'a [Literal]) -> Result<Vec<&'a [u8]>, Memory>
-    ensures { IfOk result (λ pieces. ListsEach last_piece_of pieces.items literals.now) }
+    ensures { IfOk result (λ pieces. ListsEach last_segment_of pieces.items literals.now) }
 {
     let mut pieces = Vec::new(alloc);
     for literal in literals {
         if let Some(piece) = last_piece(literal) {
-            pieces.push(piece.as_slice())?;
+            pieces.push(piece)?;
         }
     }
     Ok(pieces)
 }
 
-fn last_piece(literal: &Literal) -> Option<&Bytes>
-    ensures { option_copied result ≡ last_piece_of literal.now.atom }
+fn last_piece(literal: &Literal) -> Option<&[u8]>
+    ensures { option_copied result ≡ last_segment_of literal.now.atom }
 {
     match &literal.atom {
-        Atom::PathIs(pieces) => pieces.as_slice().last(),
+        Atom::PathIs(path) => last_segment(path),
         _ => None,
+    }
+}
+
+// What stands behind the last slash of the path as it is written.
+fn last_segment(path: &Path) -> Option<&[u8]>
+    ensures { option_copied result ≡ segment_at_end path.now }
+{
+    let text = path.as_str().as_bytes();
+    match memrchr(b'/', text) {
+        Some(slash) => Some(&text[slash + 1..]),
+        None => None,
     }
 }

@@ -13,7 +13,7 @@ use crate::path::pick_path;
 use crate::port::pick_port;
 use crate::scheme::pick_scheme;
 use csp_cell::Cell;
-use csp_model::{Bytes, List, Memory, Scheme, Url};
+use csp_model::{Memory, Path, Scheme, Url};
 use std::alloc::Global;
 
 // A valid URL of the scheme, of which each literal on its parts is true. Where paths aren't compared, its
@@ -43,7 +43,7 @@ pub(crate) fn pick_url(
     }
 }
 
-fn path_where(alloc: Global, cell: &Cell, compares_paths: bool) -> Result<List<Bytes>, Memory>
+fn path_where(alloc: Global, cell: &Cell, compares_paths: bool) -> Result<Path, Memory>
     ensures some { IfOk result (λ path. path ≢ []) }
     ensures valid { IfOk result (λ path. IsTrue (list_all is_piece path)) }
     ensures root { IfOk result (λ path. compares_paths ≡ false → path ≡ [] ∷ []) }
@@ -58,10 +58,10 @@ fn path_where(alloc: Global, cell: &Cell, compares_paths: bool) -> Result<List<B
 }
 
 // The path `/`.
-fn root_path(alloc: Global) -> Result<List<Bytes>, Memory>
+fn root_path(alloc: Global) -> Result<Path, Memory>
     ensures { IfOk result (λ path. path ≡ [] ∷ []) }
 {
-    let mut path = List::new(alloc);
-    path.push(Bytes::from_vec(Vec::new(alloc)))?;
+    let mut path = Path::new(alloc)?;
+    path.push(b"")?;
     Ok(path)
 }

@@ -1,21 +1,22 @@
 -- The denial that a path lies under a front decides no atom but files and fronts that begin with it.
-use Rattle.std.proofs.Common.{◌≡◌, ◌≢◌, ◌∙◌, refl, ap, ℕ, ◌≤◌, ◌<◌, Bool, true, false, nat_lt, nat_le, List, ◌++◌, length, None, arith, take_at}
+use Rattle.std.proofs.Common.{◌≡◌, ◌≢◌, ◌∙◌, refl, ap, ℕ, ◌≤◌, ◌<◌, Bool, true, false, nat_lt, nat_le, List, ◌++◌, take, length, None, arith, take_at}
 use Rattle.std.proofs.lemmas.Bool.Decides.{nat_tests}
 use Rattle.std.specs.Bool.{Decides}
 use Rattle.std.specs.Cmp.{tied_itself}
-use Rattle.std.specs.Cmp.Lexicographic.{slice_cmp}
+use Rattle.std.specs.Cmp.Lexicographic.{slice_cmp, nat_list_cmp_total}
 use Rattle.std.specs.List.{slice_index_or}
 use Rattle.std.specs.Ordering.{nat_cmp, ordering_then}
 use Rattle.std.specs.declared.cmp.Ordering.{Ordering}
 use Rattle.std.specs.declared.cmp.Ordering.TheVariants.{Less, Equal, Greater}
+use Rattle.csp_model.specs.Paths.{front_text}
 use Rattle.csp_model.proofs.EndLaws.{begins_Decides, beyond_Decides}
+use Rattle.csp_model.proofs.PathFronts.{further, further_text}
 use Rattle.csp_atom.specs.Follows.{follows, false_where}
 use Rattle.csp_atom.specs.declared.atom.Atom.{Atom}
 use Rattle.csp_atom.specs.declared.atom.Atom.TheVariants.{HostDomain, PathIs, PathUnder}
 use Rattle.csp_atom.specs.Order.{rank}
 use Rattle.csp_placed.specs.Fronts.{CoversBelow, ArePlacesBelow, start_cmp, front_cmp, denied_front}
 use Rattle.csp_placed.specs.declared.reach.Below.{Below}
-use Rattle.csp_placed.proofs.Fronts.{paths_total}
 
 -- What the denial decides
 
@@ -25,7 +26,9 @@ unless_false false d n = refl
 
 level_below : (front rest : List (List ℕ)) → start_cmp (front ++ rest) front ≡ Equal
 level_below front rest =
-    ap (λ p. slice_cmp (slice_cmp nat_cmp) p front) (take_at front rest (length front) refl) ∙ tied_itself paths_total front
+    let text = front_text front in
+    ap (λ t. slice_cmp nat_cmp (take (length text) t) text) (further_text front rest)
+    ∙ ap (λ t. slice_cmp nat_cmp t text) (take_at text (further rest) (length text) refl) ∙ tied_itself nat_list_cmp_total text
 
 begins_level : (path front rest : List (List ℕ)) → path ≡ front ++ rest → start_cmp path front ≡ Equal
 begins_level path front rest e = ap (λ p. start_cmp p front) e ∙ level_below front rest

@@ -1,16 +1,20 @@
--- In a list that ascends, the atoms of one kind whose paths begin with a front stand together.
-use Rattle.std.proofs.Common.{◌≡◌, ◌∙◌, refl, sym, ℕ, zero, suc, ◌≤◌, ◌<◌, ◌+◌, Bool, true, false, nat_lt, List, [], ◌∷◌, take, length, arith}
+-- In a list that ascends, the atoms of one kind whose paths begin with a front stand together, since their texts
+-- begin with the front's.
+use Rattle.std.proofs.Common.{◌≡◌, ◌≢◌, ◌∙◌, refl, sym, ap, subst, ℕ, zero, suc, ◌≤◌, ◌<◌, ◌+◌, Bool, true, false, nat_lt, List, [], ◌∷◌, take, length, take_all, arith}
 use Rattle.std.proofs.lemmas.Bool.Decides.{nat_tests}
 use Rattle.std.proofs.lemmas.List.{get_or_default}
-use Rattle.std.specs.Cmp.{IsTotalOrder, alike_right}
-use Rattle.std.specs.Cmp.Lexicographic.{slice_cmp, lists_total, nat_list_cmp_total}
+use Rattle.std.specs.Cmp.{alike_right}
+use Rattle.std.specs.Cmp.Lexicographic.{slice_cmp, nat_list_cmp_total}
 use Rattle.std.specs.List.{slice_index_or}
 use Rattle.std.specs.List.Sorted.{IsPartitionedBy, IsPartitionPoint}
 use Rattle.std.specs.Ordering.{nat_cmp, ordering_index, ordering_then, is_lt, is_le, is_gt}
 use Rattle.std.specs.declared.cmp.Ordering.{Ordering}
 use Rattle.std.specs.declared.cmp.Ordering.TheVariants.{Less, Equal, Greater}
+use Rattle.csp_model.specs.Paths.{front_text}
+use Rattle.csp_model.proofs.PathFronts.{further, further_text, longer_beyond}
 use Rattle.csp_atom.specs.declared.atom.Atom.{Atom}
 use Rattle.csp_atom.specs.declared.atom.Atom.TheVariants.{HostDomain, PathIs, PathUnder}
+use Rattle.csp_atom.specs.Kinds.{path_cmp}
 use Rattle.csp_atom.specs.Order.{rank, atom_cmp}
 use Rattle.csp_placed.specs.Fronts.{ArePlacesBelow, BeginAt, EndAt, path_of, start_cmp, front_cmp}
 use Rattle.csp_placed.specs.Facts.{Ascends}
@@ -25,33 +29,37 @@ then_up Less s t up low = refl
 then_up Equal s t up low = up low
 then_up Greater s t up low = cc
 
-take_up : (n : ℕ) (p q : List (List ℕ)) → is_gt (slice_cmp (slice_cmp nat_cmp) p q) ≡ false
-    → is_gt (slice_cmp (slice_cmp nat_cmp) (take n p) (take n q)) ≡ false
-take_up zero p q low = refl
-take_up (suc n) [] [] low = refl
-take_up (suc n) [] (y ∷ q) low = refl
-take_up (suc n) (x ∷ p) [] low = cc
-take_up (suc n) (x ∷ p) (y ∷ q) low = then_up (slice_cmp nat_cmp x y) _ _ (take_up n p q) low
+first_up : (r s : Ordering) → is_gt (ordering_then r s) ≡ false → is_gt r ≡ false
+first_up Less s low = refl
+first_up Equal s low = refl
+first_up Greater s low = low
 
-pub paths_total : IsTotalOrder (slice_cmp (slice_cmp nat_cmp))
-paths_total = lists_total nat_list_cmp_total
+take_up : (n : ℕ) (s t : List ℕ) → is_gt (slice_cmp nat_cmp s t) ≡ false → is_gt (slice_cmp nat_cmp (take n s) (take n t)) ≡ false
+take_up zero s t low = refl
+take_up (suc n) [] [] low = refl
+take_up (suc n) [] (y ∷ t) low = refl
+take_up (suc n) (x ∷ s) [] low = cc
+take_up (suc n) (x ∷ s) (y ∷ t) low = then_up (nat_cmp x y) _ _ (take_up n s t) low
 
 at_most : (r : Ordering) → ordering_index r ≤ 2
 at_most Less = omega arith
 at_most Equal = omega arith
 at_most Greater = omega arith
 
-paths_up : (p q front : List (List ℕ)) (r s : Ordering) → slice_cmp (slice_cmp nat_cmp) p q ≡ r → slice_cmp (slice_cmp nat_cmp) q front ≡ s → is_gt r ≡ false
-    → ordering_index (slice_cmp (slice_cmp nat_cmp) p front) ≤ ordering_index s
-paths_up p q front Less Less e f low = rw (paths_total.trans p q front e f) (omega arith)
-paths_up p q front Less Equal e f low = rw (sym (alike_right paths_total q front p f), e) (omega arith)
-paths_up p q front Less Greater e f low = at_most _
-paths_up p q front Equal s e f low = rw (paths_total.congr p q front e, f) (omega arith)
-paths_up p q front Greater s e f low = cc
+texts_up : (s t front : List ℕ) (r o : Ordering) → slice_cmp nat_cmp s t ≡ r → slice_cmp nat_cmp t front ≡ o → is_gt r ≡ false
+    → ordering_index (slice_cmp nat_cmp s front) ≤ ordering_index o
+texts_up s t front Less Less e f low = rw (nat_list_cmp_total.trans s t front e f) (omega arith)
+texts_up s t front Less Equal e f low = rw (sym (alike_right nat_list_cmp_total t front s f), e) (omega arith)
+texts_up s t front Less Greater e f low = at_most _
+texts_up s t front Equal o e f low = rw (nat_list_cmp_total.congr s t front e, f) (omega arith)
+texts_up s t front Greater o e f low = cc
 
-start_up : (p q front : List (List ℕ)) → is_gt (slice_cmp (slice_cmp nat_cmp) p q) ≡ false
+start_up : (p q front : List (List ℕ)) → is_gt (path_cmp p q) ≡ false
     → ordering_index (start_cmp p front) ≤ ordering_index (start_cmp q front)
-start_up p q front low = paths_up (take (length front) p) (take (length front) q) front _ _ refl refl (take_up (length front) p q low)
+start_up p q front low =
+    let n = length (front_text front) in
+    let texts = first_up (slice_cmp nat_cmp (front_text p) (front_text q)) (slice_cmp (slice_cmp nat_cmp) p q) low in
+    texts_up (take n (front_text p)) (take n (front_text q)) (front_text front) _ _ refl refl (take_up n (front_text p) (front_text q) texts)
 
 path_up : (a b : Atom) (front : List (List ℕ)) → is_gt (atom_cmp a b) ≡ false → rank a ≡ rank b
     → ordering_index (start_cmp (path_of a) front) ≤ ordering_index (start_cmp (path_of b) front)
@@ -167,3 +175,16 @@ ends_at front kind atoms n a up so_far h at more = (
         let most : is_le (front_cmp front kind (slice_index_or atoms n d)) ≡ true = parted_most front kind atoms up n k d low below is in
         let not_most : is_le (front_cmp front kind (slice_index_or atoms n d)) ≡ false = rw same (more_is_not_most _ more) in
         absurd cc
+
+-- The text of no pieces is below that of any others
+
+below_some : (text : List ℕ) → 0 < length text → slice_cmp nat_cmp [] text ≡ Less
+below_some [] some = absurd (omega arith)
+below_some (b ∷ text) some = refl
+
+pub root_below : (front : List (List ℕ)) → front ≢ [] → start_cmp [] front ≡ Less
+root_below front some =
+    let longer : 1 < length (front_text front) = longer_beyond front [] front some refl in
+    ap (λ t. slice_cmp nat_cmp t (front_text front)) (take_all (length (front_text front)) (47 ∷ []) (omega (arith, longer)))
+    ∙ subst (λ (t : List ℕ). slice_cmp nat_cmp (47 ∷ []) t ≡ Less) (sym (further_text [] front))
+    (below_some (further front) (omega (arith, longer, ap length (further_text [] front))))

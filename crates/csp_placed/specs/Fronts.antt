@@ -6,6 +6,7 @@ use Rattle.std.specs.List.Sorted.{IsPartitionPoint}
 use Rattle.std.specs.Ordering.{is_le, is_lt, nat_cmp, ordering_then}
 use Rattle.std.specs.declared.cmp.Ordering.{Ordering}
 use Rattle.std.specs.declared.cmp.Ordering.TheVariants.{Less, Equal, Greater}
+use Rattle.csp_model.specs.Paths.{front_text}
 use Rattle.csp_atom.specs.Follows.{follows}
 use Rattle.csp_atom.specs.Order.{rank}
 use Rattle.csp_atom.specs.declared.atom.Atom.{Atom}
@@ -19,9 +20,10 @@ path_of (PathIs path) = path
 path_of (PathUnder path) = path
 path_of atom = []
 
--- the order of a path, cut to the length of the front, and the front
+-- the order of a path's text, cut to the length of the front's, and that of the front
 abbrev pub start_cmp : List (List ℕ) → List (List ℕ) → Ordering
-start_cmp path front = slice_cmp (slice_cmp nat_cmp) (take (length front) path) front
+start_cmp path front =
+    slice_cmp nat_cmp (take (length (front_text front)) (front_text path)) (front_text front)
 
 -- where the atom stands to those of this rank whose paths begin with the front: level with them if it is one
 abbrev pub front_cmp : List (List ℕ) → ℕ → Atom → Ordering

@@ -1,5 +1,7 @@
 //! Lists of atoms that ascend: the places of an atom, and of those that the denial of a front can decide.
-ghost use Rattle.std.specs.Prelude.{◌≡◌, ◌≤◌, ◌<◌, ◌↔◌, ◌-◌, IsTrue, length};
+ghost use Rattle.std.specs.Prelude.{◌≡◌, ◌≤◌, ◌<◌, ◌↔◌, ◌-◌, [], IsTrue, length, take};
+ghost use Rattle.std.specs.Cmp.Lexicographic.{slice_cmp};
+ghost use Rattle.std.specs.Ordering.{nat_cmp};
 ghost use Rattle.csp_placed.specs.Facts.{Ascends, ArePlacesOf};
 ghost use Rattle.csp_placed.specs.Fronts as spec;
 
@@ -139,14 +141,38 @@ fn compare_to_front(atom: &Atom, kind: u8, front: &Path) -> Ordering
     }
 }
 
-// The order of the path that the atom speaks of, cut to the length of the front, and the front. It has no
-// pieces where the atom speaks of none.
+// The order of the text of the path that the atom speaks of, cut to the length of the front's, and that of the
+// front. The path has no pieces where the atom speaks of none.
 fn compare_start(atom: &Atom, front: &Path) -> Ordering
     ensures { result ≡ spec.start_cmp (spec.path_of atom.now) front.now }
 {
     match atom {
-        Atom::PathIs(path) | Atom::PathUnder(path) => path.compare_start(front),
-        _ if front.as_slice().is_empty() => Ordering::Equal,
-        _ => Ordering::Less,
+        Atom::PathIs(path) | Atom::PathUnder(path) => compare_path(path, front),
+        _ => compare_root(front),
     }
+}
+
+fn compare_path(path: &Path, front: &Path) -> Ordering
+    ensures { result ≡ spec.start_cmp path.now front.now }
+{
+    compare_texts(path.as_front().as_bytes(), front.as_front().as_bytes())
+}
+
+// The order of the path of no pieces, and the front.
+fn compare_root(front: &Path) -> Ordering
+    ensures { result ≡ spec.start_cmp [] front.now }
+{
+    if front.is_empty() {
+        Ordering::Equal
+    } else {
+        Ordering::Less
+    }
+}
+
+// The order of a text, cut to the length of the other, and the other.
+fn compare_texts(text: &[u8], other: &[u8]) -> Ordering
+    ensures { result ≡ slice_cmp nat_cmp (take (length other.now) text.now) other.now }
+{
+    let end = other.len().min(text.len());
+    text[..end].cmp(other)
 }

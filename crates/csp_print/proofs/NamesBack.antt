@@ -7,7 +7,7 @@ use Rattle.csp_model.specs.declared.check.Group.{Group}
 use Rattle.csp_model.specs.declared.check.Group.TheVariants as group
 use Rattle.csp_model.specs.declared.check.InlineKind.{InlineKind}
 use Rattle.csp_model.specs.declared.check.InlineKind.TheVariants as inline
-use Rattle.csp_fetch.specs.Destinations.{destination_text, destination_named, group_of}
+use Rattle.csp_model.specs.Destinations.{destination_text, destination_named, group_of}
 use Rattle.csp_request.specs.Kinds.{inline_text, inline_named}
 use Rattle.csp_print.specs.Printed.{destination_for}
 

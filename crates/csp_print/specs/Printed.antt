@@ -14,9 +14,9 @@ use Rattle.csp_model.specs.declared.check.Group.TheVariants as group
 use Rattle.csp_model.specs.declared.url.Url.{Url}
 use Rattle.csp_model.specs.declared.url.Url.TheVariants as url
 use Rattle.csp_model.specs.declared.verdict.Described.{Described}
-use Rattle.csp_fetch.specs.Destinations.{destination_text}
-use Rattle.csp_fetch.specs.declared.destination.Destination.{Destination}
-use Rattle.csp_fetch.specs.declared.destination.Destination.TheVariants as destination
+use Rattle.csp_model.specs.Destinations.{destination_text}
+use Rattle.csp_model.specs.declared.destination.Destination.{Destination}
+use Rattle.csp_model.specs.declared.destination.Destination.TheVariants as destination
 use Rattle.csp_token.specs.Integrity.{integrity_text}
 use Rattle.csp_request.specs.Kinds.{kind_text, inline_text}
 use Rattle.csp_request.specs.Requests.{requests_of}

@@ -2,8 +2,7 @@
 ghost use Rattle.std.specs.Prelude.{◌≡◌};
 ghost use Rattle.csp_print.specs.Printed as spec;
 
-use csp_fetch::Destination;
-use csp_model::Group;
+use csp_model::{Destination, Group};
 
 // The destination that stands for a group in what is printed.
 pub(crate) fn destination_for(group: Group) -> Destination

@@ -1,15 +1,14 @@
 -- What a proof has to show: for each shape, and for each enforced policy of the second list, that the policy
 -- allows the checks of the shape that the first list allows.
-use Rattle.std.specs.Prelude.{ℕ, ◌+◌, Bool, true, false, if◌then◌else◌, List, [], ◌∷◌, ◌++◌, map, Option, Some, None}
+use Rattle.std.specs.Prelude.{ℕ, Bool, true, false, List, [], ◌∷◌, ◌++◌, map, Option, Some, None}
 use Rattle.std.specs.List.{flat_map}
-use Rattle.csp_model.specs.Verdict.{is_enforce}
+pub use Rattle.csp_model.specs.Verdict.{enforced, enforced_from}
 use Rattle.csp_model.specs.declared.check.Capability.{Capability}
 use Rattle.csp_model.specs.declared.check.Capability.TheVariants as capability
 use Rattle.csp_model.specs.declared.check.Group.{Group}
 use Rattle.csp_model.specs.declared.check.Group.TheVariants as group
 use Rattle.csp_model.specs.declared.check.InlineKind.{InlineKind}
 use Rattle.csp_model.specs.declared.check.InlineKind.TheVariants as inline
-use Rattle.csp_model.specs.declared.policy.Policy.{Policy}
 use Rattle.csp_model.specs.declared.policy.PolicyList.{PolicyList}
 use Rattle.csp_model.specs.declared.url.Scheme.{Scheme}
 use Rattle.csp_model.specs.declared.url.Scheme.TheVariants.{Http, Https, Ws, Wss, Ftp}
@@ -51,16 +50,6 @@ shapes =
     fetch_shapes ++ with_redirects shape.Form ++ map shape.Base schemes ++ map shape.Ancestor schemes
     ++ shape.OpaqueAncestor ∷ map shape.Inline inline_kinds ++ shape.Eval ∷ shape.Wasm ∷ []
     ++ map shape.Capability capabilities ++ shape.WorkerStart ∷ []
-
--- the numbers of the enforced policies, where the first has this number
-abbrev pub enforced_from : ℕ → List Policy → List ℕ
-enforced_from number [] = []
-enforced_from number (p ∷ ps) =
-    if is_enforce p.disposition then number ∷ enforced_from (number + 1) ps
-    else enforced_from (number + 1) ps
-
-abbrev pub enforced : PolicyList → List ℕ
-enforced list = enforced_from 0 list.policies
 
 -- a shape and the number of an enforced policy of the second list
 pub record Pair : Type 0 where

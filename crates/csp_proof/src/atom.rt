@@ -10,13 +10,13 @@ use crate::print::push_atom;
 use crate::words::{cut, number_below};
 use csp_atom::Atom;
 use csp_grammar::is_base64_value;
-use csp_model::{Algorithm, Bytes, Digest, Hash, Host, List, Memory, Path, Text, Url};
+use csp_model::{Algorithm, Digest, Hash, Host, Memory, Path, Text, Url};
 use csp_url::{PartsError, url_from_parts};
 use hex::FromHex;
 use std::alloc::Global;
 
 // The host and the path of the URL of these parts.
-fn parts_of(alloc: Global, host: &str, path: &str) -> Result<Option<(Host, List<Bytes>)>, Memory>
+fn parts_of(alloc: Global, host: &str, path: &str) -> Result<Option<(Host, Path)>, Memory>
     ensures { IfOk result (λ found. found
         ≡ spec.parts_from (url_of_parts (codes "https") (Some host.now) None path.now)) }
 {
@@ -37,27 +37,12 @@ fn host_of(alloc: Global, text: &str) -> Result<Option<Host>, Memory>
     }
 }
 
-// The pieces, in no more room than they take: there may be many paths. A short list is copied, since what it
-// would give back where it stands is of little use; a long one would be held twice.
-fn without_spare(alloc: Global, pieces: List<Bytes>) -> Result<List<Bytes>, Memory>
-    ensures { IfOk result (λ kept. kept ≡ pieces) }
-{
-    let mut pieces = pieces.into_vec();
-    if pieces.len() > 256 {
-        pieces.shrink_to_fit();
-        return Ok(List::from_vec(pieces));
-    }
-    let mut kept = Vec::with_capacity(alloc, pieces.len())?;
-    kept.append(&mut pieces)?;
-    Ok(List::from_vec(kept))
-}
-
 #[tactic(auto, using(crate::proofs::UrlParts::path_found))]
 fn path_of(alloc: Global, text: &str) -> Result<Option<Path>, Memory>
     ensures { IfOk result (λ found. found ≡ url_spec.found_path text.now) }
 {
     match parts_of(alloc, "a", text)? {
-        Some((_, pieces)) => Ok(Some(Path::new(alloc, without_spare(alloc, pieces)?)?)),
+        Some((_, path)) => Ok(Some(path)),
         None => Ok(None),
     }
 }

@@ -2,7 +2,6 @@
 ghost use Rattle.std.specs.Prelude.{◌≡◌, ◌++◌, ◌∷◌, [], IfOk, OnOk, string_bytes, codes};
 ghost use Rattle.std.specs.List.{flat_map, join_with_byte};
 ghost use Rattle.csp_model.specs.Ascii.{code};
-ghost use Rattle.csp_model.specs.Paths.{path_text};
 ghost use Rattle.csp_model.specs.Tokens.{algorithm_of, bytes_of};
 ghost use Rattle.csp_model.specs.Grammar.{algorithm_text};
 ghost use Rattle.hex.specs.Hex.{encode_lower};
@@ -12,7 +11,7 @@ ghost use Rattle.csp_proof.specs.WellFormed.{IsWellFormed};
 
 use crate::proof::{Body, Format, Node, Proof, Tree};
 use csp_atom::Atom;
-use csp_model::{Algorithm, Bytes, Digest, Memory, Path, push_path};
+use csp_model::{Algorithm, Bytes, Digest, Memory};
 use itoa::Buffer;
 use std::alloc::Global;
 
@@ -36,16 +35,6 @@ fn push_three(text: &mut String, first: &str, second: &str, third: &str) -> Resu
     text.push(' ')?;
     text.push_str(third)?;
     Ok(())
-}
-
-// Writes a word, a space and a path.
-fn push_with_path(text: &mut String, word: &str, path: &Path) -> Result<(), Memory>
-    ensures { OnOk result (string_bytes text.new
-        ≡ string_bytes text.old ++ join_with_byte (code " ") (word.now ∷ path_text path.now ∷ [])) }
-{
-    text.push_str(word)?;
-    text.push(' ')?;
-    push_path(text, path.as_slice())
 }
 
 fn algorithm_of(digest: &Digest) -> Algorithm
@@ -78,8 +67,8 @@ pub(crate) fn push_atom(alloc: Global, text: &mut String, atom: &Atom) -> Result
         Atom::HostUnder(suffix) => push_two(text, "host-under", suffix.as_str()),
         Atom::HostDomain => Ok(text.push_str("host-domain")?),
         Atom::PortIs(port) => push_two(text, "port-is", Buffer::new().format(*port)),
-        Atom::PathIs(path) => push_with_path(text, "path-is", path),
-        Atom::PathUnder(path) => push_with_path(text, "path-under", path),
+        Atom::PathIs(path) => push_two(text, "path-is", path.as_str()),
+        Atom::PathUnder(path) => push_two(text, "path-under", path.as_str()),
         Atom::SchemeIs(scheme) => push_two(text, "scheme-is", scheme.as_str()),
         Atom::NonceIs(value) => push_two(text, "nonce-is", value.as_str()),
         Atom::IntegrityHas(hash) => push_three(

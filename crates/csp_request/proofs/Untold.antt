@@ -8,7 +8,7 @@ use Rattle.csp_model.specs.declared.check.Digests.{Digests}
 use Rattle.csp_model.specs.declared.check.InlineKind.{InlineKind}
 use Rattle.csp_model.specs.declared.url.Url.{Url}
 use Rattle.csp_model.specs.declared.verdict.Described.{Described}
-use Rattle.csp_fetch.specs.Destinations.{destination_named, group_of}
+use Rattle.csp_model.specs.Destinations.{destination_named, group_of}
 use Rattle.csp_url.specs.Texts.{shown_url}
 use Rattle.csp_url.specs.declared.strip.ShownUrl.{ShownUrl}
 use Rattle.csp_request.specs.Described.{described_as, described_for, described_with, described_by, fetch, fetch_checks, fetch_options, form, form_check, ancestor, ancestors, shown_page, inline, source_beside, inline_source, nonce_of, sample_of}

@@ -16,8 +16,8 @@ use Rattle.csp_model.specs.declared.check.Group.{Group}
 use Rattle.csp_model.specs.declared.url.Url.{Url}
 use Rattle.csp_model.specs.declared.url.Url.TheVariants as url
 use Rattle.csp_model.specs.declared.verdict.Described.{Described}
-use Rattle.csp_fetch.specs.Destinations.{destination_named, group_of}
-use Rattle.csp_inline.specs.declared.element.Element.{Element}
+use Rattle.csp_model.specs.Destinations.{destination_named, group_of}
+use Rattle.csp_model.specs.declared.element.Element.{Element}
 use Rattle.csp_token.specs.Digests.{digests_of}
 use Rattle.csp_token.specs.Integrity.{integrity_of}
 use Rattle.csp_request.specs.Kinds.{kind_named, inline_named}

@@ -23,7 +23,7 @@ use crate::member::{demand, needed, needed_array, required_text, text_or_empty};
 use crate::sample::{sample_of, text_is_utf8};
 use crate::texts::{ReportTexts, no_text, told as told_text};
 use csp_json::Value;
-use csp_model::{Bytes, Capability, Check, Described, InlineKind, List, Memory, Text, Url};
+use csp_model::{Capability, Check, Described, InlineKind, List, Memory, Path, Text, Url};
 use csp_token::Algorithms;
 use csp_url::ShownUrl;
 use std::alloc::{AllocError, Global};
@@ -145,8 +145,8 @@ fn origin_url(alloc: Global, url: Url) -> Result<Url, Memory>
             port,
             ..
         } => {
-            let mut path = List::new(alloc);
-            path.push(Bytes::from_vec(Vec::new(alloc)))?;
+            let mut path = Path::new(alloc)?;
+            path.push(b"")?;
             Ok(Url::Hosted {
                 scheme,
                 host,

@@ -10,9 +10,8 @@ use crate::field::Field;
 use crate::member::{
     array, demand, flag_part, is_absent, needed_array, needed_text, present, text, text_or_empty,
 };
-use csp_inline::{Element, element_nonce};
 use csp_json::Value;
-use csp_model::{List, Text};
+use csp_model::{Element, List, Text, element_nonce};
 use std::alloc::Global;
 
 // An attribute: an array of its name and its value.

@@ -3,7 +3,7 @@ ghost use Rattle.std.specs.Prelude.{◌≡◌, ◌++◌, IfOk, IfSome, All};
 ghost use Rattle.csp_json.specs.View.{view};
 ghost use Rattle.csp_model.specs.Answers.{Gives};
 ghost use Rattle.csp_model.specs.Validity.{IsValidCheck, IsValidUrl};
-ghost use Rattle.csp_fetch.specs.Destinations.{destination_named};
+ghost use Rattle.csp_model.specs.Destinations.{destination_named};
 ghost use Rattle.csp_request.specs.Hops.{IsValidHop, AreIntegrityValues};
 ghost use Rattle.csp_request.specs.Members.{named, required};
 ghost use Rattle.csp_request.specs.Urls.{response_hops, last_redirects as redirects_of};
@@ -16,9 +16,10 @@ use crate::located::optional_url;
 use crate::member::{flag_part, needed, required_text, text_or_empty};
 use crate::sample::text_is_utf8;
 use crate::texts::{ReportTexts, no_text};
-use csp_fetch::{Destination, effective};
 use csp_json::Value;
-use csp_model::{Check, Described, Duplicate, Group, Hash, List, Memory, Text, Url};
+use csp_model::{
+    Check, Described, Destination, Duplicate, Group, Hash, List, Memory, Text, Url, effective,
+};
 use csp_token::read_integrity;
 use std::alloc::Global;
 

@@ -7,7 +7,7 @@ use Rattle.std.proofs.lemmas.Bool.Decides.{nat_tests}
 use Rattle.std.proofs.lemmas.List.{length-append, length-map}
 use Rattle.serde_json.specs.Data.{Data}
 use Rattle.serde_json.specs.Find.{as_object, as_str}
-use Rattle.csp_fetch.specs.Destinations.{destination_named, group_of}
+use Rattle.csp_model.specs.Destinations.{destination_named, group_of}
 use Rattle.csp_learn.specs.Logs.{IsFetch}
 use Rattle.csp_model.proofs.AnyCases.{Any-none, first_or_later}
 use Rattle.csp_model.specs.Answers.{Gives}

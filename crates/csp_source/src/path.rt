@@ -4,7 +4,7 @@ ghost use Rattle.std.specs.List.{list_all};
 ghost use Rattle.csp_model.specs.Ascii.{code, split_at};
 ghost use Rattle.csp_model.specs.Grammar as spec;
 
-use csp_model::{List, Memory, Path, PathPart, pieces_of};
+use csp_model::{Memory, Path, PathPart};
 use std::alloc::Global;
 
 #[tactic(auto, unfolding(csp_model::specs::Grammar::is_path_char))]
@@ -70,13 +70,6 @@ pub(crate) fn is_path(text: &[u8]) -> bool
     }
 }
 
-// The path whose text behind its first slash is this.
-fn path_of(alloc: Global, text: &[u8]) -> Result<Path, Memory>
-    ensures { IfOk result (λ made. made ≡ spec.pieces_of text.now) }
-{
-    Path::new(alloc, pieces_of(alloc, text)?)
-}
-
 // The path that the text is. The empty piece behind a last slash is left out.
 #[tactic(auto, unfolding(csp_model::specs::Grammar::path_part_of))]
 pub(crate) fn path_part_of(alloc: Global, text: &[u8]) -> Result<PathPart, Memory>
@@ -86,9 +79,9 @@ pub(crate) fn path_part_of(alloc: Global, text: &[u8]) -> Result<PathPart, Memor
     match text.split_first() {
         None => Ok(PathPart::Absent),
         Some((_, rest)) => match rest.split_last() {
-            None => Ok(PathPart::Prefix(Path::new(alloc, List::new(alloc))?)),
-            Some((b'/', front)) => Ok(PathPart::Prefix(path_of(alloc, front)?)),
-            Some(_) => Ok(PathPart::Exact(path_of(alloc, rest)?)),
+            None => Ok(PathPart::Prefix(Path::new(alloc)?)),
+            Some((b'/', front)) => Ok(PathPart::Prefix(Path::read(alloc, front)?)),
+            Some(_) => Ok(PathPart::Exact(Path::read(alloc, rest)?)),
         },
     }
 }

@@ -4,7 +4,7 @@ ghost use Rattle.csp_model.specs.Reading.{source_of};
 ghost use Rattle.csp_source.specs.Spelling as spec;
 
 use crate::quoted::{hash_word, keyword_text};
-use csp_model::{HostPart, Memory, PathPart, PortPart, Source, Text, push_path};
+use csp_model::{HostPart, Memory, PathPart, PortPart, Source, Text};
 use itoa::Buffer;
 use std::alloc::Global;
 
@@ -59,11 +59,8 @@ fn push_path_part(text: &mut String, path: &PathPart) -> Result<(), Memory>
 {
     match path {
         PathPart::Absent => {}
-        PathPart::Exact(pieces) => push_path(text, pieces.as_slice())?,
-        PathPart::Prefix(pieces) => {
-            push_path(text, pieces.as_slice())?;
-            text.push('/')?;
-        }
+        PathPart::Exact(path) => text.push_str(path.as_str())?,
+        PathPart::Prefix(front) => text.push_str(front.as_front())?,
     }
     Ok(())
 }

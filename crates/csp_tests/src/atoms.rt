@@ -1,7 +1,7 @@
 //! Tests of csp_atom.
 use crate::values::{are_hashes, fetch, hash, inline_style, is_copied, policies};
 use csp_atom::{Atom, Literal, Vocabulary, follows, holds, vocabulary_of};
-use csp_model::{Algorithm, Check, Digest, Group, Host, List, Memory, Path, Text, pieces_of};
+use csp_model::{Algorithm, Check, Digest, Group, Host, List, Memory, Path, Text};
 use csp_url::read_url;
 use std::alloc::Global;
 use std::test::Fail;
@@ -16,8 +16,8 @@ fn atom(alloc: Global, spelling: &str) -> Result<Atom, Memory> {
         "domain" => Atom::HostDomain,
         "https" => Atom::PortIs(443),
         "http" => Atom::PortIs(80),
-        "path" => Atom::PathIs(Path::new(alloc, pieces_of(alloc, text.as_bytes())?)?),
-        "below" => Atom::PathUnder(Path::new(alloc, pieces_of(alloc, text.as_bytes())?)?),
+        "path" => Atom::PathIs(Path::read(alloc, text.as_bytes())?),
+        "below" => Atom::PathUnder(Path::read(alloc, text.as_bytes())?),
         "scheme" => Atom::SchemeIs(Text::new(alloc, text)?),
         "nonce" => Atom::NonceIs(Text::new(alloc, text)?),
         "has" => Atom::IntegrityHas(hash(alloc, Algorithm::Sha256, text)?),

@@ -1,9 +1,9 @@
 //! Tests of csp_model.
 use crate::values::{fetch, hash, inline_style, is_copied, policies, policy};
 use csp_model::{
-    Algorithm, Bytes, Capability, CheckPart, Disposition, Group, InlineKind, List, Name, Scheme,
-    Text, Violation, are_digits, begins_with, decimal_value, goes_beyond, is_ascii_text, is_scheme,
-    is_scheme_char, is_subdomain, name_text, pieces_of, push_path,
+    Algorithm, Bytes, Capability, CheckPart, Disposition, Group, InlineKind, List, Name, Path,
+    Scheme, Text, Violation, are_digits, decimal_value, is_ascii_text, is_scheme, is_scheme_char,
+    is_subdomain, name_text,
 };
 use csp_url::read_url;
 use std::cmp::Ordering;
@@ -110,23 +110,23 @@ fn algorithms(rt: HostRuntime) {
 
 #[test]
 fn pieces_of_a_path(rt: HostRuntime) -> Result<(), Fail> {
-    let made = pieces_of(rt.alloc(), b"a%2f~/%FF")?;
-    let pieces = made.as_slice();
-    assert_eq!(rt; pieces.len(), 2);
-    assert_eq!(rt; pieces[0].as_slice(), b"a/~".as_slice());
-    assert_eq!(rt; pieces[1].as_slice(), [255u8].as_slice());
-    assert!(rt; begins_with(pieces, pieces) && !goes_beyond(pieces, pieces));
-    assert!(rt; goes_beyond(pieces, &pieces[..1]));
+    let read = Path::read(rt.alloc(), b"a%2f~/%FF")?;
+    let mut made = Path::new(rt.alloc())?;
+    made.push(b"a/~")?;
+    assert!(rt; read.goes_beyond(&made) && !made.begins_with(&read));
+    made.push(&[255])?;
+    assert!(rt; read == made);
+    assert_eq!(rt; read.len(), 2);
+    assert!(rt; read.begins_with(&made) && !read.goes_beyond(&made));
     Ok(())
 }
 
 // In a piece all bytes but the unreserved characters of RFC 3986 are written with escapes.
 #[test]
 fn paths(rt: HostRuntime) -> Result<(), Fail> {
-    let pieces = pieces_of(rt.alloc(), b"a%2f~/%FF")?;
-    let mut text = String::from_str(rt.alloc(), "x")?;
-    push_path(&mut text, pieces.as_slice())?;
-    assert_eq!(rt; text.as_str(), "x/a%2F~/%FF");
+    let path = Path::read(rt.alloc(), b"a%2f~/%FF")?;
+    assert_eq!(rt; path.as_str(), "/a%2F~/%FF");
+    assert_eq!(rt; path.as_front(), "/a%2F~/%FF/");
     Ok(())
 }
 

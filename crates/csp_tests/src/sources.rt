@@ -1,9 +1,6 @@
 //! Tests of csp_source.
 use crate::values::source;
-use csp_model::{
-    Bytes, HostPart, Keyword, List, Memory, PathPart, PortPart, Source, Text, is_ascii_text,
-    pieces_of,
-};
+use csp_model::{HostPart, Keyword, Memory, Path, PathPart, PortPart, Source, Text, is_ascii_text};
 use csp_source::{read_source, source_text};
 use std::process::Abort;
 use std::test::Fail;
@@ -134,23 +131,21 @@ fn keywords(rt: HostRuntime) -> Result<(), Fail> {
     Ok(())
 }
 
-fn has_every_part(source: &Source, wanted: &List<Bytes>) -> bool {
+fn has_every_part(source: &Source, wanted: &Path) -> bool {
     match source {
         Source::Hosted {
             scheme: Some(scheme),
             host: HostPart::Under(suffix),
             port: PortPart::Number(80),
             path: PathPart::Prefix(path),
-        } => scheme.as_str() == "https"
-            && suffix.as_str() == "a.example"
-            && path.pieces() == wanted,
+        } => scheme.as_str() == "https" && suffix.as_str() == "a.example" && path == wanted,
         _ => false,
     }
 }
 
 #[test]
 fn a_host_source_with_every_part(rt: HostRuntime) -> Result<(), Fail> {
-    let wanted = pieces_of(rt.alloc(), b"x/y")?;
+    let wanted = Path::read(rt.alloc(), b"x/y")?;
     let found = source(&rt, "HTTPS://*.A.example:0080/x/%79/")?;
     assert!(rt; has_every_part(&found, &wanted));
     drop(found);

@@ -146,13 +146,7 @@ fn has_every_part(url: &Url) -> bool {
             host,
             port: None,
             path,
-        } => {
-            is_domain(host, "b.example")
-                && path.len() == 1
-                && path
-                    .get(0)
-                    .is_some_and(|piece| piece.as_slice() == b"~b".as_slice())
-        }
+        } => { is_domain(host, "b.example") && path.as_str() == "/~b" }
         _ => false,
     }
 }

@@ -2,7 +2,7 @@
 ghost use Rattle.std.specs.Prelude.{◌≡◌, ◌++◌, IfOk, OnOk, string_bytes};
 ghost use Rattle.csp_url.specs.Texts as spec;
 
-use csp_model::{Memory, Scheme, Text, Url, push_path};
+use csp_model::{Memory, Scheme, Text, Url};
 use itoa::Buffer;
 use std::alloc::Global;
 
@@ -36,7 +36,7 @@ fn push_url(text: &mut String, url: &Url) -> Result<(), Memory>
             text.push_str("://")?;
             text.push_str(host.as_str())?;
             push_port(text, *port)?;
-            push_path(text, path.as_slice())?;
+            text.push_str(path.as_str())?;
         }
     }
     Ok(())

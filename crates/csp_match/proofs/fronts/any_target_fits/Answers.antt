@@ -1,44 +1,62 @@
-use Rattle.std.proofs.Common.{◌≡◌, length, sym, ap, ◌∙◌, arith}
-use Rattle.std.specs.List.{list_any}
-use Rattle.std.proofs.lemmas.Bool.Decides.{Decides-eqb}
-use Rattle.csp_match.specs.Entries.{target_fits}
-use Rattle.csp_match.specs.Fronts.{whole_fits}
-use Rattle.csp_match.proofs.FrontEntries.{ending_fits, going_on, none_fits, whole_then_fits}
+use Rattle.std.proofs.Common.{◌≡◌, ◌∙◌, sym, ap, subst, false, length, take, arith, length-take, List, ℕ}
+use Rattle.csp_model.specs.Paths.{front_pieces}
+use Rattle.csp_match.specs.Entries.{entry_text, target_fits}
+use Rattle.csp_match.specs.Fronts.{IsShared}
+use Rattle.csp_match.proofs.FrontWalk.{all_left, cut_walk, last_fits, last_found, left_before, none_left, up_to_before, IsLeft}
 use Rattle.csp_match.proofs.fronts.any_target_fits.Goals as goal
+use Rattle.csp_match.proofs.fronts.any_target_fits.Goals.{After-fits_shared}
 
-pub returns-then-any_whole_fits : goal.returns-then-any_whole_fits
-returns-then-any_whole_fits c =
-    sym (sym c.loop-depth.invariant.same ∙ whole_then_fits c.args.asked.now c.loop-depth.depth c.loop-depth.fronted.now
-    (sym c.any_whole_fits.ensures ∙ c.if-any_whole_fits.true))
+pub up_to-rest-requires : goal.up_to-rest-requires
+up_to-rest-requires c = up_to_before c.as_bytes-front.result.now c.args.targets.now c.requires.rises
 
-pub returns-then-is_empty : goal.returns-then-is_empty
-returns-then-is_empty c =
-    let inv = c.loop-depth.invariant in
-    let rest = c.narrowed-fronted.result.now in
-    let same = going_on c.args.asked.now c.loop-depth.depth c.loop-depth.fronted.now inv.fronted inv.each rest
-    (sym c.any_whole_fits.ensures ∙ c.if-any_whole_fits.false) (rw c.as_slice-path.ensures at c.narrowed-fronted.ensures.any) in
-    let empty = (Decides-eqb (length rest) 0).0 (sym c.is_empty.ensures ∙ c.if-is_empty.true) in
-    sym (sym inv.same ∙ (sym same ∙ none_fits (target_fits c.args.asked.now) rest (λ k d within. absurd (omega (arith, empty, within)))))
+pub loop-last-init : goal.loop-last-init
+loop-last-init c =
+    let front = c.as_bytes-front.result.now in
+    let left = all_left c.args.asked.now c.args.targets.now front c.requires.each c.requires.rises (c.as_bytes-front.ensures.value ∙ c.as_front.ensures.text) in
+    cut_walk c.args.asked.now c.args.targets.now c.args.targets.now front left c.up_to-rest.result.now c.up_to-rest.ensures.first c.up_to-rest.ensures.end
 
-pub loop-depth-preserved : goal.loop-depth-preserved
-loop-depth-preserved c =
-    let inv = c.loop-depth.invariant in
-    let path = c.as_slice-path.ensures in
-    let same = going_on c.args.asked.now c.loop-depth.depth c.loop-depth.fronted.now inv.fronted inv.each c.narrowed-fronted.result.now
-    (sym c.any_whole_fits.ensures ∙ c.if-any_whole_fits.false) (rw path at c.narrowed-fronted.ensures.any) in
-    record {
-      each = c.narrowed-fronted.ensures.each;
-      fronted = rw path at c.narrowed-fronted.ensures.fronted;
-      same = same ∙ inv.same;
-    }
+-- what the last target shares with what is left of the path
+shared : (c : After-fits_shared) → IsShared (entry_text c.in-Some.last.now) c.loop-last.front.now c.shared_length-shared.result
+shared c = subst (λ (t : List ℕ). IsShared t c.loop-last.front.now c.shared_length-shared.result) c.as_bytes.ensures.value c.shared_length-shared.ensures
+
+-- it matches as is tested
+fits : (c : After-fits_shared) → c.fits_shared.result ≡ target_fits c.args.asked.now c.in-Some.last.now
+fits c =
+    c.fits_shared.ensures
+    ∙ last_fits c.args.asked.now c.args.targets.now c.loop-last.rest.now c.loop-last.front.now c.loop-last.invariant c.in-Some.last.now
+    c.in-Some.before.now c.in-Some.ensures.cases c.shared_length-shared.result (shared c)
+    (ap front_pieces (sym c.as_front.ensures.text) ∙ c.as_front.ensures.pieces)
+
+pub returns-then-fits_shared : goal.returns-then-fits_shared
+returns-then-fits_shared c =
+    let after = (goal.at.returns-then-fits_shared c).After-fits_shared in
+    last_found c.args.asked.now c.args.targets.now c.loop-last.rest.now c.loop-last.front.now c.loop-last.invariant c.in-Some.last.now
+    c.in-Some.before.now c.in-Some.ensures.cases c.shared_length-shared.result (shared after) (sym (fits after) ∙ c.if-fits_shared.true)
+
+-- where it doesn't, those before it are left
+left : (c : After-fits_shared) → c.fits_shared.result ≡ false
+    → IsLeft c.args.asked.now c.args.targets.now c.in-Some.before.now (take c.shared_length-shared.result c.loop-last.front.now)
+left c none =
+    left_before c.args.asked.now c.args.targets.now c.loop-last.rest.now c.loop-last.front.now c.loop-last.invariant c.in-Some.last.now
+    c.in-Some.before.now c.in-Some.ensures.cases c.shared_length-shared.result (shared c) (sym (fits c) ∙ none)
+
+pub up_to-rest-requires-in-Some : goal.up_to-rest-requires-in-Some
+up_to-rest-requires-in-Some c =
+    let after = (goal.at.up_to-rest-requires-in-Some c).After-fits_shared in
+    up_to_before (take c.shared_length-shared.result c.loop-last.front.now) c.in-Some.before.now (left after c.if-fits_shared.false).rises
+
+pub loop-last-smaller : goal.loop-last-smaller
+loop-last-smaller c =
+    let next = c.up_to-rest-in-Some in
+    omega (arith, c.in-Some.ensures.cases.1, ap length next.ensures.first, length-take (length next.result.now) c.in-Some.before.now)
+
+pub loop-last-preserved : goal.loop-last-preserved
+loop-last-preserved c =
+    let after = (goal.at.loop-last-preserved c).After-fits_shared in
+    let next = c.up_to-rest-in-Some in
+    cut_walk c.args.asked.now c.args.targets.now c.in-Some.before.now (take c.shared_length-shared.result c.loop-last.front.now)
+    (left after c.if-fits_shared.false) next.result.now next.ensures.first next.ensures.end
 
 pub returns : goal.returns
 returns c =
-    let asked = c.args.asked.now in
-    let depth = c.loop-depth.depth in
-    let fronted = c.loop-depth.fronted.now in
-    let inv = c.loop-depth.invariant in
-    let ends : depth ≡ length c.as_slice-path.result.now = omega arith in
-    c.any_whole_fits-2.ensures
-    ∙ (ap (λ n. list_any (whole_fits asked n) fronted) (sym ends)
-    ∙ (ending_fits asked depth fronted inv.fronted inv.each (ends ∙ ap length c.as_slice-path.ensures) ∙ inv.same))
+    none_left c.args.asked.now c.args.targets.now c.loop-last.rest.now c.loop-last.front.now c.loop-last.invariant c.in_default.ensures.cases

@@ -1,12 +1,9 @@
-use Rattle.std.proofs.Common.{◌≡◌, All}
-use Rattle.std.specs.List.{list_any}
-use Rattle.csp_match.specs.Entries.{target_fits, IsEntry}
-use Rattle.csp_match.specs.Fronts.{IsFronted}
+use Rattle.std.proofs.Common.{length}
+use Rattle.csp_match.proofs.FrontWalk.{IsWalk}
 use Rattle.csp_match.proofs.fronts.any_target_fits.Given as goal
 
-abbrev pub invariant-loop-depth : goal.invariant-loop-depth
-invariant-loop-depth l = record {
-  each : All IsEntry l.fronted;
-  fronted : IsFronted l.asked.path.now l.depth l.fronted;
-  same : list_any (target_fits l.asked) l.fronted ≡ list_any (target_fits l.asked) l.targets;
-}
+abbrev pub invariant-loop-last : goal.invariant-loop-last
+invariant-loop-last l = IsWalk l.asked l.targets l.rest l.front
+
+abbrev pub decreases-loop-last : goal.decreases-loop-last
+decreases-loop-last l = length l.rest

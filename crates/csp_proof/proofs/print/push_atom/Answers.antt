@@ -18,7 +18,8 @@ returns-in_ok-push_str-in-HostDomain c =
 
 pub returns-in-PathUnder : goal.returns-in-PathUnder
 returns-in-PathUnder c =
-    on_ok_weaker c.push_with_path-in-PathUnder.result (λ e. e ∙ ap (λ (a : Atom). string_bytes c.args.text.now ++ atom_text a) (sym c.in-PathUnder.is)) c.push_with_path-in-PathUnder.ensures
+    let told = ap (λ (v : List ℕ). join_with_byte 32 (codes "path-under" ∷ v ∷ [])) c.as_str-in-PathUnder.ensures ∙ ap atom_text (sym c.in-PathUnder.is) in
+    on_ok_weaker c.push_two-in-PathUnder.result (λ e. e ∙ ap (λ (t : List ℕ). string_bytes c.args.text.now ++ t) told) c.push_two-in-PathUnder.ensures
 
 pub returns-in-IntegrityHas : goal.returns-in-IntegrityHas
 returns-in-IntegrityHas c =

@@ -12,6 +12,6 @@ not_none path one none = cc
 
 pub returns-clause-valid : goal.returns-clause-valid
 returns-clause-valid c =
-    let one : c.push.new.self ≡ [] ∷ [] = rw (c.in_ok-push-in-Hosted.ensures.ok, c.new-path.ensures, c.from_vec.ensures, c.new.ensures.items) refl in
+    let one : c.push.new.self ≡ [] ∷ [] = rw (c.in_ok-push-in-Hosted.ensures.ok, c.in_ok-path-in-Hosted.ensures) refl in
     let valid = rw c.in-Hosted.is at c.requires in
     (valid.0, valid.1, not_none c.push.new.self one, rw one empty_piece)

@@ -1,6 +1,6 @@
 use Rattle.std.proofs.Common.{ap, ◌∙◌}
 use Rattle.csp_json.specs.View.{view}
-use Rattle.csp_fetch.specs.Destinations.{destination_named}
+use Rattle.csp_model.specs.Destinations.{destination_named}
 use Rattle.csp_request.specs.Members.{needed}
 use Rattle.csp_request.specs.declared.field.Field.TheVariants as field
 use Rattle.csp_request.proofs.Named.{required_named}
