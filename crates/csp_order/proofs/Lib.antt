@@ -1,3 +1,6 @@
+pub mod Carried
+pub mod HashesSame
+pub mod Narrowing
 pub mod PairsApart
 pub mod PairsListed
 pub mod ReasonsGiven

@@ -29,7 +29,7 @@ module _ {X : Type 0} where
       (All-append (R x) xs ys (head_apart R x xs one) (All-head (λ z. All (R z) ys) x xs cross))
       (both_apart R xs ys (tail_apart R x xs one) other (All-tail (λ z. All (R z) ys) x xs cross))
 
-each_flat : {X Y : Type 0} (P : Y → Type 0) (f : X → List Y) (xs : List X) → All (λ x. All P (f x)) xs
+pub each_flat : {X Y : Type 0} (P : Y → Type 0) (f : X → List Y) (xs : List X) → All (λ x. All P (f x)) xs
     → All P (flat_map f xs)
 each_flat P f [] each = All-nil P
 each_flat P f (x ∷ xs) each =

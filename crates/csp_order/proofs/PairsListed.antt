@@ -4,7 +4,7 @@ use Rattle.std.specs.List.{flat_map, range_with_len}
 use Rattle.std.proofs.lemmas.List.{map-append}
 use Rattle.std.proofs.lemmas.List.Concat.{flat_map-append}
 use Rattle.std.proofs.lemmas.List.Elements.{filter-append}
-use Rattle.csp_order.specs.Pairs.{pair, others, pairs}
+use Rattle.csp_order.specs.Pairs.{pair, others}
 use Rattle.csp_order.specs.declared.pair.Pair.{Pair}
 
 -- the numbers below this one, from 1 on

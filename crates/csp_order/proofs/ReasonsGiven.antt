@@ -1,15 +1,13 @@
 -- Chains show inclusion, and relations with their reasons grow at their end.
-use Rattle.std.proofs.Common.{◌≡◌, ◌≢◌, ◌∙◌, ◌↔◌, sym, ap, subst, refl, ℕ, ◌-◌, true, false, List, [], ◌∷◌, ◌++◌, map, All, append-nil, append_assoc, IsTrue}
-use Rattle.std.specs.List.{flat_map}
+use Rattle.std.proofs.Common.{◌≡◌, ◌∙◌, ◌↔◌, sym, ap, subst, refl, ℕ, List, [], ◌∷◌, ◌++◌, map, All, append-nil, append_assoc, length, IsTrue}
 use Rattle.std.proofs.lemmas.Bool.{false≢true}
 use Rattle.std.proofs.lemmas.List.Concat.{flat_map-append}
 use Rattle.std.proofs.lemmas.List.Elements.{All-nil, All-cons, All-head, All-tail, All-append, All-contains}
 use Rattle.csp_model.specs.Inclusion.{Subsumes}
-use Rattle.csp_model.specs.declared.check.Check.{Check}
 use Rattle.csp_model.specs.declared.policy.PolicyList.{PolicyList}
 use Rattle.csp_order.specs.Chains.{IsChain, LeadsThrough}
-use Rattle.csp_order.specs.Pairs.{pair}
-use Rattle.csp_order.specs.Relations.{list_at, Includes, IsReason, pair_of, proved_by, AreReasons, is_yes, proved}
+use Rattle.csp_order.specs.Pairs.{IsPair, pair}
+use Rattle.csp_order.specs.Relations.{list_at, Includes, IsReason, pair_of, proved_by, AreReasons, is_yes, proved, HasProof, HasProofOf}
 use Rattle.csp_order.specs.Ways.{end_of}
 use Rattle.csp_order.specs.declared.pair.Pair.{Pair}
 use Rattle.csp_order.specs.declared.relation.Because.{Because}
@@ -80,3 +78,19 @@ reasons_decide lists ps (r ∷ rs) are =
     All-cons (λ (q : Relation). IsTrue (is_yes q.because) ↔ Includes lists (pair_of q)) r rs
     (yes_where_included lists ps (pair_of r) r.because are.0)
     (reasons_decide lists (ps ++ proved_by (pair_of r) r.because) rs are.1)
+
+proof_has : (lists : List PolicyList) (ps : List Pair) (p : Pair) (b : Because) → IsPair (length lists) p → IsReason lists ps p b
+    → HasProofOf lists p b
+proof_has lists ps p (because.Proof proof) of is = (of, is.printed)
+proof_has lists ps p (because.Through between) of is = tt
+proof_has lists ps p (because.Check asked) of is = tt
+
+-- each reason that is a proof is one for its pair
+pub reasons_have : (lists : List PolicyList) (ps : List Pair) (rs : List Relation) → All (IsPair (length lists)) (map pair_of rs)
+    → AreReasons lists ps rs → All (HasProof lists) rs
+reasons_have lists ps [] each are = All-nil (HasProof lists)
+reasons_have lists ps (r ∷ rs) each are =
+    All-cons (HasProof lists) r rs
+    (proof_has lists ps (pair_of r) r.because (All-head (IsPair (length lists)) (pair_of r) (map pair_of rs) each) are.0)
+    (reasons_have lists (ps ++ proved_by (pair_of r) r.because) rs
+    (All-tail (IsPair (length lists)) (pair_of r) (map pair_of rs) each) are.1)

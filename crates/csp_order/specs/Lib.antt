@@ -3,3 +3,4 @@ pub mod Pairs
 pub mod Relations
 pub mod Trials
 pub mod Ways
+pub mod Within

@@ -91,3 +91,19 @@ pub record IsKnown (lists : List PolicyList) (proved : List Pair) : Type 0 where
   pub readable : All IsReadable lists
   pub pairs : All (IsPair (length lists)) proved
   pub included : All (Includes lists) proved
+
+-- where the reason is a proof, it is one of the pair
+abbrev pub HasProofOf : List PolicyList → Pair → Because → Type 0
+HasProofOf lists p (because.Proof proof) =
+    IsPair (length lists) p × IsPrinted (list_at lists p.first) (list_at lists p.second) proof
+HasProofOf lists p (because.Through between) = ⊤
+HasProofOf lists p (because.Check asked) = ⊤
+
+abbrev pub HasProof : List PolicyList → Relation → Type 0
+HasProof lists r = HasProofOf lists (pair_of r) r.because
+
+-- each proof of the one pair is one of the other
+abbrev pub Serves : List PolicyList → Pair → Pair → Type 0
+Serves lists one other = (proof : ProofValue)
+    → IsPrinted (list_at lists one.first) (list_at lists one.second) proof
+    → IsPrinted (list_at lists other.first) (list_at lists other.second) proof

@@ -4,13 +4,14 @@ ghost use Rattle.csp_model.specs.Policies.{IsReadable};
 ghost use Rattle.csp_order.specs.Chains.{IsApart};
 ghost use Rattle.csp_order.specs.Pairs.{IsPair, list_limit};
 ghost use Rattle.csp_order.specs.Relations as spec;
-ghost use Rattle.csp_order.specs.Relations.{IsReason, proved_by};
+ghost use Rattle.csp_order.specs.Relations.{HasProof, IsReason, proved_by};
 
+use crate::carrying::answer;
 use crate::chain::chain;
 use crate::pair::Pair;
-use crate::relation::Because;
+use crate::relation::{Because, Relation};
 use crate::trials::Trials;
-use csp_compare::{Answer, compare};
+use csp_compare::Answer;
 use csp_model::{Memory, PolicyList};
 use std::alloc::Global;
 use std::marker::Model;
@@ -49,11 +50,18 @@ impl<'a> Known<'a> {
         })
     }
 
-    // The reason of a pair that has no proof yet. A chain is looked for first; then the checks that told other
-    // lists apart are tried, since that takes microseconds; then the lists are compared.
-    pub(crate) fn reason(&mut self, alloc: Global, pair: Pair) -> Result<Because, Memory>
+    // The reason of a pair that has no proof yet, behind these relations. A chain is looked for first; then the
+    // checks that told other lists apart are tried, since that takes microseconds; then the proofs of earlier
+    // pairs; then the lists are compared.
+    pub(crate) fn reason(
+        &mut self,
+        alloc: Global,
+        pair: Pair,
+        earlier: &[Relation],
+    ) -> Result<Because, Memory>
         requires pair { IsPair (length self.old.lists) pair }
         requires fresh { ¬ Contains self.old.proved pair }
+        requires proofs { All (HasProof self.old.lists) earlier.now }
         ensures reason { IfOk result (IsReason self.old.lists self.old.proved pair) }
         ensures known { IfOk result (λ because. self.new
             ≡ record self.old { proved = self.old.proved ++ proved_by pair because }) }
@@ -64,20 +72,19 @@ impl<'a> Known<'a> {
         if let Some(check) = self.trials.difference(alloc, pair)? {
             return Ok(Because::Check { check });
         }
-        self.compare(alloc, pair)
+        self.prove(alloc, pair, earlier)
     }
 
-    // Compares the lists of a pair to which no chain leads.
-    fn compare(&mut self, alloc: Global, pair: Pair) -> Result<Because, Memory>
+    // Proves a pair to which no chain leads, or finds a check that tells its lists apart.
+    fn prove(&mut self, alloc: Global, pair: Pair, earlier: &[Relation]) -> Result<Because, Memory>
         requires pair { IsPair (length self.old.lists) pair }
         requires apart { IsApart self.old.proved pair }
+        requires proofs { All (HasProof self.old.lists) earlier.now }
         ensures reason { IfOk result (IsReason self.old.lists self.old.proved pair) }
         ensures known { IfOk result (λ because. self.new
             ≡ record self.old { proved = self.old.proved ++ proved_by pair because }) }
     {
-        let first = &self.lists[pair.first as usize - 1];
-        let second = &self.lists[pair.second as usize - 1];
-        match compare(alloc, first, second)? {
+        match answer(alloc, self.lists, earlier, pair)? {
             Answer::Subsumed { proof } => {
                 self.proved.push(pair)?;
                 Ok(Because::Proof { proof })

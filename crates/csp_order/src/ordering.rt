@@ -25,7 +25,7 @@ pub fn order(alloc: Global, lists: &List<PolicyList>) -> Result<List<Relation>, 
     let mut relations = List::new(alloc);
     let all = pairs(alloc, lists.len() as u32)?;
     for pair in all.as_slice() {
-        let because = known.reason(alloc, *pair)?;
+        let because = known.reason(alloc, *pair, relations.as_slice())?;
         relations.push(Relation {
             first: pair.first,
             second: pair.second,

@@ -1,14 +1,14 @@
 use Rattle.std.proofs.Common.{◌≡◌, ◌≢◌, ◌∙◌, sym, ap, subst, refl, ℕ, ◌+◌, List, [], ◌∷◌, ◌++◌, length, get_or, map, take, All, AllPairs}
 use Rattle.std.proofs.lemmas.List.{get_or_default, map_push, take_more}
-use Rattle.std.proofs.lemmas.List.Elements.{All-contains}
+use Rattle.std.proofs.lemmas.List.Elements.{All-contains, All-take}
 use Rattle.csp_model.specs.declared.policy.PolicyList.{PolicyList}
 use Rattle.csp_order.specs.Pairs.{IsPair, pairs}
-use Rattle.csp_order.specs.Relations.{AreReasons, IsReason, Known, pair_of, proved, proved_by}
+use Rattle.csp_order.specs.Relations.{AreReasons, HasProof, IsReason, Known, pair_of, proved, proved_by}
 use Rattle.csp_order.specs.declared.pair.Pair.{Pair}
 use Rattle.csp_order.specs.declared.relation.Because.{Because}
 use Rattle.csp_order.specs.declared.relation.Relation.{Relation}
 use Rattle.csp_order.proofs.PairsApart.{each_listed, others_before, pairs_apart}
-use Rattle.csp_order.proofs.ReasonsGiven.{each_proved, proved_push, reasons_decide, reasons_push}
+use Rattle.csp_order.proofs.ReasonsGiven.{each_proved, proved_push, reasons_decide, reasons_have, reasons_push}
 use Rattle.csp_order.proofs.ordering.order.Goals as goal
 
 pub reason-requires-clause-pair : goal.reason-requires-clause-pair
@@ -43,6 +43,17 @@ reason-requires-clause-fresh c found =
     All-contains (λ (q : Pair). q ≢ p) c.loop-pair.known.proved p
     (subst (All (λ (q : Pair). q ≢ p)) (sym c.loop-pair.invariant.proved)
     (each_proved (λ (q : Pair). q ≢ p) c.loop-pair.relations others)) found refl
+
+pub reason-requires-clause-proofs : goal.reason-requires-clause-proofs
+reason-requires-clause-proofs c =
+    let lists : List PolicyList = c.args.lists.now in
+    let relations : List Relation = c.loop-pair.relations in
+    let each : All (IsPair (length lists)) (map pair_of relations) =
+    subst (All (IsPair (length lists))) (sym c.loop-pair.invariant.pairs)
+    (All-take (IsPair (length lists)) c.loop-pair.pair-index (pairs (length lists)) (each_listed (length lists))) in
+    subst (λ (ls : List PolicyList). All (HasProof ls) c.as_slice-in-loop-pair.result.now) (sym c.loop-pair.invariant.lists)
+    (subst (All (HasProof lists)) (sym c.as_slice-in-loop-pair.ensures)
+    (reasons_have lists [] relations each c.loop-pair.invariant.reasons))
 
 pub loop-pair-preserved : goal.loop-pair-preserved
 loop-pair-preserved c =
