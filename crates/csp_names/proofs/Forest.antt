@@ -3,6 +3,7 @@ use Rattle.std.proofs.Common.{◌≡◌, ◌∙◌, refl, sym, ap, ap₂, subst,
 use Rattle.std.proofs.lemmas.Option.{slice_get-get_or, slice_get_within, slice_get_past, get_or_from_slice_get}
 use Rattle.std.proofs.lemmas.Bool.Decides.{nat_tests}
 use Rattle.std.specs.Ordering.{is_gt}
+use Rattle.std.specs.declared.cmp.Ordering.TheVariants.{Less, Equal}
 use Rattle.csp_atom.specs.Atoms.{part_of, IsValidAtom}
 use Rattle.csp_atom.specs.declared.atom.Atom.{Atom}
 use Rattle.csp_atom.specs.declared.atom.Atom.TheVariants.{HostDomain}
@@ -138,6 +139,17 @@ pub parts_together : (atoms : List Atom) (i j k : ℕ) (d : Atom) → AreInOrder
 parts_together atoms i j k d order low high h same =
     stand_together (get_or atoms i d) (get_or atoms j d) (get_or atoms k d) same
     (not_above_or_same atoms order i j d low (omega arith)) (not_above_or_same atoms order j k d high h)
+
+pub one_name : (atoms : List Atom) (i j : ℕ) (d : Atom) → AreInOrder atoms → i < length atoms → j < length atoms → get_or atoms i d ≡ get_or atoms j d → i ≡ j
+one_name atoms i j d order h k same = by (nat_lt i j) (nat_lt j i) refl refl
+  where
+    not_below : (a b : Atom) → a ≡ b → name_cmp a b ≡ Less → ⊥
+    not_below a b e less = let level : name_cmp a b ≡ Equal = subst (λ (x : Atom). name_cmp a x ≡ Equal) e (tied_itself name_total a) in cc
+
+    by : (s t : Bool) → nat_lt i j ≡ s → nat_lt j i ≡ t → i ≡ j
+    by true t e f = absurd (not_below (get_or atoms i d) (get_or atoms j d) same (order.rise i j d (grind (arith, nat_tests)) k))
+    by false true e f = absurd (not_below (get_or atoms j d) (get_or atoms i d) (sym same) (order.rise j i d (grind (arith, nat_tests)) h))
+    by false false e f = grind (arith, nat_tests)
 
 -- Beyond the last one
 

@@ -40,6 +40,13 @@ pub fn names_are_a_forest()
     ensures { (atoms : Items AtomValue) → AreInOrder atoms → IsForest (around_in atoms) }
 {}
 
+/// An atom has one name.
+pub fn an_atom_has_one_name()
+    ensures { (atoms : Items AtomValue) (i j : ℕ) (d : AtomValue) → AreInOrder atoms
+        → i < length atoms → j < length atoms
+        → slice_index_or atoms i d ≡ slice_index_or atoms j d → i ≡ j }
+{}
+
 /// What names say of names is what their atoms say.
 pub fn names_say_what_their_atoms_say()
     ensures { (atoms : Items AtomValue) (outer inner : ℕ) (d : AtomValue)

@@ -14,3 +14,4 @@ mod said;
 mod sorting;
 
 pub use names::{Named, Names, name_atoms};
+pub use order::part_number;

@@ -24,8 +24,8 @@ pub(crate) fn compare_names(one: &Atom, other: &Atom) -> Ordering
     }
 }
 
-// The place of a part among the parts.
-pub(crate) fn part_number(part: CheckPart) -> u8
+/// The place of a part of a check among the nine parts, from 0. The names of atoms stand in this order.
+pub fn part_number(part: CheckPart) -> u8
     ensures { result ≡ spec.part_number part }
 {
     match part {

@@ -1,0 +1,9 @@
+pub mod Changing
+pub mod Denials
+pub mod Fieldless
+pub mod Grouping
+pub mod Keeping
+pub mod Literals
+pub mod Marking
+pub mod Taking
+pub mod Telling

@@ -1,0 +1,5 @@
+pub mod Branching
+pub mod Changes
+pub mod Groups
+pub mod Marks
+pub mod Paths
