@@ -62,7 +62,7 @@ impl Mark {
         Mark { group, ..self }
     }
 
-    // The first seal counts.
+    // The mark after a contrary literal. A seal that stands there already stays.
     fn sealed(self, step: Step) -> Mark
         ensures { result ≡ spec.sealed_by step self }
     {

@@ -18,21 +18,21 @@ impl Model for Steps {
 }
 
 impl Steps {
-    // Those of the root.
+    // The literals at the root: none.
     pub(crate) fn new() -> Steps
         ensures { result.items ≡ [] }
     {
         Steps {}
     }
 
-    // These, and behind them one more.
+    // The literals with one more at the end.
     pub(crate) fn then(&self, _step: &Step) -> Steps
         ensures { result.items ≡ self.now.items ++ _step.now ∷ [] }
     {
         Steps {}
     }
 
-    // These but for the last one.
+    // The literals without the last one.
     pub(crate) fn before(&self) -> Steps
         ensures { result.items ≡ take (length self.now.items - 1) self.now.items }
     {

@@ -13,14 +13,14 @@ pub(crate) struct Longest {
 }
 
 impl Longest {
-    // Those of no literals.
+    // The lengths where there is no literal.
     pub(crate) fn new() -> Longest
         ensures { result ≡ record { dots = 0; pieces = 0 } }
     {
         Longest { dots: 0, pieces: 0 }
     }
 
-    // Those of one atom more.
+    // The lengths with one atom more.
     pub(crate) fn with(self, atom: &Atom) -> Longest
         ensures { result ≡ spec.longest_with self atom.now }
     {

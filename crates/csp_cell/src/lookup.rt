@@ -85,7 +85,8 @@ fn has_above(literals: &[Literal], text: &[u8]) -> bool
     false
 }
 
-// Whether there is one of the path's first pieces, not all of them. Each of these ends at a slash of its text.
+// Whether there is one of the path's first pieces, not all of them. The text of each of these ends at a slash
+// of the path's.
 fn has_front(literals: &[Literal], path: &Path) -> bool
     requires { spec.Rises literals.now }
     ensures { result ≡ spec.has_front literals.now path.now (length path.now) }

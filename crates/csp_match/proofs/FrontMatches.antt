@@ -12,9 +12,9 @@ use Rattle.csp_match.specs.declared.asked.Asked.{Asked}
 use Rattle.csp_match.specs.declared.path_key.PathKind.{PathKind}
 use Rattle.csp_match.specs.declared.path_key.PathKind.TheVariants as kind
 use Rattle.csp_match.specs.Entries.{Entry, entry_pieces, entry_text, front_fits, scheme_of, target_fits, way_fits, way_port, IsEntry}
+use Rattle.csp_match.specs.Fronts.{Begins}
 use Rattle.csp_match.specs.Keys.{path_of, IsPath, takes}
 use Rattle.csp_match.proofs.AnyLaws.{second}
-use Rattle.csp_match.proofs.FrontLaws.{Begins}
 
 -- the pieces of a path that matches begin the URL's
 begun : (k : PathKind) (pieces path : List (List ℕ)) → IsPath k pieces → path_matches (path_of k pieces) path ≡ true

@@ -1,211 +1,238 @@
--- The walk over the entries of one host, from the last one that isn't behind a URL's path in order.
-use Rattle.std.proofs.Common.{◌≡◌, ℕ, ◌+◌, ◌<◌, ◌≤◌, Bool, true, false, ◌||◌, ◌&&◌, ◌==◌, List, [], ◌∷◌, ◌++◌, length, take, drop, get_or, refl, sym, ◌∙◌, ap, subst, All, Ordering, Less, Equal, Greater, is_le, is_lt, append-nil, take_all, take_at, take-append-drop, get_or-drop, get_or-take, arith, length-drop, inl, inr}
-use Rattle.std.specs.List.{list_any, IsLastAndRest}
-use Rattle.std.specs.List.Sorted.{IsPartitionPoint, IsPartitionedBy}
-use Rattle.std.specs.Ordering.{ordering_reverse}
-use Rattle.std.proofs.lemmas.Bool.{false≢true}
-use Rattle.std.proofs.lemmas.Bool.Decides.{eqb_tells}
-use Rattle.std.proofs.lemmas.Cmp.{nat_list_cmp_total}
-use Rattle.std.proofs.lemmas.List.{get_or_push, nil_from_length}
-use Rattle.std.proofs.lemmas.List.Elements.{All-take}
-use Rattle.std.proofs.lemmas.List.Folds.{list_any-append, list_any_none}
-use Rattle.std.proofs.lemmas.List.Sorted.{ranks_by, sorted_far}
+-- The outer entries of an entry, one after the other, and which of them match a URL.
+use Rattle.std.proofs.Common.{◌≡◌, ℕ, ◌+◌, ◌-◌, ◌<◌, ◌≤◌, Bool, true, false, ◌&&◌, nat_le, ◌==◌, List, length, get_or, Option, Some, None, SomeIff, sym, ◌∙◌, ap, subst, All, Equal, is_eq, arith, inl, inr}
+use Rattle.std.specs.List.{list_any}
+use Rattle.std.specs.List.Sorted.{IsPartitionPoint}
+use Rattle.std.proofs.lemmas.Bool.{false≢true, cases_lt}
+use Rattle.std.proofs.lemmas.Bool.Decides.{nat_tests}
+use Rattle.std.proofs.lemmas.List.{get_or_default}
+use Rattle.std.proofs.lemmas.List.Folds.{list_any_none}
 use Rattle.csp_model.specs.Paths.{front_text}
 use Rattle.csp_model.proofs.PathFronts.{IsRead}
+use Rattle.csp_match.specs.contracts.host_key.HostKeyOrd.TheImpl.Laws.{total-law as host_total}
 use Rattle.csp_match.specs.declared.asked.Asked.{Asked}
+use Rattle.csp_match.specs.declared.host_key.HostKey.{HostKey}
 use Rattle.csp_match.specs.Entries.{Entry, entry_text, front_fits, target_fits, IsEntry}
-use Rattle.csp_match.specs.Fronts.{is_up_to, shared_fits, text_cmp, IsShared, Rises}
-use Rattle.csp_match.proofs.AnyLaws.{found, not_true, or_false}
-use Rattle.csp_match.proofs.FrontLaws.{Begins, begins_cut, begins_le, between, cut_begins, shared_holds}
+use Rattle.csp_match.specs.Fronts.{host_cmp, is_up_to, place, within_fits, AreOutersTo, IsLastOuter, IsOuter, IsOuterAt, IsShared, Place, Rises}
+use Rattle.csp_match.proofs.AnyLaws.{first, found, not_true, second}
+use Rattle.csp_match.proofs.FrontLaws.{outer_at_between, outer_between, outer_itself, outer_le, outer_through, shared_begins, shared_holds, stands_before}
 use Rattle.csp_match.proofs.FrontMatches.{begun_fits, fitting_begins}
-use Rattle.csp_match.proofs.RunOfKey.{part_sorted, up_to_first}
+use Rattle.csp_match.proofs.RunOfKey.{equal_is}
 
--- these entries are left, with as much of the path as can still be begun
-pub record IsLeft (asked : Asked) (targets rest : List Entry) (front : List ℕ) : Type 0 where
-  pub each : All IsEntry rest
-  pub rises : Rises rest
-  pub same : list_any (target_fits asked) rest ≡ list_any (target_fits asked) targets
-  pub begun : Begins (front_text asked.path.now) front
-  pub reach : All (λ e. Begins (front_text asked.path.now) (entry_text e) → Begins front (entry_text e)) rest
+-- ---- how the outer entry of an entry is found
 
--- and none of them is behind it
-pub record IsWalk (asked : Asked) (targets rest : List Entry) (front : List ℕ) : Type 0 where
-  pub left : IsLeft asked targets rest front
-  pub up_to : All (λ e. is_up_to front e ≡ true) rest
+-- of entries that stand there
+pub outer_at_is : (entries : List Entry) (k n : ℕ) (x y : Entry) → k < length entries → n < length entries → x ≡ get_or entries k x → y ≡ get_or entries n y
+    → (IsOuter (place x) (place y) → IsOuterAt entries k n) × (IsOuterAt entries k n → IsOuter (place x) (place y))
+outer_at_is entries k n x y low high p q = (
+  λ outer d.
+      let one : get_or entries k d ≡ x = get_or_default entries k d x low ∙ sym p in
+      let other : get_or entries n d ≡ y = get_or_default entries n d y high ∙ sym q in
+      rw (one, other) outer,
+  λ outer.
+      let other : get_or entries n x ≡ y = get_or_default entries n x y high ∙ sym q in
+      subst (λ (e : Entry). IsOuter (place x) (place e)) other (subst (λ (e : Entry). IsOuter (place e) (place (get_or entries n x))) (sym p) (outer x)),
+)
 
--- an entry behind what is left of the path doesn't match
-pub behind_unfit : (asked : Asked) (front : List ℕ) (e : Entry) → IsEntry e
-    → (Begins (front_text asked.path.now) (entry_text e) → Begins front (entry_text e)) → is_up_to front e ≡ false → target_fits asked e ≡ false
-behind_unfit asked front e shape reach behind =
-    not_true _ (λ fits.
-    let (more, is) = reach (fitting_begins asked e shape fits) in
-    false≢true (sym behind ∙ ap (λ t. is_le (text_cmp (entry_text e) t)) is ∙ begins_le (entry_text e) more))
+-- no outer entry stands between this one and the entry itself
+abbrev pub IsAbove : List Entry → ℕ → Option ℕ → Type 0
+IsAbove entries n (Some m) = (m < n) × ((k : ℕ) → k < n → IsOuterAt entries k n → k ≤ m)
+IsAbove entries n None = (k : ℕ) → k < n → IsOuterAt entries k n → ⊥
 
--- what begins the path and stands before an entry that isn't behind it begins what both share
-pub reach_on : (path front last text : List ℕ) (n : ℕ) → IsShared last front n → (Begins path text → Begins front text)
-    → is_le (text_cmp text last) ≡ true → is_le (text_cmp last front) ≡ true → Begins path text → Begins (take n front) text
-reach_on path front last text n shared reach low high begins =
-    let (more, is) = reach begins in
-    let middle = between text last more low (ap (λ t. is_le (text_cmp last t)) (sym is) ∙ high) in
-    cut_begins front text n (more, is) (shared_holds last front text n shared middle (more, is))
+-- how many entries may still be gone through
+abbrev pub steps_left : Option ℕ → ℕ
+steps_left (Some m) = m + 1
+steps_left None = 0
 
--- where it shares less than all of it, the entry doesn't match
-pub short_unfit : (asked : Asked) (front : List ℕ) (e : Entry) (n : ℕ) → IsEntry e → IsShared (entry_text e) front n → n < length (entry_text e)
-    → (Begins (front_text asked.path.now) (entry_text e) → Begins front (entry_text e)) → target_fits asked e ≡ false
-short_unfit asked front e n shape shared less reach =
-    not_true _ (λ fits.
-    let begins = reach (fitting_begins asked e shape fits) in
-    let fit : length (entry_text e) ≤ n = shared_holds (entry_text e) front (entry_text e) n shared ([], sym (append-nil (entry_text e))) begins in
-    absurd (omega arith))
+module _ (entries : List Entry) (rises : Rises entries) (n : ℕ) (within : n < length entries) where
+  pub above_first : (next : Option ℕ) → SomeIff next (1 ≤ n) (n - 1) → IsAbove entries n next
+  above_first None none = λ k low outer. absurd (none (omega arith))
+  above_first (Some m) (some, is) = (omega arith, λ k low outer. omega arith)
 
--- where it shares all of it, the entry begins the path
-pub whole_begins : (path front text : List ℕ) (n : ℕ) → IsShared text front n → n ≡ length text → Begins path front → Begins path text
-whole_begins path front text n shared whole begins =
-    subst (Begins path) (sym shared.same ∙ ap (λ m. take m text) whole ∙ take_all (length text) text (omega arith)) (begins_cut path front n begins)
+  -- an outer entry that isn't this one is an outer one of this one
+  nearer : (m : ℕ) → IsAbove entries n (Some m) → (IsOuterAt entries m n → ⊥) → (k : ℕ) → k < n → IsOuterAt entries k n → (k < m) × IsOuterAt entries k m
+  nearer m (below, all) off k low outer =
+      let most : k ≤ m = all k low outer in (
+        elim (cases_lt k m) [
+          | inl less ↦ less
+          | inr over ↦
+              let same : k ≡ m = omega arith in
+              absurd (off (subst (λ (j : ℕ). IsOuterAt entries j n) same outer))
+        ],
+        outer_at_between entries rises k m n most (omega arith) within outer,
+      )
 
--- ---- the walk
+  pub above_next : (m : ℕ) (next : Option ℕ) → IsAbove entries n (Some m) → (IsOuterAt entries m n → ⊥) → IsLastOuter entries m next → IsAbove entries n next
+  above_next m (Some o) (below, all) off (before, on, last) = (
+    omega arith,
+    λ k low outer. let near = nearer m (below, all) off k low outer in last k near.0 near.1,
+  )
+  above_next m None above off none = λ k low outer. let near = nearer m above off k low outer in none k near.0 near.1
 
--- at its start all entries are left, and the whole path
-pub all_left : (asked : Asked) (targets : List Entry) (front : List ℕ) → All IsEntry targets → Rises targets → front ≡ front_text asked.path.now
-    → IsLeft asked targets targets front
-all_left asked targets front each rises is = record {
+-- the outer entry that is kept
+pub outer_here : (entries : List Entry) (outers : List (Option ℕ)) (n : ℕ) (next : Option ℕ) → AreOutersTo entries outers (length entries) → n < length entries
+    → next ≡ get_or outers n next → IsLastOuter entries n next
+outer_here entries outers n next are within at =
+    let long = are.long in
+    subst (IsLastOuter entries n) (get_or_default outers n None next (omega arith) ∙ sym at) (are.each n within)
+
+-- ---- which entries match a URL
+
+-- an entry of this host matches
+abbrev pub fits_at : Asked → HostKey → Entry → Bool
+fits_at asked host e = is_eq (host_cmp e.0 host) && target_fits asked e
+
+abbrev pub Ends : HostKey → List ℕ → List Entry → ℕ → Type 0
+Ends host path = IsPartitionPoint (λ (e : Entry). is_up_to (host, path) e ≡ true) (λ (e : Entry). is_up_to (host, path) e ≡ false)
+
+-- of the entries that match each is this outer one of the last or stands before it
+abbrev pub IsLeft : Asked → HostKey → List Entry → ℕ → Option ℕ → Type 0
+IsLeft asked host entries last (Some m) =
+    (m ≤ last) × IsOuterAt entries m last × ((k : ℕ) (d : Entry) → m < k → k < length entries → fits_at asked host (get_or entries k d) ≡ false)
+IsLeft asked host entries last None = All (λ e. fits_at asked host e ≡ false) entries
+
+pub none_fit : (asked : Asked) (host : HostKey) (entries : List Entry) → All (λ e. fits_at asked host e ≡ false) entries
+    → false ≡ list_any (fits_at asked host) entries
+none_fit asked host entries unfit = sym (list_any_none (fits_at asked host) entries unfit)
+
+-- so many of the entries aren't behind the path
+pub record IsUpTo (asked : Asked) (host : HostKey) (entries : List Entry) (n : ℕ) : Type 0 where
+  pub each : All IsEntry entries
+  pub rises : Rises entries
+  pub bound : n ≤ length entries
+  pub ends : Ends host (front_text asked.path.now) entries n
+
+-- as they are counted
+pub counted : (asked : Asked) (host : HostKey) (entries inside slice : List Entry) (path : List ℕ) (n : ℕ) → All IsEntry entries → Rises inside
+    → inside ≡ entries → slice ≡ inside → path ≡ front_text asked.path.now → n ≤ length slice → Ends host path slice n → IsUpTo asked host entries n
+counted asked host entries inside slice path n each rises is same text bound ends = record {
   each = each;
-  rises = rises;
-  same = refl;
-  begun = ([], sym is ∙ sym (append-nil front));
-  reach = λ k d within begins. subst (λ (t : List ℕ). Begins t (entry_text (get_or targets k d))) (sym is) begins;
+  rises = subst Rises is rises;
+  bound = subst (λ (es : List Entry). n ≤ length es) (same ∙ is) bound;
+  ends = subst (λ (t : List ℕ). Ends host t entries n) text (subst (λ (es : List Entry). Ends host path es n) (same ∙ is) ends);
 }
 
--- the entries that aren't behind a text stand first
-pub up_to_before : (text : List ℕ) (entries : List Entry) → Rises entries → IsPartitionedBy (is_up_to text) entries
-up_to_before text entries rises = up_to_first nat_list_cmp_total entry_text text 0 entries rises
+module _ (asked : Asked) (host : HostKey) (entries : List Entry) (upto : ℕ) (all : IsUpTo asked host entries upto) where
+  abbrev here : Place
+  here = (host, front_text asked.path.now)
 
-not_more : (o : Ordering) → is_lt o ≡ false → is_le (ordering_reverse o) ≡ true
-not_more Less h = sym h
-not_more Equal h = refl
-not_more Greater h = refl
+  -- an entry that matches is an outer one of the path
+  fitting_outer : (k : ℕ) (d : Entry) → k < length entries → fits_at asked host (get_or entries k d) ≡ true → IsOuter (place (get_or entries k d)) here
+  fitting_outer k d within fits =
+      let e = get_or entries k d in (
+        equal_is (host_cmp e.0 host) (first (is_eq (host_cmp e.0 host)) (target_fits asked e) fits),
+        fitting_begins asked e (all.each k d within) (second (is_eq (host_cmp e.0 host)) (target_fits asked e) fits),
+      )
 
--- an entry before another isn't behind it
-stands_before : (entries : List Entry) → Rises entries → (k i : ℕ) (d : Entry) → k ≤ i → i < length entries
-    → is_le (text_cmp (entry_text (get_or entries k d)) (entry_text (get_or entries i d))) ≡ true
-stands_before entries rises k i d low within =
-    let less = λ (x y : Entry). is_lt (text_cmp (entry_text x) (entry_text y)) in
-    let far = sorted_far less (ranks_by nat_list_cmp_total entry_text) entries rises k i d low within in
-    let one = entry_text (get_or entries k d) in
-    let other = entry_text (get_or entries i d) in
-    ap is_le (nat_list_cmp_total.antisymm one other) ∙ not_more (text_cmp other one) far
+  -- those behind it don't match
+  behind_unfit : (k : ℕ) (d : Entry) → upto ≤ k → k < length entries → fits_at asked host (get_or entries k d) ≡ false
+  behind_unfit k d low within =
+      not_true _ (λ fits. false≢true (sym (all.ends.1 k d low within) ∙ outer_le (place (get_or entries k d)) here (fitting_outer k d within fits)))
 
--- only the entries that aren't behind what is left of the path can match
-module _ (asked : Asked) (targets rest : List Entry) (front : List ℕ) (left : IsLeft asked targets rest front)
-    (upto : List Entry) (is : upto ≡ take (length upto) rest)
-    (ends : IsPartitionPoint (λ (e : Entry). is_up_to front e ≡ true) (λ (e : Entry). is_up_to front e ≡ false) rest (length upto)) where
-  past_unfit : All (λ (e : Entry). target_fits asked e ≡ false) (drop (length upto) rest)
-  past_unfit k d within =
-      let n = length upto in
-      let inside : n + k < length rest = omega (arith, within, length-drop n rest) in
-      let behind = ends.1 (n + k) d (omega arith) inside in
-      subst (λ (e : Entry). target_fits asked e ≡ false) (sym (get_or-drop n rest k d))
-      (behind_unfit asked front (get_or rest (n + k) d) (left.each (n + k) d inside) (left.reach (n + k) d inside) behind)
+  -- nor does any if all are
+  pub all_behind : (1 ≤ upto → ⊥) → false ≡ list_any (fits_at asked host) entries
+  all_behind none = none_fit asked host entries (λ k d within. behind_unfit k d (elim (cases_lt 0 upto) [
+    | inl some ↦ absurd (none (omega arith))
+    | inr over ↦ omega arith
+  ]) within)
 
-  up_to_same : list_any (target_fits asked) upto ≡ list_any (target_fits asked) targets
-  up_to_same =
-      let fits = target_fits asked in
-      let past = drop (length upto) rest in
-      sym (or_false (list_any fits upto))
-      ∙ ap (λ (b : Bool). list_any fits upto || b) (sym (list_any_none fits past past_unfit))
-      ∙ sym (list_any-append fits upto past)
-      ∙ ap (list_any fits) (ap (λ (es : List Entry). es ++ past) is ∙ take-append-drop (length upto) rest)
-      ∙ left.same
+  -- what matches is an outer one of each entry between it and the path
+  outer_before : (k m : ℕ) (d : Entry) → k ≤ m → m < upto → fits_at asked host (get_or entries k d) ≡ true → IsOuter (place (get_or entries k d)) (place (get_or entries m d))
+  outer_before k m d low high fits =
+      outer_between (place (get_or entries k d)) (place (get_or entries m d)) here
+      (stands_before entries all.rises k m d low (omega (arith, all.bound))) (all.ends.0 m d (omega arith) high) (fitting_outer k d (omega (arith, all.bound)) fits)
 
-  pub cut_walk : IsWalk asked targets upto front
-  cut_walk =
-      let Reaches = λ (e : Entry). Begins (front_text asked.path.now) (entry_text e) → Begins front (entry_text e) in
-      record {
-        left = record {
-          each = subst (All IsEntry) (sym is) (All-take IsEntry (length upto) rest left.each);
-          rises = subst Rises (sym is) (part_sorted (λ (x y : Entry). is_lt (text_cmp (entry_text x) (entry_text y))) 0 (length upto) rest left.rises);
-          same = up_to_same;
-          begun = left.begun;
-          reach = subst (All Reaches) (sym is) (All-take Reaches (length upto) rest left.reach);
-        };
-        up_to = λ k d within.
-            subst (λ (e : Entry). is_up_to front e ≡ true)
-            (sym (ap (λ (es : List Entry). get_or es k d) is ∙ get_or-take (length upto) rest k d within)) (ends.0 k d (omega arith) within);
-      }
+  -- nor does any if the last one that isn't behind it is of another host
+  pub other_host : (last : ℕ) (end : Entry) → 1 ≤ upto → last ≡ upto - 1 → end ≡ get_or entries last end → (host_cmp end.0 host ≡ Equal → ⊥)
+      → false ≡ list_any (fits_at asked host) entries
+  other_host last end some is there apart = none_fit asked host entries (λ k d within. elim (cases_lt k upto) [
+    | inl low ↦ not_true _ (λ fits.
+        let e = get_or entries k d in
+        let outer = outer_before k last d (omega arith) (omega arith) fits in
+        let at : get_or entries last d ≡ end = get_or_default entries last d end (omega (arith, all.bound)) ∙ sym there in
+        let level : host_cmp e.0 end.0 ≡ Equal = subst (λ (x : Entry). host_cmp e.0 x.0 ≡ Equal) at outer.0 in
+        apart (sym (host_total.congr e.0 end.0 host level) ∙ (fitting_outer k d within fits).0))
+    | inr over ↦ behind_unfit k d over within
+  ])
 
--- at its end none is left
-pub none_left : (asked : Asked) (targets rest : List Entry) (front : List ℕ) → IsWalk asked targets rest front → length rest ≡ 0
-    → false ≡ list_any (target_fits asked) targets
-none_left asked targets rest front walk none = ap (list_any (target_fits asked)) (sym (nil_from_length rest none)) ∙ walk.left.same
+  -- else the walk begins with it
+  pub left_first : (last : ℕ) → 1 ≤ upto → last ≡ upto - 1 → IsLeft asked host entries last (Some last)
+  left_first last some is = (omega arith, λ d. outer_itself (place (get_or entries last d)), λ k d low within. behind_unfit k d (omega arith) within)
 
--- the last one that is left, and those before it
-module _ (asked : Asked) (targets rest : List Entry) (front : List ℕ) (walk : IsWalk asked targets rest front)
-    (last : Entry) (before : List Entry) (parts : IsLastAndRest rest last before)
-    (n : ℕ) (shared : IsShared (entry_text last) front n) where
-  last_within : length before < length rest
-  last_within = omega (arith, parts.1)
+-- an outer entry of the last one, of the path's host, from which the walk goes on
+pub record IsStand (asked : Asked) (host : HostKey) (entries : List Entry) (upto last : ℕ) (end : Entry) (n m : ℕ) (e : Entry) : Type 0 where
+  pub all : IsUpTo asked host entries upto
+  pub some : 1 ≤ upto
+  pub is : last ≡ upto - 1
+  pub there : end ≡ get_or entries last end
+  pub same : host_cmp end.0 host ≡ Equal
+  pub shared : IsShared (entry_text end) (front_text asked.path.now) n
+  pub left : IsLeft asked host entries last (Some m)
+  pub at : e ≡ get_or entries m e
 
-  last_at : (d : Entry) → get_or rest (length before) d ≡ last
-  last_at d = ap (λ (es : List Entry). get_or es (length before) d) parts.0 ∙ get_or_push before last d (length before) refl
+module _ {asked : Asked} {host : HostKey} {entries : List Entry} {upto last : ℕ} {end : Entry} {n m : ℕ} {e : Entry}
+    (stand : IsStand asked host entries upto last end n m e) where
+  low : m < upto
+  low = omega (arith, stand.left.0, stand.some, stand.is)
 
-  before_is : before ≡ take (length before) rest
-  before_is = sym (take_at before (last ∷ []) (length before) refl) ∙ ap (take (length before)) (sym parts.0)
+  low_there : m < length entries
+  low_there = omega (arith, low, stand.all.bound)
 
-  last_entry : IsEntry last
-  last_entry = subst IsEntry (last_at last) (walk.left.each (length before) last last_within)
+  last_there : last < length entries
+  last_there = omega (arith, stand.some, stand.is, stand.all.bound)
 
-  last_reach : Begins (front_text asked.path.now) (entry_text last) → Begins front (entry_text last)
-  last_reach =
-      subst (λ (e : Entry). Begins (front_text asked.path.now) (entry_text e) → Begins front (entry_text e)) (last_at last)
-      (walk.left.reach (length before) last last_within)
+  e_at : (d : Entry) → get_or entries m d ≡ e
+  e_at d = get_or_default entries m d e low_there ∙ sym stand.at
 
-  last_up_to : is_up_to front last ≡ true
-  last_up_to = subst (λ (e : Entry). is_up_to front e ≡ true) (last_at last) (walk.up_to (length before) last last_within)
+  e_outer : IsOuter (place e) (place end)
+  e_outer =
+      subst (λ (x : Entry). IsOuter (place e) (place x)) (get_or_default entries last e end last_there ∙ sym stand.there)
+      (subst (λ (x : Entry). IsOuter (place x) (place (get_or entries last e))) (e_at e) (stand.left.1 e))
 
-  -- it matches where it shares all of its text, by its kind
-  pub last_fits : IsRead asked.path.now → shared_fits asked n last.1 ≡ target_fits asked last
-  last_fits read =
+  e_entry : IsEntry e
+  e_entry = subst IsEntry (e_at e) (stand.all.each m e low_there)
+
+  -- an outer one of it matches where it is no longer than what is shared, by its kind
+  pub fits_is : IsRead asked.path.now → within_fits asked n e.1 ≡ fits_at asked host e
+  fits_is read =
       let path = front_text asked.path.now in
-      let fits = λ (m : ℕ). front_fits asked (m == length path) last.1 in
-      elim (eqb_tells n (length (entry_text last))) [
-        | inl all ↦
-            ap (λ (b : Bool). b && fits n) all.0 ∙ ap fits all.1
-            ∙ begun_fits asked last last_entry read (whole_begins path front (entry_text last) n shared all.1 walk.left.begun)
-        | inr some ↦
-            let within = shared.within in
-            let apart = some.1 in
-            let less : n < length (entry_text last) = omega arith in
-            ap (λ (b : Bool). b && fits n) some.0 ∙ sym (short_unfit asked front last n last_entry shared less last_reach)
+      let size = length (entry_text e) in
+      let fits = front_fits asked (size == length path) e.1 in
+      let level : is_eq (host_cmp e.0 host) ≡ true = ap is_eq (host_total.congr e.0 end.0 host e_outer.0 ∙ stand.same) in
+      elim (cases_lt n size) [
+        | inl longer ↦
+            let over : nat_le size n ≡ false = grind (arith, nat_tests) in
+            let unfit : target_fits asked e ≡ false = not_true _ (λ h.
+            let no_longer : size ≤ n = shared_holds (entry_text end) path (entry_text e) n stand.shared e_outer.1 (fitting_begins asked e e_entry h) in
+            absurd (omega arith)) in
+            ap (λ (b : Bool). b && fits) over ∙ sym (ap (λ (b : Bool). b && target_fits asked e) level ∙ unfit)
+        | inr no_longer ↦
+            let within : nat_le size n ≡ true = grind (arith, nat_tests) in
+            let begins = shared_begins (entry_text end) path (entry_text e) n stand.shared e_outer.1 no_longer in
+            ap (λ (b : Bool). b && fits) within ∙ begun_fits asked e e_entry read begins ∙ sym (ap (λ (b : Bool). b && target_fits asked e) level)
       ]
 
-  pub last_found : target_fits asked last ≡ true → true ≡ list_any (target_fits asked) targets
-  last_found fits = sym (found (target_fits asked) rest (length before) last last_within (last_at last) fits) ∙ walk.left.same
+  pub fit_found : fits_at asked host e ≡ true → true ≡ list_any (fits_at asked host) entries
+  fit_found fits = sym (found (fits_at asked host) entries m e low_there (e_at e) fits)
 
-  -- where it doesn't match, those before it are left, with what it shares with the path
-  before_same : target_fits asked last ≡ false → list_any (target_fits asked) before ≡ list_any (target_fits asked) targets
-  before_same unfit =
-      let fits = target_fits asked in
-      sym (or_false (list_any fits before))
-      ∙ ap (λ (b : Bool). list_any fits before || b) (sym (or_false (fits last) ∙ unfit))
-      ∙ sym (list_any-append fits before (last ∷ []))
-      ∙ ap (list_any fits) (sym parts.0)
-      ∙ walk.left.same
+  -- where it doesn't, its own outer one is left
+  passed : fits_at asked host e ≡ false → (k : ℕ) (d : Entry) → (k < m → IsOuterAt entries k m → ⊥) → k < length entries → fits_at asked host (get_or entries k d) ≡ false
+  passed unfit k d none within =
+      elim (cases_lt k m) [
+        | inl less ↦ not_true _ (λ fits. none less (λ f.
+            outer_before asked host entries upto stand.all k m f (omega arith) low (subst (λ (x : Entry). fits_at asked host x ≡ true) (get_or_default entries k d f within) fits)))
+        | inr over ↦ elim (cases_lt m k) [
+          | inl more ↦ stand.left.2 k d more within
+          | inr under ↦
+              let here : m ≡ k = omega arith in
+              subst (λ (j : ℕ). fits_at asked host (get_or entries j d) ≡ false) here (ap (fits_at asked host) (e_at d) ∙ unfit)
+        ]
+      ]
 
-  before_reach : All (λ (e : Entry). Begins (front_text asked.path.now) (entry_text e) → Begins (take n front) (entry_text e)) before
-  before_reach k d within =
-      let inside : k < length rest = omega (arith, last_within, within) in
-      let there : get_or before k d ≡ get_or rest k d =
-      ap (λ (es : List Entry). get_or es k d) before_is ∙ get_or-take (length before) rest k d within in
-      let low = subst (λ (e : Entry). is_le (text_cmp (entry_text (get_or rest k d)) (entry_text e)) ≡ true) (last_at d)
-      (stands_before rest walk.left.rises k (length before) d (omega arith) last_within) in
-      subst (λ (e : Entry). Begins (front_text asked.path.now) (entry_text e) → Begins (take n front) (entry_text e)) (sym there)
-      (reach_on (front_text asked.path.now) front (entry_text last) (entry_text (get_or rest k d)) n shared (walk.left.reach k d inside) low last_up_to)
-
-  pub left_before : target_fits asked last ≡ false → IsLeft asked targets before (take n front)
-  left_before unfit = record {
-    each = subst (All IsEntry) (sym before_is) (All-take IsEntry (length before) rest walk.left.each);
-    rises = subst Rises (sym before_is) (part_sorted (λ (x y : Entry). is_lt (text_cmp (entry_text x) (entry_text y))) 0 (length before) rest walk.left.rises);
-    same = before_same unfit;
-    begun = begins_cut (front_text asked.path.now) front n walk.left.begun;
-    reach = before_reach;
-  }
+  pub left_next : (next : Option ℕ) → fits_at asked host e ≡ false → IsLastOuter entries m next → IsLeft asked host entries last next
+  left_next (Some o) unfit (before, on, final) =
+      let most = stand.left.0 in (
+        omega arith,
+        λ d. outer_through (place (get_or entries o d)) (place (get_or entries m d)) (place (get_or entries last d)) (on d) (stand.left.1 d),
+        λ k d more within. passed unfit k d (λ less outer. let most : k ≤ o = final k less outer in absurd (omega arith)) within,
+      )
+  left_next None unfit none = λ k d within. passed unfit k d (none k) within

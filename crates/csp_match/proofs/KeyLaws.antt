@@ -12,7 +12,6 @@ use Rattle.std.proofs.lemmas.Slice.Eq.{bytes_eq-Decides}
 use Rattle.csp_model.proofs.Deciding.{same_bool}
 use Rattle.csp_model.specs.declared.source.HostPart.{HostPart}
 use Rattle.csp_model.specs.declared.source.HostPart.TheVariants as host_part
-use Rattle.csp_match.specs.contracts.host_key.HostKeyOrd.TheImpl as host_order
 use Rattle.csp_match.specs.contracts.host_key.HostKeyPartialEq.TheImpl as host_equal
 use Rattle.csp_match.specs.contracts.path_key.PathKindPartialEq.TheImpl as kind_equal
 use Rattle.csp_match.specs.contracts.host_source.PortKeyPartialEq.TheImpl as port_equal
@@ -27,13 +26,11 @@ use Rattle.csp_match.specs.declared.host_source.PortKey.TheVariants as port
 use Rattle.csp_match.specs.declared.host_source.Target.{Target}
 use Rattle.csp_match.specs.declared.host_source.Way.{Way}
 use Rattle.csp_match.specs.Entries.{entry_parts, Entry, scheme_of, way_port}
+use Rattle.csp_match.specs.Fronts.{host_cmp}
 use Rattle.csp_match.specs.Keys.{host_of, hash_of, IsHostKey, port_of}
 use Rattle.csp_model.specs.Paths.{front_pieces}
 use Rattle.csp_match.specs.Under.{same_part}
 use Rattle.csp_match.proofs.AnyLaws.{both, first, second}
-
-abbrev pub host_cmp : HostKey → HostKey → Ordering
-host_cmp = (host_order.ghosts).cmp
 
 abbrev pub host_eq : HostKey → HostKey → Bool
 host_eq = (host_equal.ghosts).eq
@@ -59,12 +56,20 @@ of_number number m n s t p q =
     (λ h. let same = (bytes_eq-Decides s t).0 h in
     both _ _ ((Decides-eqb m n).1 (p ∙ (ap number same ∙ sym q))) h)
 
+numbered : (m n : ℕ) (s t : List ℕ) → is_eq (ordering_then (nat_cmp m n) (slice_cmp nat_cmp s t)) ≡ (m == n && bytes_eq s t)
+numbered m n s t =
+    tied_both (nat_cmp m n) (slice_cmp nat_cmp s t) ∙ ap₂ (λ (a b : Bool). a && b) (unsigned_tied m n) (is_eq-slice_cmp s t)
+
 numbered_texts : (number : List ℕ → ℕ) (m n : ℕ) (s t : List ℕ) → m ≡ number s → n ≡ number t
     → is_eq (ordering_then (nat_cmp m n) (slice_cmp nat_cmp s t)) ≡ bytes_eq s t
-numbered_texts number m n s t p q =
-    tied_both (nat_cmp m n) (slice_cmp nat_cmp s t)
-    ∙ (ap₂ (λ (a b : Bool). a && b) (unsigned_tied m n) (is_eq-slice_cmp s t)
-    ∙ of_number number m n s t p q)
+numbered_texts number m n s t p q = numbered m n s t ∙ of_number number m n s t p q
+
+-- keys are level where they are equal
+pub level_host : (a b : HostKey) → is_eq (host_cmp a b) ≡ host_eq a b
+level_host host_key.Any host_key.Any = refl
+level_host (host_key.Under m s) (host_key.Under n t) = numbered m n s.now t.now
+level_host (host_key.Exact m s) (host_key.Exact n t) = numbered m n s.now t.now
+level_host a b = refl
 
 pub same_host_key : (a b : HostKey) → IsHostKey a → IsHostKey b → is_eq (host_cmp a b) ≡ same_part (host_of a) (host_of b)
 same_host_key host_key.Any host_key.Any p q = refl

@@ -203,7 +203,7 @@ pub part_given : {X : Type 0} (i j : ℕ) (xs : List X) (x : X) → Contains (ta
 part_given i j xs x h =
     All-contains (Contains xs) (take j (drop i xs)) x (All-take (Contains xs) j (drop i xs) (All-drop (Contains xs) i xs (All-contains_itself xs))) h
 
-equal_is : (o : Ordering) → is_eq o ≡ true → o ≡ Equal
+pub equal_is : (o : Ordering) → is_eq o ≡ true → o ≡ Equal
 equal_is Equal h = refl
 equal_is o h = absurd (false≢true h)
 

@@ -7,7 +7,7 @@ ghost use Rattle.csp_match.specs.Keys.{host_of, key_length, IsHostKey, Parts as 
 ghost use Rattle.csp_match.specs.Under as spec;
 
 use crate::asked::Asked;
-use crate::fronts::any_target_fits;
+use crate::fronts::Fronts;
 use crate::host_key::HostKey;
 use crate::host_source::{Target, Way};
 use crate::multimap::{Multimap, without_repeats};
@@ -21,7 +21,7 @@ pub(crate) struct HostIndex<'a> {
     // The length of the longest suffix: no longer one is looked up.
     longest_suffix: usize,
     // The targets at each host.
-    targets: Multimap<HostKey<'a>, Target<'a>>,
+    targets: Fronts<'a>,
     // The ways to each host, for where paths aren't compared.
     pathless: Multimap<HostKey<'a>, Way<'a>>,
 }
@@ -54,7 +54,7 @@ impl<'a> HostIndex<'a> {
         let ways = without_repeats(host_ways(alloc, targets.as_slice())?);
         Ok(HostIndex {
             longest_suffix,
-            targets,
+            targets: Fronts::new(alloc, targets)?,
             pathless: Multimap::new(ways),
         })
     }
@@ -98,7 +98,7 @@ impl<'a> HostIndex<'a> {
         if asked.redirected {
             any_way_fits(self.pathless.get(&host), asked)
         } else {
-            any_target_fits(self.targets.get(&host), asked)
+            self.targets.any_fits(&host, asked)
         }
     }
 }

@@ -2,7 +2,7 @@
 ghost use Rattle.std.specs.Prelude.{◌≡◌, ◌≤◌, ◌&&◌, Bool, IsTrue, true, false, length};
 ghost use Rattle.std.specs.List.{Any, Contains, list_any};
 ghost use Rattle.std.specs.List.Sorted.{IsPartitionPoint, IsPartitionedBy, IsSortedBy, IsStrictlySortedBy};
-ghost use Rattle.std.specs.Ordering.{is_eq, is_le, is_lt};
+ghost use Rattle.std.specs.Ordering.{is_eq, is_le, is_lt, ordering_then};
 
 use std::marker::Model;
 
@@ -90,7 +90,8 @@ impl<K: Ord + Drop, V: Ord + Drop> Multimap<K, V> {
 
     // All pairs, in their order.
     pub(crate) fn as_slice(&self) -> &[(K, V)]
-        ensures { result.now ≡ self.now }
+        ensures pairs { result.now ≡ self.now }
+        ensures rises { IsSortedBy (λ x y. is_lt (ordering_then (K.cmp x.0 y.0) (V.cmp x.1 y.1))) self.now }
     {
         self.pairs.as_slice()
     }

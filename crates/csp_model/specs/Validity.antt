@@ -54,7 +54,7 @@ unfoldable pub is_four_numbers : List ℕ → Bool
 is_four_numbers text =
     (length (split_at (code ".") text) == 4) && list_all is_octet (split_at (code ".") text)
 
--- an address of six groups or more, loosely: hexadecimal digits in lower case and ":"
+-- an address in brackets, loosely: hexadecimal digits in lower case and ":"
 abbrev pub is_group_char : ℕ → Bool
 is_group_char c = (is_ascii_hexdigit c && not (is_ascii_uppercase c)) || c == code ":"
 

@@ -1,7 +1,7 @@
 //! Lists of which one refuses all that another refuses, as their tokens tell: they are the same, but that in
 //! the one directives may lack tokens, if they decide by their lists alone.
-ghost use Rattle.std.specs.Prelude.{◌≡◌, IsTrue, List as Items, option_copied, slice_get};
-ghost use Rattle.csp_order.specs.Within.{AreBoth, AreParts, HasPartOf, HasTokensOf, IsPart, IsPolicyWithin, IsWithin, Narrows};
+ghost use Rattle.std.specs.Prelude.{◌≡◌, IsTrue, List as Items, slice_get};
+ghost use Rattle.csp_order.specs.Within.{AreBoth, AreParts, HasTokensOf, IsPart, IsPolicyWithin, IsWithin, Narrows};
 ghost use Rattle.csp_formula.specs.Compiled.{policy_sentence};
 ghost use Rattle.csp_formula.specs.Questions.{question_sentence};
 ghost use Rattle.csp_model.specs.Policies.{IsReadable, IsReadablePolicy};

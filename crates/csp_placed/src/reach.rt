@@ -141,8 +141,8 @@ fn compare_to_front(atom: &Atom, kind: u8, front: &Path) -> Ordering
     }
 }
 
-// The order of the text of the path that the atom speaks of, cut to the length of the front's, and that of the
-// front. The path has no pieces where the atom speaks of none.
+// The order of the text of the path that the atom speaks of, cut to the length of the front's, and that of
+// the front. The path has no pieces where the atom speaks of none.
 fn compare_start(atom: &Atom, front: &Path) -> Ordering
     ensures { result ≡ spec.start_cmp (spec.path_of atom.now) front.now }
 {

@@ -6,7 +6,7 @@ ghost use Rattle.csp_model.specs.declared.source.Hash.{Hash as HashValue};
 ghost use Rattle.csp_shape.specs.declared.shape.Shape.{Shape as ShapeValue};
 ghost use Rattle.csp_table.specs.Tables.{atoms_of, names_port};
 
-/// The policies of a list name no more ports of a shape than the list has tokens.
+/// The policies of a readable list name no more ports at a shape than a list may have tokens.
 pub fn a_list_names_few_ports()
     ensures { (list : PolicyListValue) (kind : ShapeValue) (hashes : Items HashValue) → IsReadable list
         → length (filter names_port (atoms_of hashes kind list)) ≤ token_limit }

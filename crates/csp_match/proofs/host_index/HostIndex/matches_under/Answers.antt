@@ -9,17 +9,13 @@ use Rattle.csp_match.specs.declared.host_source.Way.{Way}
 use Rattle.csp_match.specs.Entries.{Entry, entry_parts, IsEntry, scheme_of, target_fits, way_fits, way_port}
 use Rattle.csp_match.specs.Keys.{host_of, IsHostKey, Parts}
 use Rattle.csp_match.specs.Under.{same_part}
-use Rattle.csp_match.proofs.AnyLaws.{all_given, any_map, any_same}
-use Rattle.csp_match.proofs.FrontLaws.{paths_rise}
+use Rattle.csp_match.proofs.AnyLaws.{any_map, any_same}
 use Rattle.csp_match.proofs.KeyLaws.{same_host_key}
 use Rattle.csp_match.proofs.UnderLaws.{under_redirected, under_direct}
 use Rattle.csp_match.proofs.host_index.HostIndex.matches_under.Goals as goal
 
-pub any_target_fits-requires : goal.any_target_fits-requires
-any_target_fits-requires c = record {
-  each = all_given IsEntry c.self.inside.targets c.get-else-asked.result.now c.get-else-asked.ensures.given c.self.invariant.entries;
-  rises = paths_rise c.get-else-asked.result.now c.get-else-asked.ensures.rises;
-}
+pub any_fits-requires : goal.any_fits-requires
+any_fits-requires c = c.self.invariant.entries
 
 pub returns-then-asked : goal.returns-then-asked
 returns-then-asked c =
@@ -42,10 +38,9 @@ returns-else-asked c =
     let host = host_of c.args.host in
     let fits = target_fits asked in
     let here = λ (s : Parts). same_part s.host host && (way_fits s.scheme s.port asked && path_matches s.path asked.path.now) in
-    c.any_target_fits.ensures
-    ∙ (c.get-else-asked.ensures.any fits
+    c.any_fits.ensures
     ∙ (any_same _ (λ (e : Entry). here (entry_parts e)) targets
     (λ (e : Entry) h. ap (λ (b : Bool). b && fits e) (same_host_key e.0 c.args.host (All-contains IsEntry targets e c.self.invariant.entries h).0 c.requires))
     ∙ (sym (any_map entry_parts here targets)
     ∙ (ap (λ (sources : List Parts). list_any here sources) c.self.view_is
-    ∙ under_direct host asked c.args.self.now c.if-asked.false))))
+    ∙ under_direct host asked c.args.self.now c.if-asked.false)))
