@@ -11,12 +11,12 @@ ghost use Rattle.csp_formula.specs.Questions.{answer_of_list, question_sentence}
 ghost use Rattle.csp_formula.specs.Values.{is_true_for};
 
 use crate::formula::Formula;
-use crate::inline::{allows_all_inline, hash_counts, is_element_kind};
 use crate::laws::a_formula_is_what_the_policy_allows;
 use crate::question::{ListQuestion, Question, question_at, sources_at};
 use crate::sources::list_formula;
 use crate::tokens::{digests_formula, integrity_formula, nonces_formula};
 use csp_atom::Vocabulary;
+use csp_inline::{allows_all_inline, hash_counts, is_element_kind};
 use csp_model::{FetchRule, InlineKind, Keyword, List, Memory, Origin, Policy, Source};
 use csp_shape::Shape;
 use csp_token::has_keyword;

@@ -4,7 +4,6 @@
 mod compiling;
 mod deciding;
 mod formula;
-mod inline;
 pub mod laws;
 mod outline;
 mod parts;
@@ -18,5 +17,7 @@ mod tokens;
 pub use compiling::{compile, formula_of};
 pub use deciding::surely;
 pub use formula::Formula;
-pub use question::{ListQuestion, Question, question_at};
+pub use outline::{Outline, PathOutline, PortOutline, source_outline};
+pub use question::{ListQuestion, Question, is_dynamic, question_at, sources_at};
 pub use same::same_formulas;
+pub use tokens::source_digest;

@@ -12,41 +12,41 @@ use crate::shapes::{after_redirect, is_ancestor, shape_scheme};
 use csp_model::{Keyword, Origin, Path, PathPart, PortPart, Scheme, Source, Text};
 use csp_shape::Shape;
 
-// What a source says of a port.
+/// What a source says of a port.
 #[derive(Clone, Copy)]
-pub(crate) enum PortOutline {
+pub enum PortOutline {
     Constant(bool),
-    // It is this one.
+    /// It is this one.
     Is(u16),
 }
 
-// What a source says of a path.
+/// What a source says of a path.
 #[derive(Clone, Copy)]
-pub(crate) enum PathOutline {
+pub enum PathOutline {
     Constant(bool),
-    // It is that of the source, or begins with it.
+    /// It is that of the source, or begins with it.
     Itself,
 }
 
-// What a source says.
+/// What a source says of the checks of a shape, but for its own texts.
 #[derive(Clone, Copy)]
-pub(crate) enum Outline {
+pub enum Outline {
     Constant(bool),
-    // The scheme is that of the source.
+    /// The scheme is that of the source.
     Scheme,
-    // The host is that of the source, and so much holds of the others.
+    /// The host is that of the source, and so much holds of the port and the path.
     Hosted {
         port: PortOutline,
         path: PathOutline,
     },
-    // The host is that of the policy's origin.
+    /// The host is that of the policy's origin, and so much holds of the port.
     Own {
         port: PortOutline,
     },
 }
 
-// The outline of a source of a policy of this origin.
-pub(crate) fn source_outline(origin: &Origin, shape: Shape, source: &Source) -> Outline
+/// The outline of a source of a policy of this origin.
+pub fn source_outline(origin: &Origin, shape: Shape, source: &Source) -> Outline
     ensures { spec.outlined result origin.now source.now
         ≡ sentences.source_sentence origin.now shape source.now }
 {

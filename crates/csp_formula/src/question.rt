@@ -7,8 +7,7 @@ ghost use Rattle.csp_model.specs.declared.source.Hash.{Hash as HashValue};
 ghost use Rattle.csp_formula.specs.Compiled as compiled;
 ghost use Rattle.csp_formula.specs.Questions as spec;
 
-use crate::inline::allows_all_inline;
-use csp_inline::{eval_allows, wasm_allows};
+use csp_inline::{allows_all_inline, eval_allows, wasm_allows};
 use csp_match::{governing, governor};
 use csp_model::laws::what_governs_stands_at_its_place;
 use csp_model::{
@@ -48,8 +47,8 @@ pub struct ListQuestion {
 }
 
 impl ListQuestion {
-    // A shape with these URLs.
-    pub(crate) fn shape(&self) -> Shape
+    /// A shape with these URLs.
+    pub fn shape(&self) -> Shape
         ensures { result ≡ spec.shape_asked self.now }
     {
         if self.is_ancestor {
@@ -204,8 +203,8 @@ fn has_path(source: &Source) -> bool
     }
 }
 
-// Whether `'strict-dynamic'` stands in place of what the list says of URLs.
-pub(crate) fn is_dynamic(rule: FetchRule, sources: &List<Source>) -> bool
+/// Whether `'strict-dynamic'` stands in place of what the list says of URLs.
+pub fn is_dynamic(rule: FetchRule, sources: &List<Source>) -> bool
     ensures { result ≡ spec.is_dynamic rule sources.now }
 {
     matches!(rule, FetchRule::Script) && has_keyword(sources, Keyword::StrictDynamic)
@@ -228,8 +227,8 @@ fn inline_question(policy: &Policy, kind: InlineKind) -> Question
     }
 }
 
-// The list of the directive at the place.
-pub(crate) fn sources_at(policy: &Policy, place: usize) -> Option<&List<Source>>
+/// The list of the directive at the place.
+pub fn sources_at(policy: &Policy, place: usize) -> Option<&List<Source>>
     ensures { option_copied result
         ≡ option_map (λ (d : DirectiveValue). d.sources) (slice_get policy.now.directives place) }
 {

@@ -8,11 +8,11 @@ ghost use Rattle.csp_formula.specs.Questions as spec;
 ghost use Rattle.csp_formula.specs.Sentences.{Known};
 ghost use Rattle.csp_formula.specs.Sources as sentences;
 
-use crate::inline::{allows_all_inline, hash_counts, is_element_kind};
 use crate::outline::{Outline, PathOutline, same_outline, source_outline};
 use crate::question::{ListQuestion, Question, is_dynamic, sources_at};
 use crate::tokens::{same_digests, same_hashes, same_nonces};
 use csp_grammar::{is_domain, is_four_numbers};
+use csp_inline::{allows_all_inline, hash_counts, is_element_kind};
 use csp_model::{FetchRule, HostPart, InlineKind, List, Origin, PathPart, Policy, Source};
 use csp_shape::Shape;
 

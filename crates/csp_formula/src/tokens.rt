@@ -202,8 +202,8 @@ fn next_digest(sources: &[Source]) -> Option<(Digest, &[Source])>
     None
 }
 
-// The digest that a source stands for.
-fn source_digest(source: &Source) -> Option<Digest>
+/// The digest that a source stands for, if it is a hash-source.
+pub fn source_digest(source: &Source) -> Option<Digest>
     ensures { option_map (λ d. Fact (Atom.DigestIs d)) result ≡ spec.digest_fact source.now }
 {
     match source {

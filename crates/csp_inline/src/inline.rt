@@ -66,8 +66,8 @@ fn sources_allow_inline(
         || (digests_match(digests, sources) && hash_counts(kind, sources))
 }
 
-// Whether `'unsafe-inline'` acts: no nonce, no hash and, for code, no `'strict-dynamic'` takes its place.
-fn allows_all_inline(kind: InlineKind, sources: &List<Source>) -> bool
+/// Whether `'unsafe-inline'` acts: no nonce, no hash and, for code, no `'strict-dynamic'` takes its place.
+pub fn allows_all_inline(kind: InlineKind, sources: &List<Source>) -> bool
     ensures { result ≡ spec.allows_all_inline kind sources.now }
 {
     has_keyword(sources, Keyword::UnsafeInline)
@@ -87,8 +87,8 @@ fn is_nonce_or_hash(source: &Source) -> bool
     matches!(source, Source::Nonce { .. } | Source::Digest { .. })
 }
 
-// Whether a hash counts for the kind: for elements, and with `'unsafe-hashes'` for all.
-fn hash_counts(kind: InlineKind, sources: &List<Source>) -> bool
+/// Whether a hash counts for the kind: for elements, and with `'unsafe-hashes'` for all.
+pub fn hash_counts(kind: InlineKind, sources: &List<Source>) -> bool
     ensures { result ≡ spec.hash_counts kind sources.now }
 {
     is_element_kind(kind) || has_keyword(sources, Keyword::UnsafeHashes)

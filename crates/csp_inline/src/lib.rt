@@ -9,4 +9,7 @@ mod inline;
 pub mod laws;
 
 pub use governed::{governed_eval_allows, governed_inline_allows, governed_wasm_allows};
-pub use inline::{eval_allows, inline_allows, is_element_kind, is_script_kind, wasm_allows};
+pub use inline::{
+    allows_all_inline, eval_allows, hash_counts, inline_allows, is_element_kind, is_script_kind,
+    wasm_allows,
+};
