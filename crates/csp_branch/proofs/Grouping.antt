@@ -59,6 +59,16 @@ other_number part.Nonce name other = refl
 other_number part.Integrity name other = absurd (other refl)
 other_number (part.Digest a) name other = refl
 
+-- a part of the group's number is the name's own
+pub part_in_group : (p q : CheckPart) (name : ℕ) → group_on p name ≡ part_number q → p ≡ q
+part_in_group p q name same = elim (is_integrity p) [
+  | inl e ↦
+      let low = below_nine q in
+      let pair : 9 + name ≡ part_number q = ap (λ (r : CheckPart). group_on r name) (sym e) ∙ same in
+      absurd (omega (arith, low, pair))
+  | inr other ↦ same_part p q (sym (other_number p name other) ∙ same)
+]
+
 pub inside : (p : CheckPart) (name count : ℕ) → name < count → group_on p name < 9 + count
 inside p name count h = elim (is_integrity p) [
   | inl e ↦ subst (λ (q : CheckPart). group_on q name < 9 + count) (sym e) (omega arith)

@@ -1,21 +1,27 @@
 -- Marks of a path, as a branch holds them: what they tell, and how one literal more or less changes them.
-use Rattle.std.proofs.Common.{◌≡◌, ◌∙◌, refl, sym, ap, ap₂, subst, ℕ, ◌<◌, ◌-◌, Bool, false, List, [], ◌∷◌, ◌++◌, length, length-append, map, get_or, set, take, Option, arith}
+use Rattle.std.proofs.Common.{◌≡◌, ◌≢◌, ◌∙◌, refl, sym, ap, ap₂, subst, ℕ, ◌<◌, ◌-◌, Bool, false, IfSome, List, [], ◌∷◌, ◌++◌, length, length-append, map, get_or, set, take, Option, arith}
 use Rattle.std.specs.Option.{ForSome}
 use Rattle.std.proofs.lemmas.List.{get_or_default, map-append, take_at}
 use Rattle.std.proofs.lemmas.List.Elements.{All-contains, All-push, All-take, Contains-push}
+use Rattle.csp_model.specs.declared.check.CheckPart.{CheckPart}
+use Rattle.csp_model.specs.declared.check.CheckPart.TheVariants.{Integrity}
 use Rattle.csp_atom.specs.Follows.{decided}
 use Rattle.csp_atom.specs.declared.atom.Atom.{Atom}
 use Rattle.csp_atom.specs.declared.atom.Atom.TheVariants.{HostDomain}
 use Rattle.csp_atom.specs.declared.atom.Literal.{Literal}
 use Rattle.csp_names.specs.Numbers.{AreInOrder, around_in}
+use Rattle.csp_names.specs.Order.{part_number}
 use Rattle.csp_branch.specs.Changes.{IsLast}
 use Rattle.csp_branch.specs.Groups.{group_in, groups_in}
 use Rattle.csp_branch.specs.Marks.{AreMarks, Marks, after, blank, is_denied_in, known_by, known_in, mark_at, marked, marks_of, no_marks, with_mark}
 use Rattle.csp_branch.specs.Paths.{AreNamed, Path, literal_of, path_of}
+use Rattle.csp_branch.specs.Places.{IsPlace}
 use Rattle.csp_branch.specs.declared.branch.Change.{Change}
 use Rattle.csp_branch.specs.declared.mark.Group.{Group}
 use Rattle.csp_branch.specs.declared.mark.Mark.{Mark}
 use Rattle.csp_branch.specs.declared.step.Step.{Step}
+use Rattle.csp_branch.proofs.Grouping.{below_nine}
+use Rattle.csp_branch.proofs.Placing.{are_places}
 use Rattle.csp_branch.proofs.Telling.{Tells, back_by_mark, marks_push, same_steps, tells_path}
 
 -- without its last one a list is what came before
@@ -68,6 +74,13 @@ module _ (atoms : List Atom) (order : AreInOrder atoms) (steps : List Step) (gro
       → value ≡ decided (path_of atoms steps).literals (get_or atoms asked d)
   decided_here asked d value there told =
       told ∙ tells.tells asked there ∙ ap (decided (path_of atoms steps).literals) (get_or_default atoms asked HostDomain d there)
+
+  pub places_here : (p : CheckPart) → (p ≢ Integrity) → (number : ℕ) (group : Group) → number ≡ part_number p → group ≡ get_or groups number group
+      → IfSome group.place (IsPlace (path_of atoms steps) p)
+  places_here p single number group is at =
+      let low = below_nine p in
+      are_places atoms order (path_of atoms steps).literals marks tells p single group.place
+      (ap (λ (n : ℕ). (get_or groups n blank).place) (sym is) ∙ ap (λ (g : Group). g.place) (sym (group_read number group (omega (arith, low, is)) at)))
 
   -- one literal more
   module _ (name : ℕ) (positive : Bool) (number : ℕ) (group : Group) (bit : Bool) (here : name < length atoms) (low : number < groups_in atoms) (at : number ≡ group_in atoms name)

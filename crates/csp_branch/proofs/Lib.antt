@@ -5,5 +5,6 @@ pub mod Grouping
 pub mod Keeping
 pub mod Literals
 pub mod Marking
+pub mod Placing
 pub mod Taking
 pub mod Telling

@@ -17,10 +17,11 @@ use Rattle.csp_branch.proofs.Denials.{marked_down, nothing_denied}
 use Rattle.csp_branch.proofs.Grouping.{apart, group_inside, said_in_group, said_elsewhere}
 use Rattle.csp_branch.proofs.Taking.{denied_is, denied_next, next_elsewhere, nothing_after, place_after, state_after, told}
 
--- each group's place is in the group, and isn't denied
+-- each group's place is a name in the group, and isn't denied
 pub record Sound (atoms : List Atom) (marks : Marks) : Type 0 where
   pub groups : length marks.groups ≡ groups_in atoms
   pub denied : length marks.denied ≡ length atoms
+  pub there : (g p : ℕ) → (get_or marks.groups g blank).place ≡ Some p → p < length atoms
   pub home : (g p : ℕ) → (get_or marks.groups g blank).place ≡ Some p → group_in atoms p ≡ g
   pub clear : (g p : ℕ) → (get_or marks.groups g blank).place ≡ Some p → is_denied_in atoms marks.denied p ≡ false
 
@@ -96,10 +97,23 @@ module _ (atoms : List Atom) (order : AreInOrder atoms) (marks : Marks) (sound :
   sound_more = record {
     groups = length-set marks.groups number mark.group ∙ sound.groups;
     denied = length-set marks.denied step.name mark.denied ∙ sound.denied;
+    there = λ g p at. there_by g p (nat_eq g number) refl at;
     home = λ g p at. home_by g p (nat_eq g number) refl at;
     clear = λ g p at. clear_by g p (nat_eq g number) refl at;
   }
     where
+      there_by : (g p : ℕ) (t : Bool) → nat_eq g number ≡ t → (get_or (marked atoms marks step).groups g blank).place ≡ Some p → p < length atoms
+      there_by g p true e at =
+          let same : g ≡ number = grind (arith, nat_tests) in
+          let placed : mark.group.place ≡ Some p = sym (ap (λ (x : Group). x.place) (group_here g same)) ∙ at in
+          elim (place_after known step.name step.positive group.place group.seal (get_or marks.denied step.name false) p placed) [
+            | inl was ↦ sound.there number p was
+            | inr name ↦ omega (arith, here, name)
+          ]
+      there_by g p false e at =
+          let other : g ≢ number = λ same. absurd (grind (arith, nat_tests)) in
+          sound.there g p (sym (ap (λ (x : Group). x.place) (group_there g other)) ∙ at)
+
       home_by : (g p : ℕ) (t : Bool) → nat_eq g number ≡ t → (get_or (marked atoms marks step).groups g blank).place ≡ Some p → group_in atoms p ≡ g
       home_by g p true e at =
           let same : g ≡ number = grind (arith, nat_tests) in
@@ -148,6 +162,7 @@ pub sound_none : (atoms : List Atom) → Sound atoms (no_marks atoms)
 sound_none atoms = record {
   groups = length-replicate (groups_in atoms) blank;
   denied = length-replicate (length atoms) false;
+  there = λ g p at. absurd (no_place (groups_in atoms) g p at);
   home = λ g p at. absurd (no_place (groups_in atoms) g p at);
   clear = λ g p at. absurd (no_place (groups_in atoms) g p at);
 }

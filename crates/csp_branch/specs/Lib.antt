@@ -3,3 +3,4 @@ pub mod Changes
 pub mod Groups
 pub mod Marks
 pub mod Paths
+pub mod Places

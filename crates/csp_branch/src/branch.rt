@@ -1,17 +1,18 @@
 //! What the literals from the root of a tree to a node decide.
-ghost use Rattle.std.specs.Prelude.{◌≡◌, ◌<◌, [], ◌∷◌, ◌++◌, IfOk, length};
+ghost use Rattle.std.specs.Prelude.{◌≡◌, ◌<◌, [], ◌∷◌, ◌++◌, IfOk, IfSome, length};
 ghost use Rattle.std.specs.List.{slice_index_or};
 ghost use Rattle.csp_atom.specs.Follows.{decided};
 ghost use Rattle.csp_atom.specs.declared.atom.Atom.{Atom as AtomValue};
 ghost use Rattle.csp_branch.specs.Changes.{IsLast};
 ghost use Rattle.csp_branch.specs.Paths.{literal_in};
+ghost use Rattle.csp_branch.specs.Places.{IsPlace};
 
 use crate::group::{group_count, group_of};
 use crate::mark::{Group, Mark, known_of};
 use crate::step::Step;
 use crate::steps::Steps;
-use csp_model::Memory;
-use csp_names::Names;
+use csp_model::{CheckPart, Memory};
+use csp_names::{Names, part_number};
 use std::alloc::Global;
 use std::marker::Model;
 
@@ -21,23 +22,23 @@ use std::marker::Model;
 /// no call takes memory. Asking and taking look at the names around a name, at most as far out as the
 /// innermost one that holds; taking back looks at none.
 #[derive(Drop)]
-pub struct Branch<'n> {
-    names: &'n Names,
+pub struct Branch {
+    names: Names,
     groups: Vec<Group>,
     // Of each name whether it was denied while it was open.
     denied: Vec<bool>,
     path: Steps,
 }
 
-impl<'n> Model for Branch<'n> {
+impl Model for Branch {
     ghost use Rattle.csp_branch.specs.Marks.{AreMarks};
     ghost use Rattle.csp_branch.specs.Paths.{Path, path_of};
 
     ghost Value = { Path };
 
-    ghost view = { λ v. path_of v.names.now v.path.items };
+    ghost view = { λ v. path_of v.names v.path.items };
 
-    ghost invariant = { λ v. AreMarks v.names.now v.path.items v.groups.items v.denied.items };
+    ghost invariant = { λ v. AreMarks v.names v.path.items v.groups.items v.denied.items };
 }
 
 /// What a literal changed. The branch takes it back.
@@ -49,16 +50,16 @@ pub struct Change {
     was: Mark,
 }
 
-impl<'n> Branch<'n> {
+impl Branch {
     /// The branch at the root, where no literal is taken.
-    pub fn new(alloc: Global, names: &'n Names) -> Result<Branch<'n>, Memory>
-        ensures { IfOk result (λ made. made ≡ record { atoms = names.now; literals = [] }) }
+    pub fn new(alloc: Global, names: Names) -> Result<Branch, Memory>
+        ensures { IfOk result (λ made. made ≡ record { atoms = names; literals = [] }) }
     {
         let group = Group {
             place: None,
             seal: None,
         };
-        let groups = vec![in alloc; group; group_count(names)]?;
+        let groups = vec![in alloc; group; group_count(&names)]?;
         let denied = vec![in alloc; false; names.atoms().len()]?;
         Ok(Branch {
             names,
@@ -68,6 +69,26 @@ impl<'n> Branch<'n> {
         })
     }
 
+    /// The names that the literals speak of.
+    pub fn names(&self) -> &Names
+        ensures { result.now ≡ self.now.atoms }
+    {
+        &self.names
+    }
+
+    /// The innermost name on a part whose atom was said to hold while it was open, if there is one: what is
+    /// around it holds, and of what is apart from it nothing does. A check may have many pairs of integrity
+    /// metadata, so there is none on that part.
+    pub fn place(&self, part: CheckPart) -> Option<usize>
+        ensures { IfSome result (IsPlace self.now part) }
+    {
+        self.names.are_in_order();
+        match part {
+            CheckPart::Integrity => None,
+            _ => self.groups[part_number(part) as usize].place,
+        }
+    }
+
     /// What the literals decide of the atom of a name: what the first of them says that decides it.
     pub fn known(&self, asked: usize) -> Option<bool>
         requires { asked < length self.now.atoms }
@@ -75,8 +96,8 @@ impl<'n> Branch<'n> {
             → result ≡ decided self.now.literals (slice_index_or self.now.atoms asked d) }
     {
         self.names.are_in_order();
-        let group = self.groups[group_of(self.names, asked)];
-        known_of(self.names, group, &self.denied, asked)
+        let group = self.groups[group_of(&self.names, asked)];
+        known_of(&self.names, group, &self.denied, asked)
     }
 
     /// Takes a literal: that the atom of a name holds, or that it doesn't. This may be known already, or the
@@ -90,12 +111,12 @@ impl<'n> Branch<'n> {
         ensures last { IsLast result self.new }
     {
         self.names.are_in_order();
-        let number = group_of(self.names, name);
+        let number = group_of(&self.names, name);
         let was = Mark {
             group: self.groups[number],
             denied: self.denied[name],
         };
-        let known = known_of(self.names, was.group, &self.denied, name);
+        let known = known_of(&self.names, was.group, &self.denied, name);
         let step = Step { name, positive };
         let mark = was.after(known, step);
         self.groups[number] = mark.group;
@@ -115,7 +136,7 @@ impl<'n> Branch<'n> {
     {
         self.names.are_in_order();
         let name = change.step.name;
-        let number = group_of(self.names, name);
+        let number = group_of(&self.names, name);
         self.groups[number] = change.was.group;
         self.denied[name] = change.was.denied;
         self.path = self.path.before();

@@ -1,5 +1,6 @@
 pub mod Comparing
 pub mod Ending
+pub mod Finding
 pub mod Forest
 pub mod HostKeys
 pub mod HostOrder

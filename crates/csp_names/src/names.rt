@@ -1,12 +1,15 @@
 //! Names of atoms.
-ghost use Rattle.std.specs.Prelude.{◌≡◌, ◌<◌, ◌≤◌, ◌&&◌, ℕ, nat_le, nat_lt, All, IfOk, length};
+ghost use Rattle.std.specs.Prelude.{◌≡◌, ◌<◌, ◌≤◌, ◌&&◌, ℕ, nat_le, nat_lt, All, IfOk, MatchOption, Some};
+ghost use Rattle.std.specs.Prelude.{length, slice_get};
 ghost use Rattle.std.specs.List.{Contains, slice_index_or};
 ghost use Rattle.csp_atom.specs.Atoms.{IsValidAtom};
 ghost use Rattle.csp_atom.specs.Follows as table;
 ghost use Rattle.csp_atom.specs.declared.atom.Atom.{Atom as AtomValue};
 ghost use Rattle.csp_names.specs.Numbers.{AreInOrder, IsOuterOr, around_in};
+ghost use Rattle.csp_names.specs.Order.{number_of};
 ghost use Rattle.csp_names.specs.Sorting.{StandAt, referred};
 
+use crate::order::{compare_names, part_number};
 use crate::ranges::Ranges;
 use crate::said::{are_exclusive, said_by};
 use crate::sorting::sort_atoms;
@@ -82,6 +85,35 @@ impl Names {
         ensures { result.now ≡ self.now }
     {
         self.ranges.atoms()
+    }
+
+    /// The name of an atom, if it has one. Only as many texts are looked at as a binary search meets.
+    pub fn find(&self, atom: &Atom) -> Option<usize>
+        ensures { MatchOption result (¬ Contains self.now atom.now)
+            (λ name. slice_get self.now name ≡ Some atom.now) }
+    {
+        self.are_in_order();
+        let atoms = self.atoms();
+        let name = atoms.partition_point(|named| compare_names(named, atom).is_lt());
+        let found = atoms.get(name)?;
+        if compare_names(found, atom).is_eq() {
+            Some(name)
+        } else {
+            None
+        }
+    }
+
+    /// Where the names of the parts begin whose number is not below this one.
+    pub fn start(&self, part: u8) -> usize
+        ensures inside { result ≤ length self.now }
+        ensures before { (k : ℕ) (d : AtomValue) → k < result
+            → number_of (slice_index_or self.now k d) < part }
+        ensures from { (k : ℕ) (d : AtomValue) → result ≤ k → k < length self.now
+            → part ≤ number_of (slice_index_or self.now k d) }
+    {
+        self.are_in_order();
+        self.atoms()
+            .partition_point(|atom| part_number(atom.part()) < part)
     }
 
     /// Whether the atom of the first name is around that of the second, or is the same. No, where a name
