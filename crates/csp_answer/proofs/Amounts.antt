@@ -1,0 +1,79 @@
+-- What conjunctions one after another amount to.
+use Rattle.std.proofs.Common.{◌≡◌, ◌∙◌, sym, ap, ap₂, refl, Bool, true, false, List, [], ◌∷◌, ◌++◌, map, length, Option, Some, None, All}
+use Rattle.std.proofs.lemmas.List.{map-append}
+use Rattle.std.proofs.lemmas.List.Elements.{All-append, All-cons, All-nil}
+use Rattle.csp_atom.specs.declared.atom.Atom.{Atom}
+use Rattle.csp_atom.specs.declared.atom.Literal.{Literal}
+use Rattle.csp_formula.specs.Sentences.{Sentence, Known, Fact, Either, all_of, any_of}
+use Rattle.csp_formula.specs.Surely.{surely, maybe_and, maybe_or}
+use Rattle.csp_formula.proofs.Maybe.{maybe_or_assoc}
+use Rattle.csp_answer.specs.Answers.{AreThere, SaysTheSame, conjunction_in}
+use Rattle.csp_answer.specs.Asking.{AmountTo}
+use Rattle.csp_answer.specs.declared.conjunction.Conjunction.{Conjunction}
+
+-- The connectives in three values
+
+pub or_none : (x : Option Bool) → maybe_or x (Some false) ≡ x
+or_none (Some true) = refl
+or_none (Some false) = refl
+or_none None = refl
+
+pub or_turned : (x y : Option Bool) → maybe_or x y ≡ maybe_or y x
+or_turned (Some true) (Some true) = refl
+or_turned (Some true) (Some false) = refl
+or_turned (Some true) None = refl
+or_turned (Some false) (Some true) = refl
+or_turned (Some false) (Some false) = refl
+or_turned (Some false) None = refl
+or_turned None (Some true) = refl
+or_turned None (Some false) = refl
+or_turned None None = refl
+
+pub and_always : (x : Option Bool) → maybe_and x (Some true) ≡ x
+and_always (Some true) = refl
+and_always (Some false) = refl
+and_always None = refl
+
+pub and_never : (x : Option Bool) → maybe_and x (Some false) ≡ Some false
+and_never (Some true) = refl
+and_never (Some false) = refl
+and_never None = refl
+
+-- Disjunctions
+
+pub any_joined : (ls : List Literal) (xs ys : List Sentence) → surely ls (any_of (xs ++ ys)) ≡ maybe_or (surely ls (any_of xs)) (surely ls (any_of ys))
+any_joined ls [] ys = refl
+any_joined ls (x ∷ xs) ys =
+    ap (maybe_or (surely ls x)) (any_joined ls xs ys) ∙ sym (maybe_or_assoc (surely ls x) (surely ls (any_of xs)) (surely ls (any_of ys)))
+
+-- What conjunctions amount to
+
+module _ (atoms : List Atom) where
+  pub never : AmountTo atoms (Known false) []
+  never = record { says = λ ls. refl; there = All-nil (AreThere (length atoms)) }
+
+  pub one : (c : Conjunction) (sentence : Sentence) → SaysTheSame (conjunction_in atoms c) sentence → AreThere (length atoms) c → AmountTo atoms sentence (c ∷ [])
+  one c sentence says there = record {
+    says = λ ls. or_none (surely ls (conjunction_in atoms c)) ∙ says ls;
+    there = All-cons (AreThere (length atoms)) c [] there (All-nil (AreThere (length atoms)));
+  }
+
+  pub always : AmountTo atoms (Known true) (record { lead = None; port = None; path = None } ∷ [])
+  always = one (record { lead = None; port = None; path = None }) (Known true) (λ ls. refl) (record { lead = tt; port = tt; path = tt })
+
+  pub joined : (x y : Sentence) (cs ds : List Conjunction) → AmountTo atoms x cs → AmountTo atoms y ds → AmountTo atoms (Either x y) (cs ++ ds)
+  joined x y cs ds of_cs of_ds = record {
+    says = λ ls. ap (λ s. surely ls (any_of s)) (map-append (conjunction_in atoms) cs ds)
+        ∙ any_joined ls (map (conjunction_in atoms) cs) (map (conjunction_in atoms) ds) ∙ ap₂ maybe_or (of_cs.says ls) (of_ds.says ls);
+    there = All-append (AreThere (length atoms)) cs ds of_cs.there of_ds.there;
+  }
+
+  pub turned_to : (x y : Sentence) (cs : List Conjunction) → AmountTo atoms x cs → SaysTheSame x y → AmountTo atoms y cs
+  turned_to x y cs of_cs same = record { says = λ ls. of_cs.says ls ∙ same ls; there = of_cs.there }
+
+  -- one more of a disjunction
+  pub one_more : (xs : List Sentence) (x : Sentence) (cs ds : List Conjunction) → AmountTo atoms (any_of xs) cs → AmountTo atoms x ds
+      → AmountTo atoms (any_of (xs ++ x ∷ [])) (cs ++ ds)
+  one_more xs x cs ds of_cs of_ds =
+      turned_to (Either (any_of xs) x) (any_of (xs ++ x ∷ [])) (cs ++ ds) (joined (any_of xs) x cs ds of_cs of_ds)
+      (λ ls. sym (any_joined ls xs (x ∷ []) ∙ ap (maybe_or (surely ls (any_of xs))) (or_none (surely ls x))))

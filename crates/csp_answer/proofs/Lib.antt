@@ -1,0 +1,24 @@
+pub mod Adding
+pub mod Amounts
+pub mod Answered
+pub mod AskedParts
+pub mod Finding
+pub mod ListedSoFar
+pub mod ListsNamed
+pub mod Members
+pub mod NamesIn
+pub mod Parts
+pub mod Rules
+pub mod Sorting
+pub mod SourcesAmount
+pub mod Walking
+pub mod WordsNamed
+mod Digests
+mod ValidAtoms
+mod Collected
+mod Renamed
+mod SoFar
+mod SameAnswer
+mod SameQuestions
+mod AskedBefore
+mod SameKinds

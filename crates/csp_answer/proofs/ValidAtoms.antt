@@ -1,0 +1,165 @@
+-- The atoms of a source that reading makes are valid.
+use Rattle.std.proofs.Common.{◌≡◌, ◌≢◌, sym, refl, subst, ℕ, Bool, true, false, ◌&&◌, ◌||◌, ◌==◌, not, List, [], ◌∷◌, map, length, Option, Some, None, All, IfSome}
+use Rattle.std.specs.Prelude.{if◌then◌else◌, codes, is_some, IsNone}
+use Rattle.std.specs.List.{list_all}
+use Rattle.std.specs.Option.{option_map, option_and_then}
+use Rattle.std.specs.Str.{bytes_eq}
+use Rattle.std.proofs.lemmas.Bool.{and_from, and_parts, eqb-true, or_left, false≢true}
+use Rattle.std.proofs.lemmas.List.Elements.{All-map}
+use Rattle.csp_model.specs.Ascii.{is_nonempty}
+use Rattle.csp_model.specs.DecideEquality.{same_keyword}
+use Rattle.csp_model.specs.Grammar.{IsSource, is_base64_value}
+use Rattle.csp_model.specs.Reading.{source_of}
+use Rattle.csp_model.specs.Schemes.{scheme_named}
+use Rattle.csp_model.specs.Tokens.{size_of}
+use Rattle.csp_model.specs.Validity.{is_domain, is_four_numbers, is_bracketed, is_address, is_piece, are_bytes, IsValidOrigin}
+use Rattle.csp_model.specs.declared.policy.Directive.{Directive}
+use Rattle.csp_model.specs.declared.source.Algorithm.{Algorithm}
+use Rattle.csp_model.specs.declared.source.Algorithm.TheVariants.{Sha256, Sha384, Sha512}
+use Rattle.csp_model.specs.declared.source.HostPart.{HostPart}
+use Rattle.csp_model.specs.declared.source.HostPart.TheVariants as host_part
+use Rattle.csp_model.specs.declared.source.Keyword.TheVariants as keyword
+use Rattle.csp_model.specs.declared.source.PathPart.{PathPart}
+use Rattle.csp_model.specs.declared.source.PathPart.TheVariants as path_part
+use Rattle.csp_model.specs.declared.source.Source.{Source}
+use Rattle.csp_model.specs.declared.source.Source.TheVariants as source
+use Rattle.csp_model.specs.declared.url.Host.TheVariants.{Domain, Address}
+use Rattle.csp_model.specs.declared.url.Origin.{Origin}
+use Rattle.csp_model.specs.declared.url.Origin.TheVariants as origin
+use Rattle.csp_model.specs.declared.url.Scheme.{Scheme}
+use Rattle.csp_atom.specs.Atoms.{IsValidAtom, IsValidDigest}
+use Rattle.csp_atom.specs.declared.atom.Atom.TheVariants.{HostIs, HostUnder, PathIs, PathUnder, SchemeIs, DigestIs}
+use Rattle.csp_formula.specs.Compiled.{digest_of, digest_with, is_of_size}
+use Rattle.csp_formula.specs.Sources.{has_dots, is_dots}
+use Rattle.csp_formula.proofs.AtomsOfSources.{ReadsPath, ReadsSource}
+use Rattle.csp_formula.proofs.ReadParts.{reads}
+use Rattle.csp_answer.specs.Collecting.{HasValidAtoms, HaveValidAtoms}
+use Rattle.csp_answer.specs.Naming.{host_atom, own_atom, path_atom, lead_atom, rest_atom}
+
+-- what follows of a choice from each way
+chosen : {A : Type 0} (P : A → Type 0) (test : Bool) (x y : Option A) → (test ≡ true → IfSome x P) → (test ≡ false → IfSome y P)
+    → IfSome (if test then x else y) P
+chosen P true x y is_x is_y = is_x refl
+chosen P false x y is_x is_y = is_y refl
+
+neither : (a b : Bool) → (a || b) ≡ false → (a ≡ false) × (b ≡ false)
+neither false b e = (refl, e)
+neither true b e = absurd (false≢true (sym e))
+
+-- Hosts and schemes
+
+address : (text : List ℕ) → is_four_numbers text ≡ true → is_address text ≡ true
+unfolding is_address
+address text four = or_left (is_four_numbers text) (is_bracketed text) four
+
+host_valid : (part : HostPart) → IfSome (host_atom part) IsValidAtom
+host_valid host_part.Any = tt
+host_valid (host_part.Under suffix) = chosen IsValidAtom (is_domain suffix) (Some (HostUnder suffix)) None (λ is. is) (λ _. tt)
+host_valid (host_part.Exact text) =
+    chosen IsValidAtom (is_domain text) (Some (HostIs (Domain text))) (if is_four_numbers text then Some (HostIs (Address text)) else None) (λ is. is)
+    (λ _. chosen IsValidAtom (is_four_numbers text) (Some (HostIs (Address text))) None (address text) (λ _. tt))
+
+own_valid : (self : Origin) → IsValidOrigin self → IfSome (own_atom self) IsValidAtom
+own_valid origin.Opaque valid = tt
+own_valid (origin.Tuple scheme host port) valid = valid.1
+
+no_scheme : (o : Option Scheme) → is_some o ≡ false → IsNone o
+no_scheme None e = refl
+no_scheme (Some scheme) e = absurd (false≢true (sym e))
+
+-- Paths
+
+piece : (text : List ℕ) → are_bytes text ≡ true → is_dots text ≡ false → is_piece text ≡ true
+unfolding is_piece
+piece text bytes plain = by (are_bytes text) (bytes_eq text (codes ".")) (bytes_eq text (codes "..")) bytes plain where
+  by : (a b c : Bool) → a ≡ true → (b || c) ≡ false → (a && not b && not c) ≡ true
+  by true false false e f = refl
+  by true true c e f = absurd (false≢true (sym f))
+  by true false true e f = absurd (false≢true (sym f))
+  by false b c e f = absurd (false≢true e)
+
+all_pieces : (pieces : List (List ℕ)) → list_all are_bytes pieces ≡ true → has_dots pieces ≡ false → list_all is_piece pieces ≡ true
+all_pieces [] bytes plain = refl
+all_pieces (p ∷ ps) bytes plain =
+    let all = and_parts (are_bytes p) (list_all are_bytes ps) bytes in
+    let no = neither (is_dots p) (has_dots ps) plain in
+    and_from (is_piece p) (list_all is_piece ps) (piece p all.0 no.0) (all_pieces ps all.1 no.1)
+
+some_pieces : (pieces : List (List ℕ)) → not (is_nonempty pieces) ≡ false → pieces ≢ []
+some_pieces [] e = absurd (false≢true (sym e))
+some_pieces (p ∷ ps) e = λ (f : p ∷ ps ≡ []). cc f
+
+path_valid : (part : PathPart) → ReadsPath part → IfSome (path_atom part) IsValidAtom
+path_valid path_part.Absent read = tt
+path_valid (path_part.Exact pieces) read =
+    chosen IsValidAtom (has_dots pieces) None (Some (PathIs pieces)) (λ _. tt) (λ plain. (read.0, all_pieces pieces read.1 plain))
+path_valid (path_part.Prefix pieces) read =
+    chosen IsValidAtom (has_dots pieces || not (is_nonempty pieces)) None (Some (PathUnder pieces)) (λ _. tt)
+    (λ other. let none = neither (has_dots pieces) (not (is_nonempty pieces)) other in (some_pieces pieces none.1, all_pieces pieces read none.0))
+
+-- Digests
+
+sized : (algorithm : Algorithm) (bytes : List ℕ) → is_of_size (size_of algorithm) bytes ≡ true → IsValidDigest (digest_with algorithm bytes)
+sized Sha256 bytes is = let both = and_parts (length bytes == 32) (are_bytes bytes) is in (eqb-true (length bytes) 32 both.0, both.1)
+sized Sha384 bytes is = let both = and_parts (length bytes == 48) (are_bytes bytes) is in (eqb-true (length bytes) 48 both.0, both.1)
+sized Sha512 bytes is = let both = and_parts (length bytes == 64) (are_bytes bytes) is in (eqb-true (length bytes) 64 both.0, both.1)
+
+decoded_valid : (algorithm : Algorithm) (decoded : Option (List ℕ))
+    → IfSome (option_and_then (λ bytes. if is_of_size (size_of algorithm) bytes then Some (digest_with algorithm bytes) else None) decoded) IsValidDigest
+decoded_valid algorithm (Some bytes) =
+    chosen IsValidDigest (is_of_size (size_of algorithm) bytes) (Some (digest_with algorithm bytes)) None (sized algorithm bytes) (λ _. tt)
+decoded_valid algorithm None = tt
+
+-- Sources
+
+-- the value of a hash-source is a base64-value
+abbrev ReadsHash : Source → Type 0
+ReadsHash (source.Digest hash) = is_base64_value hash.value ≡ true
+ReadsHash other = Unit {0}
+
+reads_hash : (token : List ℕ) (s : Source) → IsSource token s → ReadsHash s
+reads_hash token (source.Digest hash) is = is.3
+reads_hash token source.Star is = tt
+reads_hash token (source.SchemeOnly scheme) is = tt
+reads_hash token (source.Hosted scheme host port path) is = tt
+reads_hash token (source.Word word) is = tt
+reads_hash token (source.Nonce value) is = tt
+reads_hash token (source.Other text) is = tt
+
+module _ (self : Origin) (valid : IsValidOrigin self) where
+  lead_valid : (s : Source) → ReadsSource s → ReadsHash s → IfSome (lead_atom self s) IsValidAtom
+  lead_valid source.Star read hash = tt
+  lead_valid (source.SchemeOnly scheme) read hash =
+      chosen IsValidAtom (is_some (scheme_named scheme)) None (Some (SchemeIs scheme)) (λ _. tt) (λ other. (read, no_scheme (scheme_named scheme) other))
+  lead_valid (source.Hosted scheme host port path) read hash = host_valid host
+  lead_valid (source.Word word) read hash =
+      chosen IsValidAtom (same_keyword word keyword.SelfOrigin) (own_atom self) None (λ _. own_valid self valid) (λ _. tt)
+  lead_valid (source.Nonce value) read hash = read
+  lead_valid (source.Digest hash) read is = is
+  lead_valid (source.Other token) read hash = tt
+
+  rest_valid : (s : Source) → ReadsSource s → IfSome (rest_atom s) IsValidAtom
+  rest_valid (source.Hosted scheme host port path) read = path_valid path read.1
+  rest_valid (source.Digest hash) read = by (digest_of hash) (decoded_valid hash.algorithm _) where
+    by : (o : Option _) → IfSome o IsValidDigest → IfSome (option_map DigestIs o) IsValidAtom
+    by None is = tt
+    by (Some d) is = is
+  rest_valid source.Star read = tt
+  rest_valid (source.SchemeOnly scheme) read = tt
+  rest_valid (source.Word word) read = tt
+  rest_valid (source.Nonce value) read = tt
+  rest_valid (source.Other token) read = tt
+
+  module _ (tokens_read : (token : List ℕ) → IsSource token (source_of token)) where
+    token_valid : (token : List ℕ) → HasValidAtoms self (source_of token)
+    token_valid token =
+        let is = tokens_read token in
+        let read = reads token (source_of token) is in
+        record { lead = lead_valid (source_of token) read (reads_hash token (source_of token) is); rest = rest_valid (source_of token) read }
+
+    tokens_valid : (tokens : List (List ℕ)) → All (λ token. HasValidAtoms self (source_of token)) tokens
+    tokens_valid tokens k d inside = token_valid _
+
+    pub all_valid : (ds : List Directive) → All (λ (d : Directive). d.sources ≡ map source_of d.tokens) ds → All (HaveValidAtoms self) ds
+    all_valid ds read k d inside =
+        subst (All (HasValidAtoms self)) (sym (read k d inside)) (All-map (HasValidAtoms self) source_of _ (tokens_valid _))

@@ -1,0 +1,65 @@
+//! What a policy answers at a shape.
+ghost use Rattle.std.specs.Prelude.{◌≡◌, ℕ, All, IfOk, IfSome, List as Items, option_copied};
+ghost use Rattle.csp_atom.specs.declared.atom.Atom.{Atom as AtomValue};
+ghost use Rattle.csp_answer.specs.Answers as spec;
+
+use crate::conjunction::Conjunction;
+use csp_model::Memory;
+use std::alloc::Global;
+
+/// The rule on integrity metadata (Subresource Integrity; Content Security Policy Level 3, section 6.7.1.1):
+/// each pair is a hash-source of the policy, and there is one.
+#[derive(Debug, PartialEq, Eq, Drop)]
+pub struct Integrity {
+    /// The name of the atom that there is a pair outside the vocabulary.
+    pub outside: usize,
+    /// The names of the vocabulary's pairs that aren't hash-sources of the policy, in the vocabulary's order.
+    pub others: Vec<usize>,
+    /// The names of those that are, in the order of the policy's sources.
+    pub own: Vec<usize>,
+}
+
+/// What a policy says of the checks of a shape: one of the conjunctions holds, or the rule on integrity
+/// metadata does, where it counts.
+#[derive(Debug, PartialEq, Eq, Drop)]
+pub struct Answer {
+    conjunctions: Vec<Conjunction>,
+    integrity: Option<Integrity>,
+}
+
+impl Answer {
+    // The answer that one of these holds, or the rule on integrity metadata. Answers that are made of the
+    // same conjunctions are equal, in whatever order these stand.
+    pub(crate) fn new(
+        mut conjunctions: Vec<Conjunction>,
+        integrity: Option<Integrity>,
+    ) -> Result<Answer, Memory>
+        ensures said { IfOk result (λ made. (atoms : Items AtomValue)
+            → spec.SaysTheSame (spec.sentence_in atoms made)
+            (spec.answer_in atoms conjunctions.items integrity)) }
+        ensures answer { IfOk result (λ made. (count : ℕ)
+            → All (spec.AreThere count) conjunctions.items
+            → IfSome integrity (spec.IsIntegrityThere count) → spec.IsAnswer count made) }
+    {
+        conjunctions.sort()?;
+        conjunctions.dedup();
+        Ok(Answer {
+            conjunctions,
+            integrity,
+        })
+    }
+
+    /// The conjunctions, each once, in ascending order.
+    pub fn conjunctions(&self) -> &[Conjunction]
+        ensures { result.now ≡ self.now.conjunctions.items }
+    {
+        &self.conjunctions
+    }
+
+    /// The rule on integrity metadata, where it counts.
+    pub fn integrity(&self) -> Option<&Integrity>
+        ensures { option_copied result ≡ self.now.integrity }
+    {
+        self.integrity.as_ref()
+    }
+}
