@@ -1,12 +1,15 @@
 -- The answers about one tree: of its own nodes, and of nodes that it shares.
-use Rattle.std.proofs.Common.{arith, refl, ◌≡◌, ◌∙◌, sym, ap, subst, ℕ, ◌+◌, ◌<◌, ◌≤◌, ◌^◌, suc, Bool, true, false, List, [], ◌∷◌, length, map, take, get_or, ◌⊎◌, inl, inr, zero}
-use Rattle.std.specs.Prelude.{Option, Some, None, IsTrue, slice_get}
+use Rattle.std.proofs.Common.{arith, refl, ◌≡◌, ◌∙◌, sym, ap, subst, ℕ, ◌+◌, ◌<◌, ◌≤◌, ◌^◌, suc, Bool, true, false, List, [], ◌∷◌, length, take, get_or, ◌⊎◌, inl, inr, zero}
+use Rattle.std.specs.Prelude.{Option, Some, None, IsTrue, All, Contains, slice_get}
 use Rattle.std.specs.Option.{option_map}
 use Rattle.std.proofs.lemmas.List.{length-map}
+use Rattle.std.proofs.lemmas.List.Elements.{All-weaker}
 use Rattle.std.proofs.lemmas.Option.{slice_get-map, slice_get-get_or, same_Some}
 use Rattle.csp_atom.specs.declared.atom.Atom.{Atom}
 use Rattle.csp_shape.specs.Shapes.{is_shape}
-use Rattle.csp_proof.specs.Accepts.{Lists, cases_in, bad_tree, at_line, bad_body, bad_shared, for_pair, first_bad_node}
+use Rattle.csp_branch.specs.Paths.{Path}
+use Rattle.csp_answer.specs.Tables.{AreAnswers}
+use Rattle.csp_proof.specs.Accepts.{Lists, hashes_in, cases_in, bad_tree, at_line, bad_body, bad_shared, for_pair, first_bad_node}
 use Rattle.csp_proof.specs.Pairs.{Pair}
 use Rattle.csp_proof.specs.Spelling.{tree_lines, body_lines}
 use Rattle.csp_proof.specs.WellFormed.{IsPreorder, IsBody, IsTree, body_at}
@@ -15,31 +18,50 @@ use Rattle.csp_proof.specs.declared.proof.Body.TheVariants as body
 use Rattle.csp_proof.specs.declared.proof.Format.{Format}
 use Rattle.csp_proof.specs.declared.proof.Node.{Node}
 use Rattle.csp_proof.specs.declared.proof.Tree.{Tree}
-use Rattle.csp_table.specs.declared.table.FormulaTable.{FormulaTable}
-use Rattle.csp_placed.specs.Placed.{sentence_at}
-use Rattle.csp_placed.specs.declared.placing.PlacedFormulas.{PlacedFormulas}
-use Rattle.csp_checker.specs.Asked.{IsTableOf, IsAsked, IsFor, IsReached, AreKept, bad_in, bad_line, due, numbered, numbers_fit, lists_of, trees_of}
+use Rattle.csp_checker.specs.Asked.{Fits, IsAsked, IsFor, IsReached, AreKept, bad_in, bad_line, due, numbered, numbers_fit, lists_of, trees_of}
 use Rattle.csp_checker.specs.Checked.{Claim}
-use Rattle.csp_checker.specs.Walk.{walk, splits, splits_below}
+use Rattle.csp_checker.specs.Leaves.{rule_by, rule_for}
+use Rattle.csp_checker.specs.Walk.{Position, Takes, at_root, atoms_below, atoms_of, walk}
 use Rattle.csp_checker.specs.declared.asked.Asked.{Asked}
 use Rattle.csp_checker.specs.declared.asked.NumberedPair.{NumberedPair}
 use Rattle.csp_checker.proofs.Formed.{all_at, stands, lines_fit, shared_before}
-use Rattle.csp_checker.proofs.Law.{tree_walk}
+use Rattle.csp_checker.proofs.Law.{tree_walk, walk_alike}
 use Rattle.csp_checker.proofs.Lines.{none_from, none_at, from_line}
 use Rattle.csp_checker.proofs.PairsMade.{all_listed}
-use Rattle.csp_checker.proofs.Tables.{says, said_at}
+use Rattle.csp_checker.proofs.Tables.{told}
 use Rattle.csp_checker.proofs.Whole.{parts_of, for_it}
 
--- the walk by formulas of the tree's shape answers for each pair that the tree is for
-pub judged : (lists : Lists) (table : FormulaTable) → IsTableOf lists table → (pair : Pair) (tree : Tree) → IsFor pair tree
-    → (place : ℕ) (formulas : PlacedFormulas) (atoms : List Atom) (nodes : List Node) → slice_get table.places tree.shape ≡ Some place → slice_get table.kinds place ≡ Some formulas
-    → atoms ≡ formulas.atoms → IsPreorder nodes
-    → walk (says lists tree.policy (map (sentence_at atoms) formulas.first) (map (sentence_at atoms) formulas.second)) 0 ([] ∷ []) nodes ≡ bad_tree lists pair 0 (cases_in nodes)
-judged lists table is pair tree for place formulas atoms nodes placed there same pre =
-    ap (λ (by : List Atom). walk (says lists tree.policy (map (sentence_at by) formulas.first) (map (sentence_at by) formulas.second)) 0 ([] ∷ []) nodes) same
-    ∙ ap (λ (n : ℕ). walk (says lists n (map (sentence_at formulas.atoms) formulas.first) (map (sentence_at formulas.atoms) formulas.second)) 0 ([] ∷ []) nodes) (sym for.policy)
-    ∙ ap (λ s. walk s 0 ([] ∷ []) nodes) (said_at lists table is pair for.listed place formulas (ap (slice_get table.places) for.shape ∙ placed) there)
-    ∙ tree_walk lists pair 0 nodes pre
+-- the walk by a table's answers answers for each pair that the tree is for
+pub judged : (asked : Asked) (walker : Position) → Fits asked walker → (pair : Pair) (tree : Tree) → IsFor pair tree → (nodes : List Node) → IsPreorder nodes
+    → walk (rule_by walker.atoms asked tree) 0 ([] ∷ []) nodes ≡ bad_tree (lists_of asked) pair 0 (cases_in nodes)
+judged asked walker fit pair tree for nodes pre =
+    walk_alike (rule_by walker.atoms asked tree) (rule_for (lists_of asked) pair) 0 ([] ∷ []) nodes (λ i d inside. told asked walker fit pair tree for (get_or nodes i d))
+    ∙ tree_walk (lists_of asked) pair 0 nodes pre
+
+-- the rule of a node by what the branch tells, where a walker that stood elsewhere has come to
+pub rule_here : (asked : Asked) (tree : Tree) (n : Node) (branch : Path) (walker first : Position) (keeps : Bool) → branch ≡ record { atoms = walker.atoms; literals = walker.literals }
+    → at_root walker ≡ at_root first → keeps ≡ rule_by branch.atoms asked tree branch.literals n → rule_by first.atoms asked tree walker.literals n ≡ keeps
+rule_here asked tree n branch walker first keeps is kept told =
+    ap (λ (names : List Atom). rule_by names asked tree walker.literals n) (sym (ap (λ (w : Position). w.atoms) kept))
+    ∙ ap (λ (p : Path). rule_by p.atoms asked tree p.literals n) (sym is)
+    ∙ sym told
+
+-- a walker fits wherever it stands
+pub takes_kept : (one other : Position) (atoms : List Atom) → at_root one ≡ at_root other → Takes other atoms → Takes one atoms
+takes_kept one other atoms same takes = record {
+  named = subst (λ (w : Position). All (Contains w.atoms) atoms) (sym same) takes.named;
+  room = subst (λ (w : Position). length atoms ≤ w.room) (sym same) takes.room;
+}
+
+pub fit_kept : (asked : Asked) (one other : Position) → at_root one ≡ at_root other → Fits asked other → Fits asked one
+fit_kept asked one other same fit =
+    let hashes = hashes_in (lists_of asked) in
+    record {
+      first = subst (λ (w : Position). AreAnswers w.atoms hashes asked.first.now.policies asked.table.first) (sym same) fit.first;
+      second = subst (λ (w : Position). AreAnswers w.atoms hashes asked.second.now.policies asked.table.second) (sym same) fit.second;
+      trees = All-weaker (λ (tree : Tree). Takes other (atoms_below tree.body)) (λ (tree : Tree). Takes one (atoms_below tree.body))
+          (λ tree takes. takes_kept one other (atoms_below tree.body) same takes) (trees_of asked) fit.trees;
+    }
 
 -- the tree of a number may stand there
 pub tree_stands : (asked : Asked) → IsAsked asked → (n : ℕ) (tree : Tree) → slice_get (trees_of asked) n ≡ Some tree → IsTree asked.proof.now.format (take n (trees_of asked)) tree
@@ -75,18 +97,13 @@ stands_before asked is count tree reached n shares =
     let own = subst (IsBody format (take count (trees_of asked))) shares (tree_stands asked is count tree reached.there).body in
     shared_before (trees_of asked) count n own.2
 
-pub room_for : (asked : Asked) → IsAsked asked → (n : ℕ) (tree : Tree) (nodes : List Node) → slice_get (trees_of asked) n ≡ Some tree → tree.body ≡ body.Nodes nodes → splits nodes ≤ asked.room
-room_for asked is n tree nodes there has =
-    subst (λ (b : Body). splits_below b ≤ asked.room) has (all_at (λ (t : Tree). splits_below t.body ≤ asked.room) (trees_of asked) n tree is.room there)
+-- it can take the splits of the nodes of each tree
+pub takes_nodes : (asked : Asked) (walker : Position) → Fits asked walker → (n : ℕ) (tree : Tree) (nodes : List Node) → slice_get (trees_of asked) n ≡ Some tree → tree.body ≡ body.Nodes nodes
+    → Takes walker (atoms_of nodes)
+takes_nodes asked walker fit n tree nodes there has =
+    subst (λ (b : Body). Takes walker (atoms_below b)) has (all_at (λ (t : Tree). Takes walker (atoms_below t.body)) (trees_of asked) n tree fit.trees there)
 
 -- what a shared body comes to
-
-pub shares_none : (lists : Lists) (trees : List Tree) (pair : Pair) (line n : ℕ) → slice_get trees n ≡ None → bad_shared lists pair line (body_at trees n) ≡ Some line
-shares_none lists trees pair line n none = ap (λ (o : Option Tree). bad_shared lists pair line (option_map (λ (t : Tree). t.body) o)) none
-
-pub shares_same : (lists : Lists) (trees : List Tree) (pair : Pair) (line n : ℕ) (other : Tree) (m : ℕ) → slice_get trees n ≡ Some other → other.body ≡ body.Same m → bad_shared lists pair line (body_at trees n) ≡ Some line
-shares_same lists trees pair line n other m there has =
-    ap (λ (o : Option Tree). bad_shared lists pair line (option_map (λ (t : Tree). t.body) o)) there ∙ ap (λ (b : Body). bad_shared lists pair line (Some b)) has
 
 pub shares_nodes : (lists : Lists) (trees : List Tree) (pair : Pair) (line n : ℕ) (other : Tree) (nodes : List Node) → slice_get trees n ≡ Some other → other.body ≡ body.Nodes nodes
     → bad_shared lists pair line (body_at trees n) ≡ at_line line (bad_tree lists pair line (cases_in nodes))

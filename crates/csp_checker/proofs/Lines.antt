@@ -1,14 +1,13 @@
 -- A walk that counts from another line finds the same node, and where policies say the same the same is found.
-use Rattle.std.proofs.Common.{◌≡◌, ◌∙◌, sym, ap, ℕ, ◌+◌, Bool, true, false, refl, List, [], ◌∷◌, ◌++◌, length, Option, Some, None, arith}
+use Rattle.std.proofs.Common.{◌≡◌, ◌∙◌, sym, ap, ℕ, ◌+◌, Bool, true, false, refl, List, [], ◌∷◌, ◌++◌, length, Option, Some, None, arith, All}
 use Rattle.std.specs.Option.{option_map}
 use Rattle.csp_atom.specs.declared.atom.Literal.{Literal}
 use Rattle.csp_proof.specs.Accepts.{Lists, blocks, is_met, literal, unless, first_of, bad_case, bad_tree, at_line, cases_in}
 use Rattle.csp_proof.specs.Pairs.{Pair}
 use Rattle.csp_proof.specs.WellFormed.{Cases, Splits, IsBlocked, IsMet, preorder, IsPreorder}
 use Rattle.csp_proof.specs.declared.proof.Node.{Node}
-use Rattle.csp_checker.specs.Leaves.{sayings_for}
-use Rattle.csp_checker.specs.Walk.{walk}
-use Rattle.csp_checker.proofs.Law.{tree_walk}
+use Rattle.csp_checker.specs.Leaves.{rule_for}
+use Rattle.csp_checker.proofs.Law.{TellTheSame, tree_walk, walk_alike}
 
 abbrev further : ℕ → Option ℕ → Option ℕ
 further line o = option_map (λ (n : ℕ). line + n) o
@@ -55,20 +54,11 @@ lifted line (Some n) none = cc none
 pub none_at_all : (lists : Lists) (pair : Pair) (line : ℕ) (trees : List Cases) → bad_tree lists pair line trees ≡ None → bad_tree lists pair 0 trees ≡ None
 none_at_all lists pair line trees none = lifted line (bad_tree lists pair 0 trees) (sym (from_line lists pair line trees) ∙ none)
 
--- nodes that keep the rules of a pair keep those of each pair of which the same is said
-pub said_alike : (lists : Lists) (one other : Pair) (nodes : List Node) → IsPreorder nodes → sayings_for lists one ≡ sayings_for lists other
+-- nodes that keep the rules of a pair keep those of each pair that is told the same of them
+pub judged_alike : (lists : Lists) (one other : Pair) (nodes : List Node) → IsPreorder nodes → All (TellTheSame (rule_for lists one) (rule_for lists other)) nodes
     → bad_tree lists one 0 (cases_in nodes) ≡ bad_tree lists other 0 (cases_in nodes)
-said_alike lists one other nodes is same =
-    sym (tree_walk lists one 0 nodes is) ∙ ap (λ s. walk s 0 ([] ∷ []) nodes) same ∙ tree_walk lists other 0 nodes is
-
-pub walked_alike : (lists : Lists) (one other : Pair) (nodes : List Node) → IsPreorder nodes
-    → walk (sayings_for lists one) 0 ([] ∷ []) nodes ≡ walk (sayings_for lists other) 0 ([] ∷ []) nodes
-    → bad_tree lists one 0 (cases_in nodes) ≡ bad_tree lists other 0 (cases_in nodes)
-walked_alike lists one other nodes is same = sym (tree_walk lists one 0 nodes is) ∙ same ∙ tree_walk lists other 0 nodes is
-
-pub some_at : (line n : ℕ) (o : Option ℕ) → Some n ≡ o → at_line line o ≡ Some line
-some_at line n (Some m) is = refl
-some_at line n None is = cc is
+judged_alike lists one other nodes is same =
+    sym (tree_walk lists one 0 nodes is) ∙ walk_alike (rule_for lists one) (rule_for lists other) 0 ([] ∷ []) nodes same ∙ tree_walk lists other 0 nodes is
 
 pub none_at : (line : ℕ) (o : Option ℕ) → o ≡ None → at_line line o ≡ None
 none_at line o is = ap (at_line line) is

@@ -1,11 +1,10 @@
 -- One step of the walk: at a split, at a leaf, and where a case turns.
-use Rattle.std.proofs.Common.{◌≡◌, ◌≢◌, ℕ, suc, ◌+◌, ◌<◌, Bool, true, false, refl, sym, ap, List, [], ◌∷◌, ◌++◌, length, Some, None, get_or, drop, drop-cons, add-one, ◌∙◌, append_assoc, append-nil}
+use Rattle.std.proofs.Common.{◌≡◌, ◌≢◌, ℕ, suc, ◌+◌, ◌<◌, Bool, true, false, refl, sym, ap, List, [], ◌∷◌, ◌++◌, length, None, get_or, drop, drop-cons, add-one, ◌∙◌, append_assoc, append-nil}
 use Rattle.csp_atom.specs.declared.atom.Atom.{Atom}
 use Rattle.csp_atom.specs.declared.atom.Literal.{Literal}
 use Rattle.csp_proof.specs.declared.proof.Node.{Node}
 use Rattle.csp_proof.specs.declared.proof.Node.TheVariants.{Split, Blocked, Met}
-use Rattle.csp_checker.specs.Leaves.{Sayings, keeps_rule}
-use Rattle.csp_checker.specs.Walk.{with, splits, waits, pending, unless_first, walk}
+use Rattle.csp_checker.specs.Walk.{with, atoms_of, waits, pending, unless_first, walk}
 
 -- one literal more at the end of a path: its case waits before all others
 pending_push : (before ls : List Literal) (a : Atom) (positive : Bool) → pending before (with ls a positive) ≡ waits (before ++ ls) a positive ++ pending before ls
@@ -19,46 +18,42 @@ taken_true ls a = pending_push [] ls a true
 taken_false : (ls : List Literal) (a : Atom) → pending [] (with ls a false) ≡ pending [] ls
 taken_false ls a = pending_push [] ls a false
 
--- the nodes from place k on
-here : (ns : List Node) (k : ℕ) (n : Node) → k < length ns → n ≡ get_or ns k n → drop k ns ≡ n ∷ drop (k + 1) ns
-here ns k n h e = rw (add-one, drop-cons ns k n) (ap (λ m. m ∷ drop (suc k) ns) (sym e))
+-- the elements from place k on
+pub here : {X : Type 0} (xs : List X) (k : ℕ) (x : X) → k < length xs → x ≡ get_or xs k x → drop k xs ≡ x ∷ drop (k + 1) xs
+here xs k x h e = rw (add-one, drop-cons xs k x) (ap (λ y. y ∷ drop (suc k) xs) (sym e))
 
-pub walk_split : (s : Sayings) (place : ℕ) (ls : List Literal) (ns : List Node) (k : ℕ) (n : Node) (a : Atom) → k < length ns → n ≡ get_or ns k n → n ≡ Split a
-    → walk s place (ls ∷ pending [] ls) (drop k ns) ≡ walk s (place + 1) (with ls a true ∷ pending [] (with ls a true)) (drop (k + 1) ns)
-walk_split s place ls ns k n a h e is = rw (here ns k n h e, is, taken_true ls a) refl
+pub walk_split : (rule : List Literal → Node → Bool) (ls : List Literal) (ns : List Node) (k : ℕ) (n : Node) (a : Atom) → k < length ns → n ≡ get_or ns k n → n ≡ Split a
+    → walk rule k (ls ∷ pending [] ls) (drop k ns) ≡ walk rule (k + 1) (with ls a true ∷ pending [] (with ls a true)) (drop (k + 1) ns)
+walk_split rule ls ns k n a h e is = rw (here ns k n h e, is, taken_true ls a) refl
 
-pub splits_split : (ns : List Node) (k : ℕ) (n : Node) (a : Atom) → k < length ns → n ≡ get_or ns k n → n ≡ Split a → splits (drop k ns) ≡ splits (drop (k + 1) ns) + 1
-splits_split ns k n a h e is = rw (here ns k n h e, is) refl
+pub atoms_split : (ns : List Node) (k : ℕ) (n : Node) (a : Atom) → k < length ns → n ≡ get_or ns k n → n ≡ Split a → atoms_of (drop k ns) ≡ a ∷ atoms_of (drop (k + 1) ns)
+atoms_split ns k n a h e is = rw (here ns k n h e, is) refl
 
-leaf : (s : Sayings) (place : ℕ) (ls : List Literal) (cases : List (List Literal)) (n : Node) (ns : List Node) → ((a : Atom) → n ≢ Split a)
-    → walk s place (ls ∷ cases) (n ∷ ns) ≡ unless_first (keeps_rule s ls n) place (walk s (place + 1) cases ns)
-leaf s place ls cases (Split a) ns h = absurd (h a refl)
-leaf s place ls cases (Blocked i) ns h = refl
-leaf s place ls cases Met ns h = refl
+leaf : (rule : List Literal → Node → Bool) (place : ℕ) (ls : List Literal) (cases : List (List Literal)) (n : Node) (ns : List Node) → ((a : Atom) → n ≢ Split a)
+    → walk rule place (ls ∷ cases) (n ∷ ns) ≡ unless_first (rule ls n) place (walk rule (place + 1) cases ns)
+leaf rule place ls cases (Split a) ns h = absurd (h a refl)
+leaf rule place ls cases (Blocked i) ns h = refl
+leaf rule place ls cases Met ns h = refl
 
-by : (n : Node) (ns : List Node) → ((a : Atom) → n ≢ Split a) → splits (n ∷ ns) ≡ splits ns
-by (Split a) ns h = absurd (h a refl)
-by (Blocked i) ns h = refl
-by Met ns h = refl
+no_atom : (n : Node) (ns : List Node) → ((a : Atom) → n ≢ Split a) → atoms_of (n ∷ ns) ≡ atoms_of ns
+no_atom (Split a) ns h = absurd (h a refl)
+no_atom (Blocked i) ns h = refl
+no_atom Met ns h = refl
 
-pub splits_leaf : (ns : List Node) (k : ℕ) (n : Node) → k < length ns → n ≡ get_or ns k n → ((a : Atom) → n ≢ Split a) → splits (drop k ns) ≡ splits (drop (k + 1) ns)
-splits_leaf ns k n h e is = rw (here ns k n h e) (by n (drop (k + 1) ns) is)
+pub atoms_leaf : (ns : List Node) (k : ℕ) (n : Node) → k < length ns → n ≡ get_or ns k n → ((a : Atom) → n ≢ Split a) → atoms_of (drop k ns) ≡ atoms_of (drop (k + 1) ns)
+atoms_leaf ns k n h e is = rw (here ns k n h e) (no_atom n (drop (k + 1) ns) is)
 
-pub walk_bad : (s : Sayings) (place : ℕ) (ls : List Literal) (ns : List Node) (k : ℕ) (n : Node) → k < length ns → n ≡ get_or ns k n → ((a : Atom) → n ≢ Split a)
-    → keeps_rule s ls n ≡ false → walk s place (ls ∷ pending [] ls) (drop k ns) ≡ Some place
-walk_bad s place ls ns k n h e is f = rw (here ns k n h e, leaf s place ls (pending [] ls) n (drop (k + 1) ns) is, f) refl
+pub walk_leaf : (rule : List Literal → Node → Bool) (ls : List Literal) (ns : List Node) (k : ℕ) (n : Node) → k < length ns → n ≡ get_or ns k n → ((a : Atom) → n ≢ Split a)
+    → rule ls n ≡ true → walk rule k (ls ∷ pending [] ls) (drop k ns) ≡ walk rule (k + 1) (pending [] ls) (drop (k + 1) ns)
+walk_leaf rule ls ns k n h e is f = rw (here ns k n h e, leaf rule k ls (pending [] ls) n (drop (k + 1) ns) is, f) refl
 
-pub walk_leaf : (s : Sayings) (place : ℕ) (ls : List Literal) (ns : List Node) (k : ℕ) (n : Node) → k < length ns → n ≡ get_or ns k n → ((a : Atom) → n ≢ Split a)
-    → keeps_rule s ls n ≡ true → walk s place (ls ∷ pending [] ls) (drop k ns) ≡ walk s (place + 1) (pending [] ls) (drop (k + 1) ns)
-walk_leaf s place ls ns k n h e is f = rw (here ns k n h e, leaf s place ls (pending [] ls) n (drop (k + 1) ns) is, f) refl
+done : (rule : List Literal → Node → Bool) (place : ℕ) (ns : List Node) → walk rule place [] ns ≡ None
+done rule place [] = refl
+done rule place (n ∷ ns) = refl
 
-done : (s : Sayings) (place : ℕ) (ns : List Node) → walk s place [] ns ≡ None
-done s place [] = refl
-done s place (n ∷ ns) = refl
-
-pub walk_end : (s : Sayings) (place : ℕ) (ls : List Literal) (ns : List Node) (k : ℕ) (n : Node) → k < length ns → n ≡ get_or ns k n → ((a : Atom) → n ≢ Split a)
-    → keeps_rule s ls n ≡ true → pending [] ls ≡ [] → walk s place (ls ∷ pending [] ls) (drop k ns) ≡ None
-walk_end s place ls ns k n h e is f b = walk_leaf s place ls ns k n h e is f ∙ rw b (done s (place + 1) (drop (k + 1) ns))
+pub walk_end : (rule : List Literal → Node → Bool) (ls : List Literal) (ns : List Node) (k : ℕ) (n : Node) → k < length ns → n ≡ get_or ns k n → ((a : Atom) → n ≢ Split a)
+    → rule ls n ≡ true → pending [] ls ≡ [] → walk rule k (ls ∷ pending [] ls) (drop k ns) ≡ None
+walk_end rule ls ns k n h e is f b = walk_leaf rule ls ns k n h e is f ∙ rw b (done rule (k + 1) (drop (k + 1) ns))
 
 -- where a case turns: the deepest literal that is positive becomes negative
 pub turned : (old new later : List Literal) (a : Atom) (positive : Bool) → old ≡ with new a positive → positive ≡ true → later ≡ with new a false → later ∷ pending [] later ≡ pending [] old

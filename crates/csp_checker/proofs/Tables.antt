@@ -1,149 +1,168 @@
--- What the table and the valuations have for a shape.
-use Rattle.std.proofs.Common.{arith, refl, ◌≡◌, ◌∙◌, sym, ap, subst, ℕ, ◌+◌, true, false, ◌<◌, zero, suc, List, [], ◌∷◌, length, map, get_or, slice_set}
-use Rattle.std.specs.Prelude.{Option, Some, None, MatchOption, IsTrue, slice_get, option_and_then}
-use Rattle.std.proofs.lemmas.List.{get_or-map, length-map}
-use Rattle.std.proofs.lemmas.Option.{slice_get_within, get_or_from_slice_get, same_Some}
+-- What the answers of a table tell of a node is what the definition tells of it.
+use Rattle.std.proofs.Common.{arith, refl, ◌≡◌, ◌∙◌, sym, ap, subst, ℕ, ◌<◌, zero, suc, Bool, true, false, ◌&&◌, List, [], ◌∷◌, length, map, get_or, All}
+use Rattle.std.specs.Prelude.{Option, Some, None, MatchOption, IfSome, IsSome, IsTrue, slice_get}
 use Rattle.std.specs.List.{list_all}
+use Rattle.std.specs.Option.{option_and_then, option_map}
+use Rattle.std.proofs.lemmas.Bool.{and_parts}
+use Rattle.std.proofs.lemmas.List.Elements.{All-nil, All-cons}
+use Rattle.std.proofs.lemmas.Option.{slice_get_within, slice_get-get_or, slice_get-map, option_and_then_some, same_Some}
+use Rattle.csp_model.specs.Verdict.{is_enforce}
 use Rattle.csp_model.specs.declared.policy.Policy.{Policy}
+use Rattle.csp_model.specs.declared.source.Hash.{Hash}
+use Rattle.csp_atom.specs.declared.atom.Atom.{Atom}
 use Rattle.csp_atom.specs.declared.atom.Literal.{Literal}
 use Rattle.csp_shape.specs.Numbers.{number, shape_count}
 use Rattle.csp_shape.specs.Shapes.{is_shape}
 use Rattle.csp_shape.specs.declared.shape.Shape.{Shape}
 use Rattle.csp_shape.proofs.Listed.{shape_of_number}
-use Rattle.csp_formula.specs.Sentences.{Sentence}
-use Rattle.csp_proof.specs.Accepts.{Lists, hashes_in}
+use Rattle.csp_formula.specs.Compiled.{policy_sentence}
+use Rattle.csp_formula.specs.Surely.{surely}
+use Rattle.csp_answer.specs.Answers.{IsAnswer, sentence_in}
+use Rattle.csp_answer.specs.Tables.{AreAnswers, AreKinds, Says, answer_at, answer_of}
+use Rattle.csp_answer.specs.declared.answer.Answer.{Answer}
+use Rattle.csp_answer.specs.declared.policy.PolicyAnswers.{PolicyAnswers}
+use Rattle.csp_answer.specs.declared.table.AnswerTable.{AnswerTable}
+use Rattle.csp_proof.specs.Accepts.{Lists, hashes_in, is_surely, policy_is}
 use Rattle.csp_proof.specs.Pairs.{Pair}
 use Rattle.csp_proof.specs.declared.proof.Node.{Node}
 use Rattle.csp_proof.specs.declared.proof.Node.TheVariants as node
-use Rattle.csp_table.specs.Tables.{AreAt, said_of}
-use Rattle.csp_table.specs.declared.table.FormulaTable.{FormulaTable}
-use Rattle.csp_placed.specs.Placed.{sentence_at}
-use Rattle.csp_valuation.specs.Valuations.{Assignment}
-use Rattle.csp_placed.specs.declared.placing.PlacedFormulas.{PlacedFormulas}
-use Rattle.csp_checker.specs.Asked.{IsTableOf, unused}
-use Rattle.csp_checker.specs.Leaves.{Sayings, keeps_rule, says_surely, sayings_for}
-use Rattle.csp_checker.specs.Walk.{at_root, is_unmet, unless_first, walk, with}
+use Rattle.csp_proof.specs.declared.proof.Tree.{Tree}
+use Rattle.csp_checker.specs.Asked.{AreAlike, Fits, IsFor, SayTheSame, lists_of}
+use Rattle.csp_checker.specs.Leaves.{AnswerAt, is_enforced, known, rule_by, rule_for}
+use Rattle.csp_checker.specs.Walk.{Position, is_unmet}
+use Rattle.csp_checker.specs.declared.asked.Asked.{Asked}
+use Rattle.csp_checker.proofs.Formed.{all_at}
+use Rattle.csp_checker.proofs.Law.{TellTheSame}
 
 held : {B : Type 0} (P : B → Type 0) (o : Option B) → MatchOption o ⊥ P → (y : B) × (o ≡ Some y) × P y
 held P None has = absurd has
 held P (Some y) has = (y, refl, has)
 
-opened : {A B : Type 0} (P : B → Type 0) (f : A → Option B) (o : Option A) → MatchOption (option_and_then f o) ⊥ P
-    → (x : A) × (o ≡ Some x) × (y : B) × (f x ≡ Some y) × P y
-opened P f None has = absurd has
-opened P f (Some x) has = let h = held P (f x) has in (x, refl, h.0, h.1, h.2)
+element : {X : Type 0} (xs : List X) (i : ℕ) → i < length xs → (x : X) × (slice_get xs i ≡ Some x)
+element [] i inside = absurd (omega arith)
+element (x ∷ xs) zero inside = (x, refl)
+element (x ∷ xs) (suc i) inside = element xs i (omega arith)
 
--- what stands for a shape
-pub record Found (lists : Lists) (table : FormulaTable) (kind : Shape) : Type 0 where
-  pub place : ℕ
-  pub placed : slice_get table.places (number kind) ≡ Some place
-  pub formulas : PlacedFormulas
-  pub there : slice_get table.kinds place ≡ Some formulas
-  pub are : AreAt (hashes_in lists) lists.first lists.second kind formulas
+some_is : {X : Type 0} (o : Option X) → IsSome o → (x : X) × (o ≡ Some x)
+some_is None has = cc has
+some_is (Some x) has = (x, refl)
 
-found : (lists : Lists) (table : FormulaTable) → IsTableOf lists table → (kind : Shape) → IsTrue (is_shape kind) → Found lists table kind
-found lists table is kind listed =
-    let h = opened (AreAt (hashes_in lists) lists.first lists.second kind) (slice_get table.kinds) (slice_get table.places (number kind)) (is kind listed) in
-    record { place = h.0; placed = h.1; formulas = h.2; there = h.3; are = h.4 }
+abbrev flat : {A : Type 0} → Option (Option A) → Option A
+flat None = None
+flat (Some o) = o
 
--- each number of a shape has a place, and formulas there
+flattened : {A B : Type 0} (f : A → Option B) (o : Option A) → option_and_then f o ≡ flat (option_map f o)
+flattened f None = refl
+flattened f (Some x) = refl
 
-pub in_places : (lists : Lists) (table : FormulaTable) → IsTableOf lists table → (n : ℕ) → n < shape_count → n < length table.places
-in_places lists table is n inside =
-    let shape = shape_of_number n inside in
-    let f = found lists table is shape.0 shape.1 in
-    subst (λ (m : ℕ). m < length table.places) shape.2 (slice_get_within table.places (number shape.0) f.place f.placed)
+-- One list and its answers
 
-pub in_kinds : (lists : Lists) (table : FormulaTable) → IsTableOf lists table → (n place : ℕ) → n < shape_count → slice_get table.places n ≡ Some place → place < length table.kinds
-in_kinds lists table is n place inside placed =
-    let shape = shape_of_number n inside in
-    let f = found lists table is shape.0 shape.1 in
-    let same : f.place ≡ place = same_Some f.place place (sym f.placed ∙ ap (slice_get table.places) shape.2 ∙ placed) in
-    subst (λ (p : ℕ). p < length table.kinds) same (slice_get_within table.kinds f.place f.formulas f.there)
+module _ (atoms : List Atom) (hashes : List Hash) (policies : List Policy) (each : List PolicyAnswers) (are : AreAnswers atoms hashes policies each) where
+  found : (n : ℕ) (policy : Policy) (kind : Shape) → slice_get policies n ≡ Some policy → IsTrue (is_shape kind)
+      → (answer : Answer) × (answer_of each n (number kind) ≡ Some answer) × Says atoms (policy_sentence policy kind hashes) answer
+  found n policy kind at listed =
+      let inside : n < length each = omega (arith, are.long, slice_get_within policies n policy at) in
+      let own = element each n inside in
+      let one = held (Says atoms (policy_sentence policy kind hashes)) (answer_at (number kind) own.0) (are.each n policy own.0 at own.1 kind listed) in
+      (one.0, ap (option_and_then (answer_at (number kind))) own.1 ∙ one.1, one.2)
 
--- what the formulas at a place say
+  known_is : (n : ℕ) (policy : Policy) (kind : Shape) → slice_get policies n ≡ Some policy → IsTrue (is_shape kind) → (ls : List Literal)
+      → known atoms ls each n (number kind) ≡ surely ls (policy_sentence policy kind hashes)
+  known_is n policy kind at listed ls =
+      let f = found n policy kind at listed in
+      ap (option_and_then (λ (answer : Answer). surely ls (sentence_in atoms answer))) f.1 ∙ f.2.says ls
 
-abbrev pub says : Lists → ℕ → List Sentence → List Sentence → Sayings
-says lists policy first second = record {
-  first = lists.first.policies;
-  said = first;
-  policy = slice_get lists.second.policies policy;
-  promised = slice_get second policy;
-}
+  -- at each number of a shape
+  pub answers_there : (shape : ℕ) → shape < shape_count → AnswerAt (length atoms) shape each
+  answers_there shape inside n = by (answer_of each n shape) refl where
+    by : (o : Option Answer) → answer_of each n shape ≡ o → IfSome o (IsAnswer (length atoms))
+    by None is = tt
+    by (Some answer) is =
+        let kind = shape_of_number shape inside in
+        let within : n < length each = option_and_then_some (answer_at shape) (slice_get each n) answer is (λ own at _. slice_get_within each n own at) in
+        let policy = element policies n (omega (arith, within, are.long)) in
+        let f = found n policy.0 kind.0 policy.1 kind.1 in
+        let same : f.0 ≡ answer = same_Some f.0 answer (sym f.1 ∙ ap (answer_of each n) kind.2 ∙ is) in
+        subst (IsAnswer (length atoms)) same f.2.answer
 
-said_by : (lists : Lists) (pair : Pair) (formulas : PlacedFormulas) → AreAt (hashes_in lists) lists.first lists.second pair.shape formulas
-    → says lists pair.policy (map (sentence_at formulas.atoms) formulas.first) (map (sentence_at formulas.atoms) formulas.second) ≡ sayings_for lists pair
-said_by lists pair formulas are =
-    ap (λ s. says lists pair.policy s (map (sentence_at formulas.atoms) formulas.second)) are.first
-    ∙ ap (says lists pair.policy (said_of (hashes_in lists) pair.shape lists.first)) are.second
+  policy_known : (expected : Bool) (kind : Shape) → IsTrue (is_shape kind) → (ls : List Literal) (n : ℕ)
+      → (is_enforced (slice_get policies n) && is_surely expected (known atoms ls each n (number kind)))
+      ≡ policy_is expected hashes kind ls (slice_get policies n)
+  policy_known expected kind listed ls n = by (slice_get policies n) refl where
+    by : (o : Option Policy) → slice_get policies n ≡ o
+        → (is_enforced o && is_surely expected (known atoms ls each n (number kind))) ≡ policy_is expected hashes kind ls o
+    by None at = refl
+    by (Some policy) at = ap (λ (o : Option Bool). is_enforce policy.disposition && is_surely expected o) (known_is n policy kind at listed ls)
 
-pub said_at : (lists : Lists) (table : FormulaTable) → IsTableOf lists table → (pair : Pair) → IsTrue (is_shape pair.shape) → (place : ℕ) (formulas : PlacedFormulas)
-    → slice_get table.places (number pair.shape) ≡ Some place → slice_get table.kinds place ≡ Some formulas
-    → says lists pair.policy (map (sentence_at formulas.atoms) formulas.first) (map (sentence_at formulas.atoms) formulas.second) ≡ sayings_for lists pair
-said_at lists table is pair listed place formulas placed there =
-    let f = found lists table is pair.shape listed in
-    let place_same : f.place ≡ place = same_Some f.place place (sym f.placed ∙ placed) in
-    let same : f.formulas ≡ formulas = same_Some f.formulas formulas (sym f.there ∙ ap (slice_get table.kinds) place_same ∙ there) in
-    said_by lists pair formulas (subst (AreAt (hashes_in lists) lists.first lists.second pair.shape) same f.are)
+  answers_alike : (one other : ℕ) → map (answer_at one) each ≡ map (answer_at other) each → (n : ℕ) → answer_of each n one ≡ answer_of each n other
+  answers_alike one other same n =
+      flattened (answer_at one) (slice_get each n)
+      ∙ ap flat (sym (slice_get-map (answer_at one) each n) ∙ ap (λ (os : List (Option Answer)). slice_get os n) same ∙ slice_get-map (answer_at other) each n)
+      ∙ sym (flattened (answer_at other) (slice_get each n))
 
--- what a walk over nodes of which none is met finds is of no one policy
-pub walk_unmet : (one other : Sayings) → one.first ≡ other.first → one.said ≡ other.said
-    → (place : ℕ) (cases : List (List Literal)) (nodes : List Node) → list_all is_unmet nodes ≡ true → walk one place cases nodes ≡ walk other place cases nodes
-walk_unmet one other first said place cases [] unmet = refl
-walk_unmet one other first said place [] (n ∷ nodes) unmet = refl
-walk_unmet one other first said place (ls ∷ cases) (node.Split atom ∷ nodes) unmet =
-    walk_unmet one other first said (place + 1) (with ls atom true ∷ with ls atom false ∷ cases) nodes unmet
-walk_unmet one other first said place (ls ∷ cases) (node.Blocked policy ∷ nodes) unmet =
-    ap (λ (ps : List Policy). unless_first (says_surely false ls (slice_get ps policy) (slice_get one.said policy)) place (walk one (place + 1) cases nodes)) first
-    ∙ ap (λ (ss : List Sentence). unless_first (says_surely false ls (slice_get other.first policy) (slice_get ss policy)) place (walk one (place + 1) cases nodes)) said
-    ∙ ap (unless_first (keeps_rule other ls (node.Blocked policy)) place) (walk_unmet one other first said (place + 1) cases nodes unmet)
-walk_unmet one other first said place (ls ∷ cases) (node.Met ∷ nodes) unmet = cc unmet
+  alike : (one other : Shape) → IsTrue (is_shape one) → IsTrue (is_shape other) → map (answer_at (number one)) each ≡ map (answer_at (number other)) each
+      → SayTheSame hashes one other policies
+  alike one other one_listed other_listed same i d inside ls =
+      let policy = get_or policies i d in
+      let at = slice_get-get_or policies i d inside in
+      sym (known_is i policy one at one_listed ls)
+      ∙ ap (option_and_then (λ (answer : Answer). surely ls (sentence_in atoms answer))) (answers_alike (number one) (number other) same i)
+      ∙ known_is i policy other at other_listed ls
 
--- so it finds the same for pairs whose shapes have one place
-pub walk_for_any : (lists : Lists) (table : FormulaTable) → IsTableOf lists table → (one other : Pair) → IsTrue (is_shape one.shape) → IsTrue (is_shape other.shape)
-    → slice_get table.places (number one.shape) ≡ slice_get table.places (number other.shape) → (nodes : List Node) → list_all is_unmet nodes ≡ true
-    → walk (sayings_for lists one) 0 ([] ∷ []) nodes ≡ walk (sayings_for lists other) 0 ([] ∷ []) nodes
-walk_for_any lists table is one other one_listed other_listed places nodes unmet =
-    let f = found lists table is one.shape one_listed in
-    let first = map (sentence_at f.formulas.atoms) f.formulas.first in
-    let second = map (sentence_at f.formulas.atoms) f.formulas.second in
-    ap (λ (s : Sayings). walk s 0 ([] ∷ []) nodes) (sym (said_at lists table is one one_listed f.place f.formulas f.placed f.there))
-    ∙ walk_unmet (says lists one.policy first second) (says lists other.policy first second) refl refl 0 ([] ∷ []) nodes unmet
-    ∙ ap (λ (s : Sayings). walk s 0 ([] ∷ []) nodes) (said_at lists table is other other_listed f.place f.formulas (sym places ∙ f.placed) f.there)
+-- at shapes of one kind policies say the same, where they answer the same
+pub kinds_alike : (atoms : List Atom) (lists : Lists) (table : AnswerTable) → AreAnswers atoms (hashes_in lists) lists.first.policies table.first → AreAnswers atoms (hashes_in lists) lists.second.policies table.second
+    → AreKinds table → AreAlike lists table
+kinds_alike atoms lists table first second are = λ one other one_listed other_listed kinds.
+    let kind = some_is (slice_get table.kinds (number one)) (are.there one one_listed) in
+    let same = are.same (number one) (number other) kind.0 kind.1 (sym kinds ∙ kind.1) in (
+      alike atoms (hashes_in lists) lists.first.policies table.first first one other one_listed other_listed same.0,
+      alike atoms (hashes_in lists) lists.second.policies table.second second one other one_listed other_listed same.1,
+    )
 
--- pairs of one policy whose shapes have one place are told the same
-pub said_the_same : (lists : Lists) (table : FormulaTable) → IsTableOf lists table → (one other : Pair) → IsTrue (is_shape one.shape) → IsTrue (is_shape other.shape)
-    → one.policy ≡ other.policy → slice_get table.places (number one.shape) ≡ slice_get table.places (number other.shape) → sayings_for lists one ≡ sayings_for lists other
-said_the_same lists table is one other one_listed other_listed policies places =
-    let f = found lists table is one.shape one_listed in
-    let first = map (sentence_at f.formulas.atoms) f.formulas.first in
-    let second = map (sentence_at f.formulas.atoms) f.formulas.second in
-    sym (said_at lists table is one one_listed f.place f.formulas f.placed f.there)
-    ∙ ap (λ n. says lists n first second) policies
-    ∙ said_at lists table is other other_listed f.place f.formulas (sym places ∙ f.placed) f.there
+-- by the answers the same is told as by the definition
+pub told : (asked : Asked) (walker : Position) → Fits asked walker → (pair : Pair) (tree : Tree) → IsFor pair tree
+    → (n : Node) → TellTheSame (rule_by walker.atoms asked tree) (rule_for (lists_of asked) pair) n
+told asked walker fit pair tree for (node.Split atom) ls = refl
+told asked walker fit pair tree for (node.Blocked policy) ls =
+    ap (λ (shape : ℕ). is_enforced (slice_get asked.first.now.policies policy) && is_surely false (known walker.atoms ls asked.table.first policy shape)) (sym for.shape)
+    ∙ policy_known walker.atoms (hashes_in (lists_of asked)) asked.first.now.policies asked.table.first fit.first false pair.shape for.listed ls policy
+told asked walker fit pair tree for node.Met ls =
+    let by = λ (shape policy : ℕ). is_enforced (slice_get asked.second.now.policies policy) && is_surely true (known walker.atoms ls asked.table.second policy shape) in
+    ap (λ (shape : ℕ). by shape tree.policy) (sym for.shape)
+    ∙ ap (by (number pair.shape)) (sym for.policy)
+    ∙ policy_known walker.atoms (hashes_in (lists_of asked)) asked.second.now.policies asked.table.second fit.second true pair.shape for.listed ls pair.policy
 
--- the valuations
+-- Pairs whose shapes are of one kind
 
-pub as_many : (room : ℕ) (kinds : List PlacedFormulas) (valuations : List Assignment) → map at_root valuations ≡ map (unused room) kinds → length valuations ≡ length kinds
-as_many room kinds valuations fit = sym (length-map valuations at_root) ∙ ap length fit ∙ length-map kinds (unused room)
+policy_alike : (expected : Bool) (hashes : List Hash) (one other : Shape) (policies : List Policy) → SayTheSame hashes one other policies
+    → (ls : List Literal) (n : ℕ) → policy_is expected hashes one ls (slice_get policies n) ≡ policy_is expected hashes other ls (slice_get policies n)
+policy_alike expected hashes one other policies same ls n = by (slice_get policies n) refl where
+  by : (o : Option Policy) → slice_get policies n ≡ o → policy_is expected hashes one ls o ≡ policy_is expected hashes other ls o
+  by None at = refl
+  by (Some policy) at =
+      ap (λ (o : Option Bool). is_enforce policy.disposition && is_surely expected o)
+      (all_at (λ (p : Policy). (ls : List Literal) → surely ls (policy_sentence p one hashes) ≡ surely ls (policy_sentence p other hashes)) policies n policy same at ls)
 
-pub valuation_at : (room : ℕ) (kinds : List PlacedFormulas) (valuations : List Assignment) → map at_root valuations ≡ map (unused room) kinds
-    → (place : ℕ) (formulas : PlacedFormulas) (v : Assignment) → place < length kinds → formulas ≡ get_or kinds place formulas → v ≡ get_or valuations place v → at_root v ≡ unused room formulas
-valuation_at room kinds valuations fit place formulas v inside is v_is =
-    let within : place < length valuations = omega (arith, as_many room kinds valuations fit) in
-    ap at_root v_is ∙ sym (get_or-map at_root valuations place v (at_root v) within) ∙ ap (λ vs. get_or vs place (at_root v)) fit
-    ∙ get_or-map (unused room) kinds place formulas (at_root v) inside ∙ ap (unused room) (sym is)
+module _ (lists : Lists) (table : AnswerTable) (alike : AreAlike lists table) (one other : Pair) (one_listed : IsTrue (is_shape one.shape)) (other_listed : IsTrue (is_shape other.shape))
+    (kinds : slice_get table.kinds (number one.shape) ≡ slice_get table.kinds (number other.shape)) where
+  -- of one policy are told the same
+  pub told_alike : one.policy ≡ other.policy → (n : Node) → TellTheSame (rule_for lists one) (rule_for lists other) n
+  told_alike policies (node.Split atom) ls = refl
+  told_alike policies (node.Blocked policy) ls =
+      policy_alike false (hashes_in lists) one.shape other.shape lists.first.policies (alike one.shape other.shape one_listed other_listed kinds).0 ls policy
+  told_alike policies node.Met ls =
+      policy_alike true (hashes_in lists) one.shape other.shape lists.second.policies (alike one.shape other.shape one_listed other_listed kinds).1 ls one.policy
+      ∙ ap (λ (n : ℕ). policy_is true (hashes_in lists) other.shape ls (slice_get lists.second.policies n)) policies
 
-pub valuation_of : (room : ℕ) (kinds : List PlacedFormulas) (valuations : List Assignment) → map at_root valuations ≡ map (unused room) kinds
-    → (place : ℕ) (formulas : PlacedFormulas) (v : Assignment) → slice_get kinds place ≡ Some formulas → v ≡ get_or valuations place v → at_root v ≡ unused room formulas
-valuation_of room kinds valuations fit place formulas v there v_is =
-    valuation_at room kinds valuations fit place formulas v (slice_get_within kinds place formulas there) (sym (get_or_from_slice_get kinds place formulas formulas there)) v_is
+  told_unmet : (n : Node) → is_unmet n ≡ true → TellTheSame (rule_for lists one) (rule_for lists other) n
+  told_unmet (node.Split atom) unmet ls = refl
+  told_unmet (node.Blocked policy) unmet ls =
+      policy_alike false (hashes_in lists) one.shape other.shape lists.first.policies (alike one.shape other.shape one_listed other_listed kinds).0 ls policy
+  told_unmet node.Met unmet ls = cc unmet
 
-pub kept : {X Y : Type 0} (f : X → Y) (xs : List X) (i : ℕ) (v x : X) → i < length xs → f v ≡ f (get_or xs i x) → map f (slice_set xs i v) ≡ map f xs
-kept f [] i v x inside same = absurd (omega arith)
-kept f (y ∷ xs) zero v x inside same = ap (λ z. z ∷ map f xs) same
-kept f (y ∷ xs) (suc i) v x inside same = ap (λ zs. f y ∷ zs) (kept f xs i v x (omega arith) same)
-
-pub unused_at_root : (room : ℕ) (kinds : List PlacedFormulas) → map at_root (map (unused room) kinds) ≡ map (unused room) kinds
-unused_at_root room [] = refl
-unused_at_root room (formulas ∷ kinds) = ap (λ (vs : List Assignment). unused room formulas ∷ vs) (unused_at_root room kinds)
+  -- and where no node is met, of any policies
+  pub unmet_alike : (nodes : List Node) → list_all is_unmet nodes ≡ true → All (TellTheSame (rule_for lists one) (rule_for lists other)) nodes
+  unmet_alike [] unmet = All-nil (TellTheSame (rule_for lists one) (rule_for lists other))
+  unmet_alike (n ∷ nodes) unmet =
+      let both = and_parts (is_unmet n) (list_all is_unmet nodes) unmet in
+      All-cons (TellTheSame (rule_for lists one) (rule_for lists other)) n nodes (told_unmet n both.0) (unmet_alike nodes both.1)

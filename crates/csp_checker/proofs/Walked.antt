@@ -1,5 +1,5 @@
 -- Nodes that keep the rules of an earlier tree's pair keep those of this tree's, where both ask the same.
-use Rattle.std.proofs.Common.{refl, ◌≡◌, ◌∙◌, sym, ap, ℕ, ◌+◌, ◌<◌, Bool, true, false, List}
+use Rattle.std.proofs.Common.{refl, ◌≡◌, ◌∙◌, sym, ap, ℕ, ◌+◌, ◌<◌, Bool, true, false, List, get_or}
 use Rattle.std.specs.Prelude.{Option, Some, None, IsTrue, slice_get}
 use Rattle.std.specs.List.{list_all}
 use Rattle.std.specs.Option.{option_map}
@@ -14,8 +14,8 @@ use Rattle.csp_proof.specs.declared.proof.Tree.{Tree}
 use Rattle.csp_checker.specs.Asked.{IsAsked, IsFor, IsReached, KeepsFor, bad_in, due, lists_of, trees_of}
 use Rattle.csp_checker.specs.declared.asked.Asked.{Asked}
 use Rattle.csp_checker.proofs.Judged.{pair_listed, pre_for, shares_nodes}
-use Rattle.csp_checker.proofs.Lines.{said_alike, walked_alike, none_at_all}
-use Rattle.csp_checker.proofs.Tables.{said_the_same, walk_for_any}
+use Rattle.csp_checker.proofs.Lines.{judged_alike, none_at_all}
+use Rattle.csp_checker.proofs.Tables.{told_alike, unmet_alike}
 use Rattle.csp_checker.proofs.Whole.{KeptBy, kept_by, parts_of, passes}
 use Rattle.csp_checker.specs.Walk.{is_unmet, is_unmet_below}
 
@@ -50,42 +50,42 @@ unmet_nodes asked is n owner nodes there has any =
 alike : (asked : Asked) → IsAsked asked → (for_any : Bool) (n : ℕ) (owner : Tree) (nodes : List Node) → slice_get (trees_of asked) n ≡ Some owner
     → owner.body ≡ body.Nodes nodes → (for_any ≡ true → slice_get asked.unmet.items n ≡ Some true)
     → (one other : Pair) → IsTrue (is_shape one.shape) → IsTrue (is_shape other.shape) → (for_any ≡ false → one.policy ≡ other.policy)
-    → slice_get asked.table.places (number one.shape) ≡ slice_get asked.table.places (number other.shape)
+    → slice_get asked.table.kinds (number one.shape) ≡ slice_get asked.table.kinds (number other.shape)
     → bad_tree (lists_of asked) one 0 (cases_in nodes) ≡ bad_tree (lists_of asked) other 0 (cases_in nodes)
-alike asked is true n owner nodes there has any one other one_listed other_listed policies places =
-    walked_alike (lists_of asked) one other nodes (pre_for asked is n owner nodes there has)
-    (walk_for_any (lists_of asked) asked.table is.table one other one_listed other_listed places nodes (unmet_nodes asked is n owner nodes there has (any refl)))
-alike asked is false n owner nodes there has any one other one_listed other_listed policies places =
-    said_alike (lists_of asked) one other nodes (pre_for asked is n owner nodes there has)
-    (said_the_same (lists_of asked) asked.table is.table one other one_listed other_listed (policies refl) places)
+alike asked is true n owner nodes there has any one other one_listed other_listed policies kinds =
+    judged_alike (lists_of asked) one other nodes (pre_for asked is n owner nodes there has)
+    (unmet_alike (lists_of asked) asked.table is.alike one other one_listed other_listed kinds nodes (unmet_nodes asked is n owner nodes there has (any refl)))
+alike asked is false n owner nodes there has any one other one_listed other_listed policies kinds =
+    judged_alike (lists_of asked) one other nodes (pre_for asked is n owner nodes there has)
+    (λ i d inside. told_alike (lists_of asked) asked.table is.alike one other one_listed other_listed kinds (policies refl) (get_or nodes i d))
 
 -- what is kept for an earlier tree's pair is kept for this one's, where both trees ask the same
 passed_on : (asked : Asked) → IsAsked asked → (for_any : Bool) (tree earlier : Tree) (n : ℕ) (owner : Tree) (nodes : List Node)
     → slice_get (trees_of asked) n ≡ Some owner → owner.body ≡ body.Nodes nodes → (for_any ≡ true → slice_get asked.unmet.items n ≡ Some true)
-    → (for_any ≡ false → tree.policy ≡ earlier.policy) → slice_get asked.table.places tree.shape ≡ slice_get asked.table.places earlier.shape
+    → (for_any ≡ false → tree.policy ≡ earlier.policy) → slice_get asked.table.kinds tree.shape ≡ slice_get asked.table.kinds earlier.shape
     → KeptBy (lists_of asked) earlier nodes → (pair : Pair) → IsFor pair tree → bad_tree (lists_of asked) pair 0 (cases_in nodes) ≡ None
-passed_on asked is for_any tree earlier n owner nodes there has any policies places own pair for =
+passed_on asked is for_any tree earlier n owner nodes there has any policies kinds own pair for =
     sym (alike asked is for_any n owner nodes there has any own.pair pair own.is.listed for.listed
     (λ one. own.is.policy ∙ sym (policies one) ∙ sym for.policy)
-    (ap (slice_get asked.table.places) own.is.shape ∙ sym places ∙ sym (ap (slice_get asked.table.places) for.shape)))
+    (ap (slice_get asked.table.kinds) own.is.shape ∙ sym kinds ∙ sym (ap (slice_get asked.table.kinds) for.shape)))
     ∙ own.keeps
 
 -- nodes of a tree before this one
 pub owned_good : (asked : Asked) → IsAsked asked → (for_any : Bool) (count : ℕ) (tree : Tree) → IsReached asked count tree
     → (n : ℕ) (owner : Tree) (nodes : List Node) → n < count → slice_get (trees_of asked) n ≡ Some owner → owner.body ≡ body.Nodes nodes
     → (for_any ≡ true → slice_get asked.unmet.items n ≡ Some true)
-    → (for_any ≡ false → tree.policy ≡ owner.policy) → slice_get asked.table.places tree.shape ≡ slice_get asked.table.places owner.shape
+    → (for_any ≡ false → tree.policy ≡ owner.policy) → slice_get asked.table.kinds tree.shape ≡ slice_get asked.table.kinds owner.shape
     → (pair : Pair) → IsFor pair tree → bad_tree (lists_of asked) pair 0 (cases_in nodes) ≡ None
-owned_good asked is for_any count tree reached n owner nodes before there has any policies places =
-    passed_on asked is for_any tree owner n owner nodes there has any policies places
+owned_good asked is for_any count tree reached n owner nodes before there has any policies kinds =
+    passed_on asked is for_any tree owner n owner nodes there has any policies kinds
     (kept_by (lists_of asked) (trees_of asked) (slice_get (due asked.second.now) n) owner nodes (pair_listed asked n) has (reached.before n owner before there))
 
 -- nodes that a tree before this one shares
 pub walked_good : (asked : Asked) → IsAsked asked → (for_any : Bool) (count : ℕ) (tree : Tree) → IsReached asked count tree
     → (k : ℕ) (earlier : Tree) (n : ℕ) → k < count → slice_get (trees_of asked) k ≡ Some earlier → earlier.body ≡ body.Same n
     → (for_any ≡ true → slice_get asked.unmet.items n ≡ Some true)
-    → (for_any ≡ false → tree.policy ≡ earlier.policy) → slice_get asked.table.places tree.shape ≡ slice_get asked.table.places earlier.shape
+    → (for_any ≡ false → tree.policy ≡ earlier.policy) → slice_get asked.table.kinds tree.shape ≡ slice_get asked.table.kinds earlier.shape
     → KeepsFor asked tree n
-walked_good asked is for_any count tree reached k earlier n before placed shares any policies places = λ owner nodes there has.
-    passed_on asked is for_any tree earlier n owner nodes there has any policies places
+walked_good asked is for_any count tree reached k earlier n before placed shares any policies kinds = λ owner nodes there has.
+    passed_on asked is for_any tree earlier n owner nodes there has any policies kinds
     (kept_shared (lists_of asked) (trees_of asked) (slice_get (due asked.second.now) k) earlier n owner nodes (pair_listed asked k) shares there has (reached.before k earlier before placed))

@@ -53,10 +53,6 @@ pub pairs_left : (lists : Lists) (all : List Tree) (last : ℕ) (ps : List Pair)
 pairs_left lists all last ps ts k past inside =
     ap (bad_from lists all last (drop k ps)) (drop_of_length-le ts past) ∙ no_trees lists all last ps k inside
 
-pub none_left : (lists : Lists) (all : List Tree) (last : ℕ) (ps : List Pair) (ts : List Tree) (k : ℕ) → length ts ≤ k → length ps ≤ k → bad_from lists all last (drop k ps) (drop k ts) ≡ None
-none_left lists all last ps ts k past few =
-    ap (bad_from lists all last (drop k ps)) (drop_of_length-le ts past) ∙ ap (λ (qs : List Pair). bad_from lists all last qs []) (drop_of_length-le ps few)
-
 -- whether a tree is for a pair
 
 pub for_it : (pair : Pair) (tree : Tree) (below : Option ℕ) → number pair.shape ≡ tree.shape → pair.policy ≡ tree.policy → for_pair (is_for pair tree) tree below ≡ below

@@ -1,20 +1,22 @@
 -- What a checker knows of its claim before it walks, and what it keeps on the way.
-use Rattle.std.specs.Prelude.{◌≡◌, ℕ, ◌+◌, ◌≤◌, ◌<◌, ◌^◌, ◌&&◌, nat_eq, Bool, List, [], map, Option, Some, None, MatchOption, IsTrue, All, slice_get}
+use Rattle.std.specs.Prelude.{◌≡◌, ℕ, ◌+◌, ◌<◌, ◌^◌, ◌&&◌, nat_eq, Bool, List, map, Option, Some, None, IsTrue, All, slice_get}
+use Rattle.csp_model.specs.declared.policy.Policy.{Policy}
 use Rattle.csp_model.specs.declared.policy.PolicyList.{PolicyList}
+use Rattle.csp_model.specs.declared.source.Hash.{Hash}
 use Rattle.csp_shape.specs.Numbers.{number}
 use Rattle.csp_shape.specs.Shapes.{is_shape}
 use Rattle.csp_shape.specs.declared.shape.Shape.{Shape}
+use Rattle.csp_formula.specs.Compiled.{policy_sentence}
+use Rattle.csp_answer.specs.Answers.{SaysTheSame}
+use Rattle.csp_answer.specs.Tables.{AreAnswers}
+use Rattle.csp_answer.specs.declared.table.AnswerTable.{AnswerTable}
 use Rattle.csp_proof.specs.Accepts.{Lists, hashes_in, is_for, for_pair, bad_body, bad_from, bad_tree, cases_in}
 use Rattle.csp_proof.specs.Pairs.{Pair, pairs}
 use Rattle.csp_proof.specs.WellFormed.{IsWellFormed}
 use Rattle.csp_proof.specs.declared.proof.Body.TheVariants as body
 use Rattle.csp_proof.specs.declared.proof.Node.{Node}
 use Rattle.csp_proof.specs.declared.proof.Tree.{Tree}
-use Rattle.csp_table.specs.Tables.{AreAt, formulas_at}
-use Rattle.csp_table.specs.declared.table.FormulaTable.{FormulaTable}
-use Rattle.csp_valuation.specs.Valuations.{Assignment}
-use Rattle.csp_placed.specs.declared.placing.PlacedFormulas.{PlacedFormulas}
-use Rattle.csp_checker.specs.Walk.{splits_below, is_unmet_below, at_root}
+use Rattle.csp_checker.specs.Walk.{Position, Takes, atoms_below, is_unmet_below}
 use Rattle.csp_checker.specs.declared.asked.Asked.{Asked}
 use Rattle.csp_checker.specs.declared.asked.NumberedPair.{NumberedPair}
 
@@ -32,27 +34,33 @@ lists_of asked = record { first = asked.first.now; second = asked.second.now }
 abbrev pub trees_of : Asked → List Tree
 trees_of asked = asked.proof.now.trees
 
--- the table has what the policies of both lists say of each shape
-abbrev pub IsTableOf : Lists → FormulaTable → Type 0
-IsTableOf lists table = (kind : Shape) → IsTrue (is_shape kind)
-    → MatchOption (formulas_at table kind) ⊥ (AreAt (hashes_in lists) lists.first lists.second kind)
+-- whatever literals there are, they decide the same of what each of these policies says of both shapes
+abbrev pub SayTheSame : List Hash → Shape → Shape → List Policy → Type 0
+SayTheSame hashes one other policies =
+    All (λ (p : Policy). SaysTheSame (policy_sentence p one hashes) (policy_sentence p other hashes)) policies
+
+-- at shapes of one kind each policy says the same
+abbrev pub AreAlike : Lists → AnswerTable → Type 0
+AreAlike lists table = (one other : Shape) → IsTrue (is_shape one) → IsTrue (is_shape other)
+    → slice_get table.kinds (number one) ≡ slice_get table.kinds (number other)
+    → SayTheSame (hashes_in lists) one other lists.first.policies
+    × SayTheSame (hashes_in lists) one other lists.second.policies
 
 -- everything that is kept beside the claim belongs to it
 pub record IsAsked (asked : Asked) : Type 0 where
   pub formed : IsWellFormed asked.proof.now
   pub lines : asked.proof.now.last_line < 2 ^ 128
-  pub table : IsTableOf (lists_of asked) asked.table
+  pub alike : AreAlike (lists_of asked) asked.table
   pub pairs : asked.pairs.items ≡ map numbered (due asked.second.now)
-  pub room : All (λ (tree : Tree). splits_below tree.body ≤ asked.room) (trees_of asked)
   pub unmet : asked.unmet.items ≡ map (λ (tree : Tree). is_unmet_below tree.body) (trees_of asked)
 
--- the valuation of the atoms of these formulas, at the root
-abbrev pub unused : ℕ → PlacedFormulas → Assignment
-unused room formulas = record { atoms = formulas.atoms; literals = []; room = room }
-
--- one valuation for each kind of formulas, wherever its path has come to
-abbrev pub AreFor : Asked → List Assignment → Type 0
-AreFor asked valuations = map at_root valuations ≡ map (unused asked.room) asked.table.kinds
+-- the walker is one for the trees, wherever it stands: the table answers by its names, and it can take the
+-- splits of each tree
+pub record Fits (asked : Asked) (walker : Position) : Type 0 where
+  pub first : AreAnswers walker.atoms (hashes_in (lists_of asked)) asked.first.now.policies asked.table.first
+  pub second : AreAnswers walker.atoms (hashes_in (lists_of asked)) asked.second.now.policies
+      asked.table.second
+  pub trees : All (λ (tree : Tree). Takes walker (atoms_below tree.body)) (trees_of asked)
 
 -- the tree is for the pair of these numbers
 abbrev pub numbers_fit : NumberedPair → Tree → Bool

@@ -1,54 +1,51 @@
--- What the leaves of a tree are judged by: the policies of both lists, and what they say of a shape.
-use Rattle.std.specs.Prelude.{◌&&◌, Bool, true, false, List, Option, Some, None, map, slice_get}
+-- The rules of leaves: by the definition, and by the answers of a table.
+use Rattle.std.specs.Prelude.{ℕ, ◌&&◌, Bool, true, false, List, Option, Some, None, IfSome, slice_get}
+use Rattle.std.specs.Option.{option_and_then}
 use Rattle.csp_model.specs.Verdict.{is_enforce}
 use Rattle.csp_model.specs.declared.policy.Policy.{Policy}
 use Rattle.csp_atom.specs.declared.atom.Atom.{Atom}
 use Rattle.csp_atom.specs.declared.atom.Literal.{Literal}
-use Rattle.csp_formula.specs.Sentences.{Sentence}
 use Rattle.csp_formula.specs.Surely.{surely}
-use Rattle.csp_proof.specs.Accepts.{Lists, hashes_in, is_surely}
+use Rattle.csp_answer.specs.Answers.{IsAnswer, sentence_in}
+use Rattle.csp_answer.specs.Tables.{answer_of}
+use Rattle.csp_answer.specs.declared.answer.Answer.{Answer}
+use Rattle.csp_answer.specs.declared.policy.PolicyAnswers.{PolicyAnswers}
+use Rattle.csp_proof.specs.Accepts.{Lists, blocks, is_met, is_surely}
 use Rattle.csp_proof.specs.Pairs.{Pair}
 use Rattle.csp_proof.specs.declared.proof.Node.{Node}
 use Rattle.csp_proof.specs.declared.proof.Node.TheVariants as node
-use Rattle.csp_table.specs.Tables.{said_of}
-use Rattle.csp_placed.specs.Placed.{sentence_at}
-use Rattle.csp_checker.specs.declared.leaf.Judge.{Judge}
+use Rattle.csp_proof.specs.declared.proof.Tree.{Tree}
+use Rattle.csp_checker.specs.declared.asked.Asked.{Asked}
 
--- the policies of the first list and what each says, and the same of one policy of the second
-pub record Sayings : Type 0 where
-  pub first : List Policy
-  pub said : List Sentence
-  pub policy : Option Policy
-  pub promised : Option Sentence
+-- By the definition, for a pair. A split has no rule to keep.
 
--- an enforced policy that says this surely has this value
-abbrev pub says_surely : Bool → List Literal → Option Policy → Option Sentence → Bool
-says_surely expected literals (Some policy) (Some sentence) =
-    is_enforce policy.disposition && is_surely expected (surely literals sentence)
-says_surely expected literals (Some policy) None = false
-says_surely expected literals None sentence = false
+abbrev pub rule_for : Lists → Pair → List Literal → Node → Bool
+rule_for lists pair literals (node.Split atom) = true
+rule_for lists pair literals (node.Blocked policy) = blocks lists pair literals policy
+rule_for lists pair literals node.Met = is_met lists pair literals
 
--- a leaf keeps its rule; a split has none
-abbrev pub keeps_rule : Sayings → List Literal → Node → Bool
-keeps_rule sayings literals (node.Split atom) = true
-keeps_rule sayings literals (node.Blocked policy) =
-    says_surely false literals (slice_get sayings.first policy) (slice_get sayings.said policy)
-keeps_rule sayings literals node.Met = says_surely true literals sayings.policy sayings.promised
+-- By answers over the names of these atoms, for a tree
 
--- by formulas over the places of these atoms
-abbrev pub sayings_at : List Atom → Judge → Sayings
-sayings_at atoms judge = record {
-  first = judge.first.now.policies;
-  said = map (sentence_at atoms) judge.formulas.now.first;
-  policy = slice_get judge.second.now.policies judge.policy;
-  promised = slice_get (map (sentence_at atoms) judge.formulas.now.second) judge.policy;
-}
+-- there is a policy, which is enforced
+abbrev pub is_enforced : Option Policy → Bool
+is_enforced (Some policy) = is_enforce policy.disposition
+is_enforced None = false
 
--- by the definition, for a pair
-abbrev pub sayings_for : Lists → Pair → Sayings
-sayings_for lists pair = record {
-  first = lists.first.policies;
-  said = said_of (hashes_in lists) pair.shape lists.first;
-  policy = slice_get lists.second.policies pair.policy;
-  promised = slice_get (said_of (hashes_in lists) pair.shape lists.second) pair.policy;
-}
+-- what is decided of what the policy of this number answers at the shape of that number
+abbrev pub known : List Atom → List Literal → List PolicyAnswers → ℕ → ℕ → Option Bool
+known atoms literals answers policy shape =
+    option_and_then (λ (answer : Answer). surely literals (sentence_in atoms answer))
+    (answer_of answers policy shape)
+
+abbrev pub rule_by : List Atom → Asked → Tree → List Literal → Node → Bool
+rule_by atoms asked tree literals (node.Split atom) = true
+rule_by atoms asked tree literals (node.Blocked policy) =
+    is_enforced (slice_get asked.first.now.policies policy)
+    && is_surely false (known atoms literals asked.table.first policy tree.shape)
+rule_by atoms asked tree literals node.Met =
+    is_enforced (slice_get asked.second.now.policies tree.policy)
+    && is_surely true (known atoms literals asked.table.second tree.policy tree.shape)
+
+-- each policy that answers at the shape of this number answers by so many names
+abbrev pub AnswerAt : ℕ → ℕ → List PolicyAnswers → Type 0
+AnswerAt count shape answers = (policy : ℕ) → IfSome (answer_of answers policy shape) (IsAnswer count)

@@ -1,6 +1,6 @@
 -- The walk over the nodes of a tree, by the cases that are still to come.
 use Rattle.std.specs.List.{list_all}
-use Rattle.std.specs.Prelude.{ℕ, ◌+◌, Bool, true, false, List, [], ◌∷◌, ◌++◌, Option, Some, None}
+use Rattle.std.specs.Prelude.{ℕ, ◌+◌, ◌≤◌, Bool, true, false, List, [], ◌∷◌, ◌++◌, length, Option, Some, None, All, Contains}
 use Rattle.csp_atom.specs.declared.atom.Atom.{Atom}
 use Rattle.csp_atom.specs.declared.atom.Literal.{Literal}
 use Rattle.csp_proof.specs.Accepts.{literal}
@@ -8,23 +8,21 @@ use Rattle.csp_proof.specs.declared.proof.Body.{Body}
 use Rattle.csp_proof.specs.declared.proof.Body.TheVariants as body
 use Rattle.csp_proof.specs.declared.proof.Node.{Node}
 use Rattle.csp_proof.specs.declared.proof.Node.TheVariants as node
-use Rattle.csp_valuation.specs.Valuations.{Assignment}
-use Rattle.csp_checker.specs.Leaves.{Sayings, keeps_rule}
 
 -- the literals, and one more at their end
 abbrev pub with : List Literal → Atom → Bool → List Literal
 with literals atom positive = literals ++ literal atom positive ∷ []
 
--- how many splits there are
-abbrev pub splits : List Node → ℕ
-splits [] = 0
-splits (node.Split atom ∷ nodes) = splits nodes + 1
-splits (node.Blocked policy ∷ nodes) = splits nodes
-splits (node.Met ∷ nodes) = splits nodes
+-- the atoms of the splits, in order
+abbrev pub atoms_of : List Node → List Atom
+atoms_of [] = []
+atoms_of (node.Split atom ∷ nodes) = atom ∷ atoms_of nodes
+atoms_of (node.Blocked policy ∷ nodes) = atoms_of nodes
+atoms_of (node.Met ∷ nodes) = atoms_of nodes
 
-abbrev pub splits_below : Body → ℕ
-splits_below (body.Nodes nodes) = splits nodes
-splits_below (body.Same tree) = 0
+abbrev pub atoms_below : Body → List Atom
+atoms_below (body.Nodes nodes) = atoms_of nodes
+atoms_below (body.Same tree) = []
 
 -- no node of a tree is met: what its leaves claim is of no policy of the second list
 abbrev pub is_unmet : Node → Bool
@@ -50,17 +48,29 @@ abbrev pub unless_first : Bool → ℕ → Option ℕ → Option ℕ
 unless_first true place rest = rest
 unless_first false place rest = Some place
 
--- the place of the first node that breaks a rule, where the first node has this place and these cases come
-abbrev pub walk : Sayings → ℕ → List (List Literal) → List Node → Option ℕ
-walk sayings place cases [] = None
-walk sayings place [] (n ∷ nodes) = None
-walk sayings place (ls ∷ cases) (node.Split atom ∷ nodes) =
-    walk sayings (place + 1) (with ls atom true ∷ with ls atom false ∷ cases) nodes
-walk sayings place (ls ∷ cases) (node.Blocked policy ∷ nodes) =
-    unless_first (keeps_rule sayings ls (node.Blocked policy)) place (walk sayings (place + 1) cases nodes)
-walk sayings place (ls ∷ cases) (node.Met ∷ nodes) =
-    unless_first (keeps_rule sayings ls node.Met) place (walk sayings (place + 1) cases nodes)
+-- the place of the first node that breaks a rule, where the first node has this place and these cases come.
+-- The rule tells whether a leaf keeps it where these literals lead to it.
+abbrev pub walk : (List Literal → Node → Bool) → ℕ → List (List Literal) → List Node → Option ℕ
+walk rule place cases [] = None
+walk rule place [] (n ∷ nodes) = None
+walk rule place (ls ∷ cases) (node.Split atom ∷ nodes) =
+    walk rule (place + 1) (with ls atom true ∷ with ls atom false ∷ cases) nodes
+walk rule place (ls ∷ cases) (node.Blocked policy ∷ nodes) =
+    unless_first (rule ls (node.Blocked policy)) place (walk rule (place + 1) cases nodes)
+walk rule place (ls ∷ cases) (node.Met ∷ nodes) =
+    unless_first (rule ls node.Met) place (walk rule (place + 1) cases nodes)
 
--- a valuation, back at the root
-abbrev pub at_root : Assignment → Assignment
-at_root valuation = record valuation { literals = [] }
+-- where a walker stands: the atoms by whose names it takes literals, those that lead there, the root's first,
+-- and how many it may take
+pub record Position : Type 0 where
+  pub atoms : List Atom
+  pub literals : List Literal
+  pub room : ℕ
+
+abbrev pub at_root : Position → Position
+at_root position = record position { literals = [] }
+
+-- from the root it can take literals of these atoms: they have names, and there is room
+pub record Takes (walker : Position) (atoms : List Atom) : Type 0 where
+  pub named : All (Contains walker.atoms) atoms
+  pub room : length atoms ≤ walker.room

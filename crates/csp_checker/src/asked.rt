@@ -1,7 +1,7 @@
 //! What a checker knows of its claim before it walks.
+use csp_answer::AnswerTable;
 use csp_model::PolicyList;
 use csp_proof::Proof;
-use csp_table::FormulaTable;
 
 // A shape, and an enforced policy of the second list, by their numbers.
 #[derive(Clone, Copy, Debug)]
@@ -16,12 +16,10 @@ pub(crate) struct Asked<'a> {
     pub first: &'a PolicyList,
     pub second: &'a PolicyList,
     pub proof: &'a Proof,
-    // The formulas of both lists at each shape.
-    pub table: FormulaTable,
+    // What the policies of both lists answer at each shape.
+    pub table: AnswerTable,
     // The pairs that the trees have to be for, in order.
     pub pairs: Vec<NumberedPair>,
-    // No tree has more splits.
-    pub room: usize,
     // For each tree whether it has nodes of its own, of which none is met: they are for any policy.
     pub unmet: Vec<bool>,
 }

@@ -1,30 +1,26 @@
 //! What was judged before: nodes that need no second walk.
-ghost use Rattle.std.specs.Prelude.{◌≡◌, ◌<◌, IsTrue, Some, false, length, slice_get, true};
+ghost use Rattle.std.specs.Prelude.{◌≡◌, IsTrue, Some, false, slice_get, true};
 ghost use Rattle.csp_proof.specs.declared.proof.Body.TheVariants.{Same};
 ghost use Rattle.csp_checker.specs.Asked.{IsAsked, IsReached, KeepsFor};
 
 use crate::asked::Asked;
+use csp_answer::AnswerTable;
 use csp_proof::{Body, Tree};
-use csp_table::FormulaTable;
 
-// Whether both trees are for shapes of the same formulas, and for one policy unless it doesn't matter.
-pub(crate) fn asks_the_same(table: &FormulaTable, one: &Tree, other: &Tree, for_any: bool) -> bool
-    requires one { one.now.shape < length table.now.places }
-    requires other { other.now.shape < length table.now.places }
+// Whether both trees are for shapes of one kind, and for one policy unless it doesn't matter.
+pub(crate) fn asks_the_same(table: &AnswerTable, one: &Tree, other: &Tree, for_any: bool) -> bool
     ensures policy { IsTrue result → for_any ≡ false → one.now.policy ≡ other.now.policy }
-    ensures formulas { IsTrue result
-        → slice_get table.now.places one.now.shape ≡ slice_get table.now.places other.now.shape }
+    ensures kinds { IsTrue result
+        → slice_get table.now.kinds one.now.shape ≡ slice_get table.now.kinds other.now.shape }
 {
     let fits = for_any || one.policy == other.policy;
-    fits && place_of(table, one.shape) == place_of(table, other.shape)
+    fits && kind_of(table, one.shape) == kind_of(table, other.shape)
 }
 
-// The place of the formulas of a shape.
-pub(crate) fn place_of(table: &FormulaTable, shape: u8) -> usize
-    requires { shape < length table.now.places }
-    ensures { slice_get table.now.places shape ≡ Some result }
+fn kind_of(table: &AnswerTable, shape: u8) -> Option<usize>
+    ensures { result ≡ slice_get table.now.kinds shape }
 {
-    table.places.as_slice()[shape as usize]
+    table.kinds.get(shape as usize).copied()
 }
 
 // Whether a tree has the nodes of the tree of this number.

@@ -7,14 +7,15 @@ ghost use Rattle.csp_proof.specs.WellFormed.{IsWellFormed};
 ghost use Rattle.csp_checker.specs.Checked.{Claim};
 
 use crate::asked::Asked;
-use crate::making::{most_splits, pairs_of, unmet_of, valuations_of};
+use crate::making::{pairs_of, splits_of, unmet_of};
 use crate::trees::first_bad_line;
+use crate::walker::Walker;
+use csp_answer::{NamedAnswers, answers_of};
 use csp_atom::vocabulary_of;
 use csp_model::{Memory, PolicyList};
 use csp_proof::Proof;
 use csp_proof::laws::what_is_accepted_is_so;
-use csp_table::FormulaTable;
-use csp_valuation::Valuation;
+use csp_source::laws::each_token_has_one_source;
 use std::alloc::Global;
 use std::marker::Model;
 
@@ -26,16 +27,15 @@ pub struct Rejected {
 }
 
 /// A checker of one proof that a list of policies is at least as strict as another.
-#[derive(Debug, Drop)]
+#[derive(Drop)]
 pub struct Checker<'a> {
     asked: Asked<'a>,
-    // For each kind of formulas in the table.
-    valuations: Vec<Valuation<'a>>,
+    walker: Walker,
 }
 
 impl<'a> Model for Checker<'a> {
     ghost use Rattle.csp_model.specs.Policies.{IsReadable};
-    ghost use Rattle.csp_checker.specs.Asked.{AreFor, IsAsked};
+    ghost use Rattle.csp_checker.specs.Asked.{Fits, IsAsked};
     ghost use Rattle.csp_checker.specs.Checked.{Claim};
 
     ghost Value = { Claim };
@@ -47,7 +47,7 @@ impl<'a> Model for Checker<'a> {
     } };
 
     ghost invariant = { λ c. IsReadable c.asked.first.now × IsReadable c.asked.second.now
-        × IsAsked c.asked × AreFor c.asked c.valuations.items };
+        × IsAsked c.asked × Fits c.asked c.walker };
 }
 
 impl<'a> Checker<'a> {
@@ -64,23 +64,28 @@ impl<'a> Checker<'a> {
         ensures { IfOk result (λ checker. checker
             ≡ record { first = first.now; second = second.now; proof = proof.now }) }
     {
+        each_token_has_one_source();
+        let trees = proof.trees.as_slice();
         let vocabulary = vocabulary_of(alloc, first, second)?;
-        let table = FormulaTable::new(alloc, first, second, &vocabulary)?;
-        let pairs = pairs_of(alloc, second)?;
+        let splits = splits_of(alloc, trees)?;
+        let NamedAnswers { names, table } = answers_of(
+            alloc,
+            first,
+            second,
+            &vocabulary,
+            &splits.atoms,
+        )?;
         let _last_line = proof.last_line;
-        let room = most_splits(proof.trees.as_slice());
-        let unmet = unmet_of(alloc, proof.trees.as_slice())?;
-        let valuations = valuations_of(alloc, table.kinds.as_slice(), room)?;
         let asked = Asked {
             first,
             second,
             proof,
             table,
-            pairs,
-            room,
-            unmet,
+            pairs: pairs_of(alloc, second)?,
+            unmet: unmet_of(alloc, trees)?,
         };
-        Ok(Checker { asked, valuations })
+        let walker = Walker::new(alloc, names, splits.most)?;
+        Ok(Checker { asked, walker })
     }
 
     /// Whether the proof keeps all rules. Then every valid check that the first list allows the second
@@ -95,7 +100,7 @@ impl<'a> Checker<'a> {
         ensures unchanged { self.new ≡ self.old }
     {
         what_is_accepted_is_so();
-        match first_bad_line(&self.asked, &mut self.valuations) {
+        match first_bad_line(&self.asked, &mut self.walker) {
             Some(line) => Err(Rejected { line }),
             None => Ok(()),
         }

@@ -6,10 +6,10 @@
 mod asked;
 mod before;
 mod checker;
-mod hint;
 mod leaf;
 mod making;
 mod trees;
 mod walk;
+mod walker;
 
 pub use checker::{Checker, Rejected};

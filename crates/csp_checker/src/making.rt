@@ -1,19 +1,24 @@
 //! Makes what a checker walks with. All memory is taken here.
-ghost use Rattle.std.specs.Prelude.{◌≡◌, ◌≤◌, ◌++◌, All, IfOk, List as Items, OnOk, length, map};
-ghost use Rattle.std.specs.List.{list_all};
+ghost use Rattle.std.specs.Prelude.{◌≡◌, ◌≤◌, ◌++◌, All, IfOk, OnOk, length, map};
+ghost use Rattle.std.specs.List.{flat_map, list_all};
 ghost use Rattle.csp_model.specs.Policies.{policy_limit};
-ghost use Rattle.csp_proof.specs.Pairs as accepts;
+ghost use Rattle.csp_names.specs.Sorting.{referred};
 ghost use Rattle.csp_proof.specs.declared.proof.Tree.{Tree as TreeValue};
-ghost use Rattle.csp_checker.specs.Asked.{due, numbered, unused};
-ghost use Rattle.csp_checker.specs.Walk.{is_unmet, is_unmet_below, splits_below};
+ghost use Rattle.csp_checker.specs.Asked.{due, numbered};
+ghost use Rattle.csp_checker.specs.Walk.{atoms_below, atoms_of, is_unmet, is_unmet_below};
 
 use crate::asked::NumberedPair;
-use crate::walk::splits;
-use csp_model::{Duplicate, Memory, PolicyList};
-use csp_placed::PlacedFormulas;
+use csp_atom::Atom;
+use csp_model::{Memory, PolicyList};
 use csp_proof::{Body, Node, Tree};
-use csp_valuation::Valuation;
 use std::alloc::Global;
+
+// The atoms of splits, and how many the tree has that has the most.
+#[derive(Drop)]
+pub(crate) struct Splits<'p> {
+    pub(crate) atoms: Vec<&'p Atom>,
+    pub(crate) most: usize,
+}
 
 // Adds the pairs of one shape.
 fn push_pairs(pairs: &mut Vec<NumberedPair>, shape: u8, enforced: &[u32]) -> Result<(), Memory>
@@ -40,33 +45,6 @@ pub(crate) fn pairs_of(alloc: Global, second: &PolicyList) -> Result<Vec<Numbere
         push_pairs(&mut pairs, shape, &enforced)?;
     }
     Ok(pairs)
-}
-
-fn splits_below(body: &Body) -> usize
-    ensures { result ≡ splits_below body.now }
-{
-    match body {
-        Body::Nodes { nodes } => splits(nodes.as_slice()),
-        Body::Same { .. } => 0,
-    }
-}
-
-// No tree has more splits than this.
-pub(crate) fn most_splits(trees: &[Tree]) -> usize
-    ensures { All (λ (tree : TreeValue). splits_below tree.body ≤ result) trees.now }
-{
-    let mut most = 0;
-    for tree in trees {
-        most = greater(most, splits_below(&tree.body));
-    }
-    most
-}
-
-fn greater(one: usize, other: usize) -> usize
-    ensures first { one ≤ result }
-    ensures second { other ≤ result }
-{
-    if one < other { other } else { one }
 }
 
 fn is_unmet(node: &Node) -> bool
@@ -105,18 +83,46 @@ pub(crate) fn unmet_of(alloc: Global, trees: &[Tree]) -> Result<Vec<bool>, Memor
     Ok(unmet)
 }
 
-// A valuation for each kind of formulas, with room for so many literals.
-pub(crate) fn valuations_of<'a>(
-    alloc: Global,
-    kinds: &[PlacedFormulas],
-    room: usize,
-) -> Result<Vec<Valuation<'a>>, Memory>
-    ensures { IfOk result (λ made. made.items ≡ map (unused room) kinds.now) }
+// The atoms of the splits of all trees, and how many the tree has that has the most.
+pub(crate) fn splits_of(alloc: Global, trees: &[Tree]) -> Result<Splits<'_>, Memory>
+    ensures atoms { IfOk result (λ made. referred made.atoms.items
+        ≡ flat_map (λ (tree : TreeValue). atoms_below tree.body) trees.now) }
+    ensures most { IfOk result (λ made.
+        All (λ (tree : TreeValue). length (atoms_below tree.body) ≤ made.most) trees.now) }
 {
-    let mut valuations = Vec::with_capacity(alloc, kinds.len())?;
-    for kind in kinds {
-        let atoms = kind.atoms.copy(alloc)?;
-        valuations.push(Valuation::new(alloc, atoms, room)?)?;
+    let mut atoms = Vec::new(alloc);
+    let mut most = 0;
+    for tree in trees {
+        let before = atoms.len();
+        push_below(&mut atoms, &tree.body)?;
+        most = greater(most, atoms.len() - before);
     }
-    Ok(valuations)
+    Ok(Splits { atoms, most })
+}
+
+fn greater(one: usize, other: usize) -> usize
+    ensures first { one ≤ result }
+    ensures second { other ≤ result }
+{
+    if one < other { other } else { one }
+}
+
+fn push_below<'p>(atoms: &mut Vec<&'p Atom>, body: &'p Body) -> Result<(), Memory>
+    ensures { OnOk result (referred atoms.new.items ≡ referred atoms.old.items ++ atoms_below body.now) }
+{
+    match body {
+        Body::Nodes { nodes } => push_atoms(atoms, nodes.as_slice()),
+        Body::Same { .. } => Ok(()),
+    }
+}
+
+fn push_atoms<'p>(atoms: &mut Vec<&'p Atom>, nodes: &'p [Node]) -> Result<(), Memory>
+    ensures { OnOk result (referred atoms.new.items ≡ referred atoms.old.items ++ atoms_of nodes.now) }
+{
+    for node in nodes {
+        if let Node::Split { atom } = node {
+            atoms.push(atom)?;
+        }
+    }
+    Ok(())
 }

@@ -1,100 +1,59 @@
-//! The walk over the nodes of a tree, by one valuation: its path is the stack of the cases that are to come.
-ghost use Rattle.std.specs.Prelude.{◌≡◌, ◌≤◌, ◌<◌, [], ◌∷◌, length, IfSome, MatchBool};
-ghost use Rattle.csp_checker.specs.Leaves.{sayings_at};
+//! The walk over the nodes of a tree.
+ghost use Rattle.std.specs.Prelude.{◌≡◌, ◌<◌, [], ◌∷◌, IfSome, length};
+ghost use Rattle.csp_shape.specs.Numbers.{shape_count};
+ghost use Rattle.csp_proof.specs.Accepts as accepts;
+ghost use Rattle.csp_proof.specs.Pairs.{Pair};
+ghost use Rattle.csp_proof.specs.WellFormed.{IsPreorder};
+ghost use Rattle.csp_checker.specs.Asked.{Fits, IsFor, lists_of};
+ghost use Rattle.csp_checker.specs.Leaves.{rule_by};
 ghost use Rattle.csp_checker.specs.Walk as spec;
 
-use crate::leaf::{Judge, keeps_rule};
-use csp_proof::Node;
-use csp_valuation::{Glance, Taken, Valuation};
+use crate::asked::Asked;
+use crate::leaf::keeps_rule;
+use crate::walker::Walker;
+use csp_proof::{Node, Tree};
 
-// The place of the first node that breaks a rule, whatever path the valuation has.
-pub(crate) fn first_bad<'a>(
-    judge: Judge,
-    nodes: &'a [Node],
-    valuation: &mut Valuation<'a>,
+// The place among these nodes of the first that breaks a rule of the tree, wherever the walker stands.
+pub(crate) fn first_bad(
+    asked: &Asked,
+    tree: &Tree,
+    nodes: &[Node],
+    walker: &mut Walker,
 ) -> Option<usize>
-    requires room { spec.splits nodes.now ≤ valuation.old.room }
-    ensures bad { result ≡ spec.walk (sayings_at valuation.old.atoms judge.entry) 0 ([] ∷ []) nodes.now }
+    requires fit { Fits asked.now walker.old }
+    requires shape { tree.now.shape < shape_count }
+    requires takes { spec.Takes walker.old (spec.atoms_of nodes.now) }
+    ensures bad { (pair : Pair) → IsFor pair tree.now → IsPreorder nodes.now
+        → result ≡ accepts.bad_tree (lists_of asked.now) pair 0 (accepts.cases_in nodes.now) }
     ensures within { IfSome result (λ place. place < length nodes.now) }
-    ensures kept { spec.at_root valuation.new ≡ spec.at_root valuation.old }
+    ensures fit { Fits asked.now walker.new }
 {
-    go_to_root(valuation);
-    walk(judge, nodes, valuation)
+    walker.go_to_root();
+    walk(asked, tree, nodes, walker)
 }
 
-// A path that was left empty, as by a tree that keeps its rules, costs nothing.
-fn go_to_root(valuation: &mut Valuation)
-    ensures { valuation.new ≡ spec.at_root valuation.old }
-{
-    if !valuation.path().is_empty() {
-        valuation.clear();
-    }
-}
-
-fn walk<'a>(judge: Judge, nodes: &'a [Node], valuation: &mut Valuation<'a>) -> Option<usize>
-    requires root { valuation.old.literals ≡ [] }
-    requires room { spec.splits nodes.now ≤ valuation.old.room }
-    ensures bad { result ≡ spec.walk (sayings_at valuation.old.atoms judge.entry) 0 ([] ∷ []) nodes.now }
+fn walk(asked: &Asked, tree: &Tree, nodes: &[Node], walker: &mut Walker) -> Option<usize>
+    requires root { walker.old.literals ≡ [] }
+    requires fit { Fits asked.now walker.old }
+    requires shape { tree.now.shape < shape_count }
+    requires takes { spec.Takes walker.old (spec.atoms_of nodes.now) }
+    ensures bad { result
+        ≡ spec.walk (rule_by walker.old.atoms asked.now tree.now) 0 ([] ∷ []) nodes.now }
     ensures within { IfSome result (λ place. place < length nodes.now) }
-    ensures atoms { valuation.new.atoms ≡ valuation.old.atoms }
-    ensures space { valuation.new.room ≡ valuation.old.room }
+    ensures kept { spec.at_root walker.new ≡ spec.at_root walker.old }
 {
-    let mut place = 0;
-    let mut from = Glance::default();
-    'nodes: for node in nodes {
+    for (place, node) in nodes.iter().enumerate() {
         match node {
-            Node::Split { atom } => {
-                valuation.take(Taken {
-                    atom,
-                    positive: true,
-                });
-            }
+            Node::Split { atom } => walker.split(atom),
             _ => {
-                if !keeps_rule(judge, node, valuation, &mut from) {
+                if !keeps_rule(asked, tree, node, walker.branch()) {
                     return Some(place);
                 }
-                if !next_case(valuation) {
+                if !walker.next_case() {
                     return None;
                 }
             }
         }
-        place += 1;
     }
     None
-}
-
-// Goes on to the next case that is still to come, if there is one: takes back what is done, and turns the
-// deepest literal that is positive.
-fn next_case(valuation: &mut Valuation) -> bool
-    ensures case { MatchBool result
-        (valuation.new.literals ∷ spec.pending [] valuation.new.literals
-        ≡ spec.pending [] valuation.old.literals)
-        (spec.pending [] valuation.old.literals ≡ []) }
-    ensures atoms { valuation.new.atoms ≡ valuation.old.atoms }
-    ensures space { valuation.new.room ≡ valuation.old.room }
-    ensures shorter { length valuation.new.literals ≤ length valuation.old.literals }
-{
-    while let Some(last) = valuation.take_back() {
-        if last.positive {
-            valuation.take(Taken {
-                atom: last.atom,
-                positive: false,
-            });
-            return true;
-        }
-    }
-    false
-}
-
-// How many splits there are: room for so many literals is enough.
-pub(crate) fn splits(nodes: &[Node]) -> usize
-    ensures { result ≡ spec.splits nodes.now }
-{
-    let mut count = 0;
-    for node in nodes {
-        if let Node::Split { .. } = node {
-            count += 1;
-        }
-    }
-    count
 }

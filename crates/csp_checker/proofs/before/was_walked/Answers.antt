@@ -1,8 +1,7 @@
 use Rattle.std.proofs.Common.{arith, refl, ap, ◌<◌, length}
 use Rattle.std.proofs.lemmas.Option.{slice_get_within}
-use Rattle.csp_checker.specs.Asked.{lists_of, trees_of}
-use Rattle.csp_checker.proofs.Judged.{tree_stands, tree_here}
-use Rattle.csp_checker.proofs.Tables.{in_places}
+use Rattle.csp_checker.specs.Asked.{trees_of}
+use Rattle.csp_checker.proofs.Judged.{tree_here}
 use Rattle.csp_checker.proofs.Walked.{walked_good}
 use Rattle.csp_checker.proofs.before.was_walked.Goals as goal
 
@@ -13,22 +12,6 @@ bounds-trees-place c =
     let long = ap length c.as_slice-trees.ensures in
     omega arith
 
-pub asks_the_same-requires-clause-one : goal.asks_the_same-requires-clause-one
-asks_the_same-requires-clause-one c =
-    let asked = c.args.asked.now in
-    in_places (lists_of asked) asked.table c.requires.asked.table c.args.tree.now.shape (tree_stands asked c.requires.asked c.args.number c.args.tree.now c.requires.reached.there).shape
-
-pub asks_the_same-requires-clause-other : goal.asks_the_same-requires-clause-other
-asks_the_same-requires-clause-other c =
-    let asked = c.args.asked.now in
-    let place = c.loop-place.place in
-    let earlier = c.index-trees-place.result in
-    let within = slice_get_within (trees_of asked) c.args.number c.args.tree.now c.requires.reached.there in
-    let long = ap length c.as_slice-trees.ensures in
-    let inside : place < length c.as_slice-trees.result.now = omega (arith, within, long, c.loop-place-test.true) in
-    let there = tree_here asked c.as_slice-trees.result.now place earlier c.as_slice-trees.ensures inside c.index-trees-place.is in
-    in_places (lists_of asked) asked.table c.requires.asked.table earlier.shape (tree_stands asked c.requires.asked place earlier there).shape
-
 pub returns-then-asks_the_same : goal.returns-then-asks_the_same
 returns-then-asks_the_same c = λ _.
     let asked = c.args.asked.now in
@@ -38,4 +21,4 @@ returns-then-asks_the_same c = λ _.
     let long = ap length c.as_slice-trees.ensures in
     let inside : place < length c.as_slice-trees.result.now = omega (arith, within, long, c.loop-place-test.true) in
     let there = tree_here asked c.as_slice-trees.result.now place earlier c.as_slice-trees.ensures inside c.index-trees-place.is in
-    walked_good asked c.requires.asked c.args.for_any c.args.number c.args.tree.now c.requires.reached place earlier c.args.other c.loop-place-test.true there (c.if-shares.ensures refl) c.requires.any (c.if-asks_the_same.ensures.policy refl) (c.if-asks_the_same.ensures.formulas refl)
+    walked_good asked c.requires.asked c.args.for_any c.args.number c.args.tree.now c.requires.reached place earlier c.args.other c.loop-place-test.true there (c.if-shares.ensures refl) c.requires.any (c.if-asks_the_same.ensures.policy refl) (c.if-asks_the_same.ensures.kinds refl)

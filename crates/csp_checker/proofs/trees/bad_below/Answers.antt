@@ -1,17 +1,17 @@
 use Rattle.std.proofs.Common.{arith}
 use Rattle.csp_checker.specs.Asked.{lists_of, trees_of}
-use Rattle.csp_checker.proofs.Judged.{tree_stands, room_for, pre_for, own_bad, own_good, nodes_within, shares_within}
+use Rattle.csp_checker.proofs.Judged.{tree_stands, takes_nodes, pre_for, own_bad, own_good, nodes_within, shares_within}
 use Rattle.csp_checker.proofs.trees.bad_below.Goals as goal
 
-pub bad_node-requires-clause-shape : goal.bad_node-requires-clause-shape
-bad_node-requires-clause-shape c =
+pub first_bad-requires-clause-shape : goal.first_bad-requires-clause-shape
+first_bad-requires-clause-shape c =
     let reached = c.requires.reached in
     (tree_stands c.args.asked.now c.requires.asked c.args.number c.args.tree.now reached.there).shape
 
-pub bad_node-requires-clause-room : goal.bad_node-requires-clause-room
-bad_node-requires-clause-room c =
+pub first_bad-requires-clause-takes : goal.first_bad-requires-clause-takes
+first_bad-requires-clause-takes c =
     let reached = c.requires.reached in
-    rw c.as_slice.ensures (room_for c.args.asked.now c.requires.asked c.args.number c.args.tree.now c.in-Nodes.nodes reached.there c.in-Nodes.is)
+    rw c.as_slice.ensures (takes_nodes c.args.asked.now c.args.walker.now c.requires.fit c.args.number c.args.tree.now c.in-Nodes.nodes reached.there c.in-Nodes.is)
 
 pub overflow_add-result : goal.overflow_add-result
 overflow_add-result c =

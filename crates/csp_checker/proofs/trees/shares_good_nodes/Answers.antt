@@ -1,20 +1,8 @@
 use Rattle.std.proofs.Common.{refl, sym, ◌+◌}
 use Rattle.csp_checker.specs.Asked.{lists_of, trees_of}
-use Rattle.csp_checker.proofs.Judged.{tree_stands, stands_before, room_for, pre_for, shares_good, shares_bad}
-use Rattle.csp_checker.proofs.Tables.{in_places}
+use Rattle.csp_checker.proofs.Judged.{tree_stands, stands_before, takes_nodes, pre_for, shares_good, shares_bad}
 use Rattle.csp_checker.proofs.Walked.{owned_good}
 use Rattle.csp_checker.proofs.trees.shares_good_nodes.Goals as goal
-
-pub asks_the_same-requires-clause-one : goal.asks_the_same-requires-clause-one
-asks_the_same-requires-clause-one c =
-    let asked = c.args.asked.now in
-    let reached = c.requires.reached in
-    in_places (lists_of asked) asked.table c.requires.asked.table c.args.tree.now.shape (tree_stands asked c.requires.asked c.args.number c.args.tree.now reached.there).shape
-
-pub asks_the_same-requires-clause-other : goal.asks_the_same-requires-clause-other
-asks_the_same-requires-clause-other c =
-    let asked = c.args.asked.now in
-    in_places (lists_of asked) asked.table c.requires.asked.table c.in-Some.owner.now.shape (tree_stands asked c.requires.asked c.args.other c.in-Some.owner.now (sym c.in-Some.ensures)).shape
 
 pub returns-then-asks_the_same-clause-good : goal.returns-then-asks_the_same-clause-good
 returns-then-asks_the_same-clause-good c = λ pair for.
@@ -26,25 +14,25 @@ returns-then-asks_the_same-clause-good c = λ pair for.
     shares_good (lists_of asked) (trees_of asked) pair (tree.line + 1) c.args.other owner c.in-Nodes.nodes there c.in-Nodes.is
     (owned_good asked c.requires.asked c.are_for_any-for_any.result c.args.number tree reached c.args.other owner c.in-Nodes.nodes
     (stands_before asked c.requires.asked c.args.number tree reached c.args.other c.requires.shared) there c.in-Nodes.is
-    (λ any. c.are_for_any-for_any.ensures any) (c.if-asks_the_same.ensures.policy refl) (c.if-asks_the_same.ensures.formulas refl) pair for)
+    (λ any. c.are_for_any-for_any.ensures any) (c.if-asks_the_same.ensures.policy refl) (c.if-asks_the_same.ensures.kinds refl) pair for)
 
-pub bad_node-requires-clause-shape : goal.bad_node-requires-clause-shape
-bad_node-requires-clause-shape c =
+pub first_bad-requires-clause-shape : goal.first_bad-requires-clause-shape
+first_bad-requires-clause-shape c =
     let reached = c.requires.reached in
     (tree_stands c.args.asked.now c.requires.asked c.args.number c.args.tree.now reached.there).shape
 
-pub bad_node-requires-clause-room : goal.bad_node-requires-clause-room
-bad_node-requires-clause-room c =
-    rw c.as_slice.ensures (room_for c.args.asked.now c.requires.asked c.args.other c.in-Some.owner.now c.in-Nodes.nodes (sym c.in-Some.ensures) c.in-Nodes.is)
+pub first_bad-requires-clause-takes : goal.first_bad-requires-clause-takes
+first_bad-requires-clause-takes c =
+    rw c.as_slice.ensures (takes_nodes c.args.asked.now c.args.walker.now c.requires.fit c.args.other c.in-Some.owner.now c.in-Nodes.nodes (sym c.in-Some.ensures) c.in-Nodes.is)
 
-pub returns-in-Some-bad_node-clause-good : goal.returns-in-Some-bad_node-clause-good
-returns-in-Some-bad_node-clause-good c = λ pair for.
+pub returns-in-Some-first_bad-clause-good : goal.returns-in-Some-first_bad-clause-good
+returns-in-Some-first_bad-clause-good c = λ pair for.
     let asked = c.args.asked.now in
     let owner = c.in-Some.owner.now in
     let there = sym c.in-Some.ensures in
-    let bad = rw c.as_slice.ensures at c.in-Some-bad_node.ensures.bad in
+    let bad = rw c.as_slice.ensures at c.in-Some-first_bad.ensures.bad in
     let pre = pre_for asked c.requires.asked c.args.other owner c.in-Nodes.nodes there c.in-Nodes.is in
-    shares_bad (lists_of asked) (trees_of asked) pair (c.args.tree.now.line + 1) c.args.other owner c.in-Nodes.nodes c.in-Some-bad_node.field-0 there c.in-Nodes.is (sym (bad pair for pre))
+    shares_bad (lists_of asked) (trees_of asked) pair (c.args.tree.now.line + 1) c.args.other owner c.in-Nodes.nodes c.in-Some-first_bad.field-0 there c.in-Nodes.is (sym (bad pair for pre))
 
 pub returns-in-None-clause-good : goal.returns-in-None-clause-good
 returns-in-None-clause-good c = λ pair for.

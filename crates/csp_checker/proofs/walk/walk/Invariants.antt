@@ -1,14 +1,14 @@
-use Rattle.std.proofs.Common.{length, ◌≡◌, ◌+◌, ◌≤◌, drop, [], ◌∷◌}
-use Rattle.csp_checker.specs.Leaves.{sayings_at}
-use Rattle.csp_checker.specs.Walk.{walk, pending, splits}
+use Rattle.std.proofs.Common.{length, ◌≡◌, ◌+◌, ◌≤◌, drop, [], ◌∷◌, All}
+use Rattle.std.specs.Prelude.{Contains}
+use Rattle.csp_checker.specs.Leaves.{rule_by}
+use Rattle.csp_checker.specs.Walk.{at_root, atoms_of, walk, pending}
 use Rattle.csp_checker.proofs.walk.walk.Given as goal
 
-abbrev pub invariant-nodes : goal.invariant-nodes
-invariant-nodes l = record {
-  room : splits (drop l.node-index l.nodes) + length l.valuation.literals ≤ l.valuation.room;
-  atoms : l.valuation.atoms ≡ l.fn.valuation.atoms;
-  space : l.valuation.room ≡ l.fn.valuation.room;
-  at : l.place ≡ l.node-index;
-  same : walk (sayings_at l.valuation.atoms l.judge) l.place (l.valuation.literals ∷ pending [] l.valuation.literals) (drop l.node-index l.nodes)
-      ≡ walk (sayings_at l.fn.valuation.atoms l.judge) 0 ([] ∷ []) l.nodes;
+abbrev pub invariant-loop-place : goal.invariant-loop-place
+invariant-loop-place l = record {
+  named : All (Contains l.walker.atoms) (atoms_of (drop l.place l.nodes));
+  room : length (atoms_of (drop l.place l.nodes)) + length l.walker.literals ≤ l.walker.room;
+  kept : at_root l.walker ≡ at_root l.fn.walker;
+  same : walk (rule_by l.fn.walker.atoms l.asked l.tree) l.place (l.walker.literals ∷ pending [] l.walker.literals) (drop l.place l.nodes)
+      ≡ walk (rule_by l.fn.walker.atoms l.asked l.tree) 0 ([] ∷ []) l.nodes;
 }

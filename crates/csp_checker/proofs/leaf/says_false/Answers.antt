@@ -1,9 +1,0 @@
-use Rattle.std.proofs.Common.{false}
-use Rattle.csp_checker.proofs.Law.{says_found}
-use Rattle.csp_checker.proofs.leaf.says_false.Goals as goal
-
-pub returns-then-is_enforced : goal.returns-then-is_enforced
-returns-then-is_enforced c =
-    says_found false c.args.valuation.now.literals c.in-Some.policy.now c.args.list.now.policies c.args.number c.args.valuation.now.atoms
-    c.args.formulas.now c.in-Some-get.formula.now c.is_surely_false.result
-    c.in-Some.ensures c.in-Some-get.ensures c.if-is_enforced.ensures c.is_surely_false.ensures
