@@ -62,4 +62,22 @@ impl Answer {
     {
         self.integrity.as_ref()
     }
+
+    /// The names of the answer, each at least once.
+    pub fn names(&self, alloc: Global) -> Result<Vec<usize>, Memory> {
+        let mut names = Vec::new(alloc);
+        for conjunction in &self.conjunctions {
+            for name in [conjunction.lead, conjunction.port, conjunction.path] {
+                if let Some(name) = name {
+                    names.push(name)?;
+                }
+            }
+        }
+        if let Some(integrity) = &self.integrity {
+            names.push(integrity.outside)?;
+            names.extend_from_slice(&integrity.others)?;
+            names.extend_from_slice(&integrity.own)?;
+        }
+        Ok(names)
+    }
 }

@@ -18,6 +18,6 @@ mod words;
 
 pub use answer::{Answer, Integrity};
 pub use conjunction::Conjunction;
-pub use deciding::decided;
+pub use deciding::{PARTS, decided};
 pub use policy::PolicyAnswers;
 pub use table::{AnswerTable, NamedAnswers, answers_of};

@@ -1,0 +1,15 @@
+//! The search for a proof about one shape and one policy of the second list, or for a check that shows that
+//! there is none.
+#![tactic(auto)]
+
+mod cover;
+mod goals;
+mod open;
+mod parts;
+mod plan;
+mod searching;
+mod step;
+mod tree;
+mod view;
+
+pub use searching::{Found, Question, search};
