@@ -33,7 +33,10 @@ impl<'c> Cover<'c> {
         tests.sort_by(|one, other| by_port(one).cmp(&by_port(other)))?;
         let mut hosted = Vec::with_capacity(alloc, tests.len())?;
         for test in tests {
-            if !hosted.last().is_some_and(|outer| lies_under(names, &test, outer)) {
+            if !hosted
+                .last()
+                .is_some_and(|outer| lies_under(names, &test, outer))
+            {
                 hosted.push(test)?;
             }
         }

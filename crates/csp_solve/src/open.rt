@@ -11,7 +11,12 @@ use std::alloc::Global;
 
 // A check of the branch of which nothing more is true that a policy asks for, if the first list allows it and the policy
 // of the second refuses it.
-pub(crate) fn refute(alloc: Global, question: Question, branch: &mut Branch, path: &mut Path) -> Result<Option<Check>, Memory> {
+pub(crate) fn refute(
+    alloc: Global,
+    question: Question,
+    branch: &mut Branch,
+    path: &mut Path,
+) -> Result<Option<Check>, Memory> {
     let before = path.changes.len();
     deny_all(alloc, question, branch, path)?;
     let found = if is_refuted(question, branch) {
@@ -29,7 +34,12 @@ pub(crate) fn refute(alloc: Global, question: Question, branch: &mut Branch, pat
 }
 
 // Denies each open name of what the policies answer at the shape.
-fn deny_all(alloc: Global, question: Question, branch: &mut Branch, path: &mut Path) -> Result<(), Memory> {
+fn deny_all(
+    alloc: Global,
+    question: Question,
+    branch: &mut Branch,
+    path: &mut Path,
+) -> Result<(), Memory> {
     for policy in 0..question.first.policies.len() {
         if let Some(answer) = first_answer(question, policy) {
             deny_names(alloc, branch, path, answer)?;
@@ -41,7 +51,12 @@ fn deny_all(alloc: Global, question: Question, branch: &mut Branch, path: &mut P
     }
 }
 
-fn deny_names(alloc: Global, branch: &mut Branch, path: &mut Path, answer: &Answer) -> Result<(), Memory> {
+fn deny_names(
+    alloc: Global,
+    branch: &mut Branch,
+    path: &mut Path,
+    answer: &Answer,
+) -> Result<(), Memory> {
     for name in answer.names(alloc)? {
         if branch.known(name).is_none() {
             path.take(branch, name, false)?;
@@ -55,7 +70,7 @@ fn is_refuted(question: Question, branch: &Branch) -> bool {
     let policies = question.first.policies.as_slice();
     policies.iter().enumerate().all(|(number, policy)| {
         policy.disposition != Disposition::Enforce
-            || first_answer(question, number)
-                .is_some_and(|answer| decided(branch, answer) == Some(true))
+            || first_answer(question, number).is_some_and(|answer| decided(branch, answer)
+                == Some(true))
     }) && second_answer(question).is_some_and(|answer| decided(branch, answer) == Some(false))
 }

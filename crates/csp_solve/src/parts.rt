@@ -52,7 +52,10 @@ fn sum_on(
         let Some(&(name, _)) = run.first() else {
             continue;
         };
-        while outer.last().is_some_and(|last| !view.branch.names().is_around(last.0, name)) {
+        while outer
+            .last()
+            .is_some_and(|last| !view.branch.names().is_around(last.0, name))
+        {
             outer.pop();
         }
         let around = outer.last().map_or(held, |last| last.1);
@@ -61,7 +64,11 @@ fn sum_on(
         sum += 1 + if is_ended { 0 } else { here };
         outer.push((name, here))?;
     }
-    if part == CheckPart::Integrity && goals.iter().any(|goal| goal.met && asks_for_pair(view, goal)) {
+    if part == CheckPart::Integrity
+        && goals
+            .iter()
+            .any(|goal| goal.met && asks_for_pair(view, goal))
+    {
         sum += refused_pairs(view, second) * (1 + held);
     }
     Ok(Some(sum))
@@ -84,6 +91,10 @@ fn refused_pairs(view: View, second: &Answer) -> usize {
     let Some(rule) = second.integrity() else {
         return 0;
     };
-    let open = rule.others.iter().filter(|pair| view.is_open(**pair)).count();
+    let open = rule
+        .others
+        .iter()
+        .filter(|pair| view.is_open(**pair))
+        .count();
     open + usize::from(view.is_open(rule.outside))
 }

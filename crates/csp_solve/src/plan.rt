@@ -35,7 +35,9 @@ pub(crate) enum Wish {
 #[derive(Drop)]
 enum Task {
     // To close it by the second list's policy, or by one of these of the first list.
-    Solve { firsts: Vec<usize> },
+    Solve {
+        firsts: Vec<usize>,
+    },
     // The same, where the guide can hold by these goals alone.
     Follow {
         guide: usize,
@@ -43,7 +45,9 @@ enum Task {
         others: Vec<usize>,
     },
     // To go on where a name of the last frame holds.
-    Enter { name: usize },
+    Enter {
+        name: usize,
+    },
     // To go on where it doesn't.
     Leave,
 }
@@ -74,8 +78,10 @@ pub(crate) struct Plan<'p> {
     second: &'p Answer,
     cover: Cover<'p>,
     frames: Vec<Frame>,
-    // None where the plan is lost: something else was done than what it asked for.
+    // None where a wish closes the branch.
     task: Option<Task>,
+    // Something else was done than what the plan asked for.
+    is_lost: bool,
     pair: Option<usize>,
 }
 
@@ -95,19 +101,21 @@ impl<'p> Plan<'p> {
             cover: Cover::new(alloc, branch.names(), second)?,
             frames: Vec::new(alloc),
             task: Some(Task::Solve { firsts: all }),
+            is_lost: false,
             pair: None,
         })
     }
 
     // The branch was closed, and the next one is that where the last name doesn't hold.
     pub(crate) fn closed(&mut self) {
-        if self.task.is_some() {
+        if !self.is_lost {
             self.task = Some(Task::Leave);
         }
     }
 
     // Something else was done than what the plan asked for.
-    pub(crate) fn is_lost(&mut self) {
+    pub(crate) fn give_up(&mut self) {
+        self.is_lost = true;
         self.task = None;
     }
 
@@ -278,7 +286,12 @@ impl<'p> Plan<'p> {
             && let Some(rule) = self.second.integrity()
         {
             names.retain(|name| rule.own.contains(name));
-            names.extend(rule.others.iter().copied().filter(|pair| view.is_open(*pair)))?;
+            names.extend(
+                rule.others
+                    .iter()
+                    .copied()
+                    .filter(|pair| view.is_open(*pair)),
+            )?;
             if view.is_open(rule.outside) {
                 names.push(rule.outside)?;
             }
@@ -356,8 +369,12 @@ fn inside(alloc: Global, view: View, frame: &Frame, name: usize) -> Result<Vec<G
             break;
         }
         let on_part = |goal: &Goal| view.name_on(goal.test, frame.part);
-        let from = frame.open.partition_point(|goal| on_part(goal) < Some(outer));
-        let to = frame.open.partition_point(|goal| on_part(goal) <= Some(outer));
+        let from = frame
+            .open
+            .partition_point(|goal| on_part(goal) < Some(outer));
+        let to = frame
+            .open
+            .partition_point(|goal| on_part(goal) <= Some(outer));
         for goal in frame.open.get(from..to).unwrap_or(&[]) {
             if view.all_hold(goal.test) {
                 return Ok(vec![in alloc; *goal]?);

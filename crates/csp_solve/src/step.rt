@@ -30,7 +30,12 @@ pub(crate) fn second_answer<'q>(question: Question<'q>) -> Option<&'q Answer> {
 }
 
 // What a branch calls for. The plan's wish is granted where it may be.
-pub(crate) fn next_step(alloc: Global, question: Question, branch: &Branch, plan: &mut Plan) -> Result<Step, Memory> {
+pub(crate) fn next_step(
+    alloc: Global,
+    question: Question,
+    branch: &Branch,
+    plan: &mut Plan,
+) -> Result<Step, Memory> {
     match plan.next(branch)? {
         Wish::Met if is_met(question, branch) => Ok(Step::Close { leaf: Node::Met }),
         Wish::Block { policy } if is_blocked(question, branch, policy) => Ok(Step::Close {
@@ -39,7 +44,7 @@ pub(crate) fn next_step(alloc: Global, question: Question, branch: &Branch, plan
         Wish::Split { name } if is_open(question, branch, name) => Ok(Step::Split { name }),
         Wish::Refute => Ok(Step::Refute),
         _ => {
-            plan.is_lost();
+            plan.give_up();
             plain_step(alloc, question, branch)
         }
     }
@@ -51,8 +56,8 @@ fn is_met(question: Question, branch: &Branch) -> bool {
 
 fn is_blocked(question: Question, branch: &Branch, policy: u32) -> bool {
     is_enforced(question, policy as usize)
-        && first_answer(question, policy as usize)
-            .is_some_and(|answer| decided(branch, answer) == Some(false))
+        && first_answer(question, policy as usize).is_some_and(|answer| decided(branch, answer)
+            == Some(false))
 }
 
 fn is_enforced(question: Question, policy: usize) -> bool {
@@ -109,7 +114,11 @@ fn plain_step(alloc: Global, question: Question, branch: &Branch) -> Result<Step
 }
 
 // A name of the answer that is open.
-pub(crate) fn open_name(alloc: Global, branch: &Branch, answer: &Answer) -> Result<Option<usize>, Memory> {
+pub(crate) fn open_name(
+    alloc: Global,
+    branch: &Branch,
+    answer: &Answer,
+) -> Result<Option<usize>, Memory> {
     for name in answer.names(alloc)? {
         if branch.known(name).is_none() {
             return Ok(Some(name));

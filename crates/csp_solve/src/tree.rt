@@ -17,7 +17,12 @@ pub(crate) struct Path {
 
 impl Path {
     // Takes a literal.
-    pub(crate) fn take(&mut self, branch: &mut Branch, name: usize, positive: bool) -> Result<(), Memory> {
+    pub(crate) fn take(
+        &mut self,
+        branch: &mut Branch,
+        name: usize,
+        positive: bool,
+    ) -> Result<(), Memory> {
         let change = branch.take(name, positive);
         Ok(self.changes.push(change)?)
     }
@@ -46,7 +51,11 @@ impl Path {
 }
 
 // The nodes of a tree that keeps all rules, or a check that the first list allows and the policy of the second refuses.
-pub(crate) fn find_tree(alloc: Global, question: Question, branch: &mut Branch) -> Result<Found, Memory> {
+pub(crate) fn find_tree(
+    alloc: Global,
+    question: Question,
+    branch: &mut Branch,
+) -> Result<Found, Memory> {
     let mut path = Path {
         changes: Vec::new(alloc),
     };
@@ -55,7 +64,12 @@ pub(crate) fn find_tree(alloc: Global, question: Question, branch: &mut Branch) 
     Ok(found)
 }
 
-fn search_below(alloc: Global, question: Question, branch: &mut Branch, path: &mut Path) -> Result<Found, Memory> {
+fn search_below(
+    alloc: Global,
+    question: Question,
+    branch: &mut Branch,
+    path: &mut Path,
+) -> Result<Found, Memory> {
     let mut nodes = List::new(alloc);
     let Some(second) = second_answer(question) else {
         unreachable!()
@@ -81,7 +95,7 @@ fn search_below(alloc: Global, question: Question, branch: &mut Branch, path: &m
                 if let Some(check) = refute(alloc, question, branch, path)? {
                     return Ok(Found::Check { check });
                 }
-                plan.is_lost();
+                plan.give_up();
             }
         }
     }

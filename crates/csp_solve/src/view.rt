@@ -50,7 +50,10 @@ impl<'v> View<'v> {
     }
 
     pub(crate) fn all_hold(self, test: Conjunction) -> bool {
-        names_of(test).into_iter().flatten().all(|name| self.holds(name))
+        names_of(test)
+            .into_iter()
+            .flatten()
+            .all(|name| self.holds(name))
     }
 
     // Whether a check of the branch may pass the test.

@@ -107,4 +107,3 @@ pub(crate) fn block(alloc: Global, words: &mut Pcg32, before: &str) -> Result<St
     }
     Ok(made)
 }
-
