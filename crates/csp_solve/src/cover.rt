@@ -91,7 +91,7 @@ impl<'c> Cover<'c> {
             if let Some(found) = self.with_path(names, port, Some(path), host) {
                 widest = Some(found);
             }
-            next = names.outer(path);
+            next = view.outer(path);
         }
         widest
     }

@@ -361,7 +361,6 @@ impl<'p> Plan<'p> {
 
 // The goals that a check at the name can pass, or one that it passes.
 fn inside(alloc: Global, view: View, frame: &Frame, name: usize) -> Result<Vec<Goal>, Memory> {
-    let names = view.branch.names();
     let mut goals = Vec::new(alloc);
     let mut next = Some(name);
     while let Some(outer) = next {
@@ -381,7 +380,7 @@ fn inside(alloc: Global, view: View, frame: &Frame, name: usize) -> Result<Vec<G
             }
             goals.push(*goal)?;
         }
-        next = names.outer(outer);
+        next = view.outer(outer);
     }
     goals.extend_from_slice(&frame.held)?;
     Ok(goals)

@@ -64,6 +64,15 @@ impl<'v> View<'v> {
             .all(|name| self.holds(name) || self.is_open(name))
     }
 
+    // The innermost of the names around a name, but for itself.
+    pub(crate) fn outer(self, name: usize) -> Option<usize> {
+        if name < self.branch.names().atoms().len() {
+            self.branch.names().outer(name)
+        } else {
+            None
+        }
+    }
+
     fn end(self, name: usize) -> usize {
         if name < self.branch.names().atoms().len() {
             self.branch.names().end(name)
@@ -100,10 +109,10 @@ impl<'v> View<'v> {
             match self.place(part) {
                 Some(place) => {
                     runs.push(led_from(tests, Some(place), Some(self.end(place))))?;
-                    let mut next = names.outer(place);
+                    let mut next = self.outer(place);
                     while let Some(name) = next {
                         runs.push(led_from(tests, Some(name), Some(name + 1)))?;
-                        next = names.outer(name);
+                        next = self.outer(name);
                     }
                 }
                 None => {
