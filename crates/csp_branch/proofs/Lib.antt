@@ -5,6 +5,8 @@ pub mod Grouping
 pub mod Keeping
 pub mod Literals
 pub mod Marking
+pub mod Pending
 pub mod Placing
 pub mod Taking
 pub mod Telling
+pub mod Walking

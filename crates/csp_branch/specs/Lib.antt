@@ -4,3 +4,4 @@ pub mod Groups
 pub mod Marks
 pub mod Paths
 pub mod Places
+pub mod Walks

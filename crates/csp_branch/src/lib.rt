@@ -11,6 +11,8 @@ pub mod laws;
 mod mark;
 mod step;
 mod steps;
+mod walker;
 
 pub use branch::{Branch, Change};
 pub use step::Step;
+pub use walker::Walker;

@@ -21,7 +21,8 @@ use Rattle.csp_proof.specs.declared.proof.Tree.{Tree}
 use Rattle.csp_checker.specs.Asked.{Fits, IsAsked, IsFor, IsReached, AreKept, bad_in, bad_line, due, numbered, numbers_fit, lists_of, trees_of}
 use Rattle.csp_checker.specs.Checked.{Claim}
 use Rattle.csp_checker.specs.Leaves.{rule_by, rule_for}
-use Rattle.csp_checker.specs.Walk.{Position, Takes, at_root, atoms_below, atoms_of, walk}
+use Rattle.csp_branch.specs.Walks.{Position, at_root}
+use Rattle.csp_checker.specs.Walk.{Takes, atoms_below, atoms_of, walk}
 use Rattle.csp_checker.specs.declared.asked.Asked.{Asked}
 use Rattle.csp_checker.specs.declared.asked.NumberedPair.{NumberedPair}
 use Rattle.csp_checker.proofs.Formed.{all_at, stands, lines_fit, shared_before}

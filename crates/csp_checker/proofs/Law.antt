@@ -9,7 +9,8 @@ use Rattle.csp_proof.specs.declared.proof.Node.{Node}
 use Rattle.csp_proof.specs.declared.proof.Node.TheVariants as node
 use Rattle.csp_proof.proofs.CasesRead.{cases_back}
 use Rattle.csp_checker.specs.Leaves.{rule_for}
-use Rattle.csp_checker.specs.Walk.{with, unless_first, walk}
+use Rattle.csp_branch.specs.Walks.{with}
+use Rattle.csp_checker.specs.Walk.{unless_first, walk}
 
 -- the first of two failures
 

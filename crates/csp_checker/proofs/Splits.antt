@@ -12,7 +12,8 @@ use Rattle.csp_proof.specs.declared.proof.Format.{Format}
 use Rattle.csp_proof.specs.declared.proof.Node.{Node}
 use Rattle.csp_proof.specs.declared.proof.Node.TheVariants as node
 use Rattle.csp_proof.specs.declared.proof.Tree.{Tree}
-use Rattle.csp_checker.specs.Walk.{Position, Takes, atoms_below, atoms_of}
+use Rattle.csp_branch.specs.Walks.{Position}
+use Rattle.csp_checker.specs.Walk.{Takes, atoms_below, atoms_of}
 use Rattle.csp_checker.proofs.Steps.{here}
 
 -- the atoms of the splits of all trees

@@ -4,19 +4,9 @@ use Rattle.csp_atom.specs.declared.atom.Atom.{Atom}
 use Rattle.csp_atom.specs.declared.atom.Literal.{Literal}
 use Rattle.csp_proof.specs.declared.proof.Node.{Node}
 use Rattle.csp_proof.specs.declared.proof.Node.TheVariants.{Split, Blocked, Met}
-use Rattle.csp_checker.specs.Walk.{with, atoms_of, waits, pending, unless_first, walk}
-
--- one literal more at the end of a path: its case waits before all others
-pending_push : (before ls : List Literal) (a : Atom) (positive : Bool) → pending before (with ls a positive) ≡ waits (before ++ ls) a positive ++ pending before ls
-pending_push before [] a positive = rw (append-nil before) (sym (append-nil (waits before a positive)))
-pending_push before (l ∷ ls) a positive =
-    rw (pending_push (before ++ l ∷ []) ls a positive, append_assoc before (l ∷ []) ls, append_assoc) refl
-
-taken_true : (ls : List Literal) (a : Atom) → pending [] (with ls a true) ≡ with ls a false ∷ pending [] ls
-taken_true ls a = pending_push [] ls a true
-
-taken_false : (ls : List Literal) (a : Atom) → pending [] (with ls a false) ≡ pending [] ls
-taken_false ls a = pending_push [] ls a false
+use Rattle.csp_branch.specs.Walks.{with, pending}
+use Rattle.csp_branch.proofs.Pending.{taken_true}
+use Rattle.csp_checker.specs.Walk.{atoms_of, unless_first, walk}
 
 -- the elements from place k on
 pub here : {X : Type 0} (xs : List X) (k : ℕ) (x : X) → k < length xs → x ≡ get_or xs k x → drop k xs ≡ x ∷ drop (k + 1) xs
@@ -54,10 +44,3 @@ done rule place (n ∷ ns) = refl
 pub walk_end : (rule : List Literal → Node → Bool) (ls : List Literal) (ns : List Node) (k : ℕ) (n : Node) → k < length ns → n ≡ get_or ns k n → ((a : Atom) → n ≢ Split a)
     → rule ls n ≡ true → pending [] ls ≡ [] → walk rule k (ls ∷ pending [] ls) (drop k ns) ≡ None
 walk_end rule ls ns k n h e is f b = walk_leaf rule ls ns k n h e is f ∙ rw b (done rule (k + 1) (drop (k + 1) ns))
-
--- where a case turns: the deepest literal that is positive becomes negative
-pub turned : (old new later : List Literal) (a : Atom) (positive : Bool) → old ≡ with new a positive → positive ≡ true → later ≡ with new a false → later ∷ pending [] later ≡ pending [] old
-turned old new later a positive e s f = rw (e, s, f, taken_true new a, taken_false new a) refl
-
-pub left : (old new : List Literal) (a : Atom) (positive : Bool) → old ≡ with new a positive → positive ≡ false → pending [] new ≡ pending [] old
-left old new a positive e s = rw (e, s, taken_false new a) refl

@@ -29,7 +29,8 @@ use Rattle.csp_proof.specs.declared.proof.Node.TheVariants as node
 use Rattle.csp_proof.specs.declared.proof.Tree.{Tree}
 use Rattle.csp_checker.specs.Asked.{AreAlike, Fits, IsFor, SayTheSame, lists_of}
 use Rattle.csp_checker.specs.Leaves.{AnswerAt, is_enforced, known, rule_by, rule_for}
-use Rattle.csp_checker.specs.Walk.{Position, is_unmet}
+use Rattle.csp_branch.specs.Walks.{Position}
+use Rattle.csp_checker.specs.Walk.{is_unmet}
 use Rattle.csp_checker.specs.declared.asked.Asked.{Asked}
 use Rattle.csp_checker.proofs.Formed.{all_at}
 use Rattle.csp_checker.proofs.Law.{TellTheSame}

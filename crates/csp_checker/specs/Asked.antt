@@ -16,7 +16,8 @@ use Rattle.csp_proof.specs.WellFormed.{IsWellFormed}
 use Rattle.csp_proof.specs.declared.proof.Body.TheVariants as body
 use Rattle.csp_proof.specs.declared.proof.Node.{Node}
 use Rattle.csp_proof.specs.declared.proof.Tree.{Tree}
-use Rattle.csp_checker.specs.Walk.{Position, Takes, atoms_below, is_unmet_below}
+use Rattle.csp_branch.specs.Walks.{Position}
+use Rattle.csp_checker.specs.Walk.{Takes, atoms_below, is_unmet_below}
 use Rattle.csp_checker.specs.declared.asked.Asked.{Asked}
 use Rattle.csp_checker.specs.declared.asked.NumberedPair.{NumberedPair}
 

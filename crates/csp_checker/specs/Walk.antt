@@ -3,15 +3,11 @@ use Rattle.std.specs.List.{list_all}
 use Rattle.std.specs.Prelude.{ℕ, ◌+◌, ◌≤◌, Bool, true, false, List, [], ◌∷◌, ◌++◌, length, Option, Some, None, All, Contains}
 use Rattle.csp_atom.specs.declared.atom.Atom.{Atom}
 use Rattle.csp_atom.specs.declared.atom.Literal.{Literal}
-use Rattle.csp_proof.specs.Accepts.{literal}
+use Rattle.csp_branch.specs.Walks.{Position, with}
 use Rattle.csp_proof.specs.declared.proof.Body.{Body}
 use Rattle.csp_proof.specs.declared.proof.Body.TheVariants as body
 use Rattle.csp_proof.specs.declared.proof.Node.{Node}
 use Rattle.csp_proof.specs.declared.proof.Node.TheVariants as node
-
--- the literals, and one more at their end
-abbrev pub with : List Literal → Atom → Bool → List Literal
-with literals atom positive = literals ++ literal atom positive ∷ []
 
 -- the atoms of the splits, in order
 abbrev pub atoms_of : List Node → List Atom
@@ -34,16 +30,6 @@ abbrev pub is_unmet_below : Body → Bool
 is_unmet_below (body.Nodes nodes) = list_all is_unmet nodes
 is_unmet_below (body.Same tree) = false
 
--- the case that waits where a literal stands: the other one of its split, until that is taken
-abbrev pub waits : List Literal → Atom → Bool → List (List Literal)
-waits before atom true = with before atom false ∷ []
-waits before atom false = []
-
--- the cases that wait along a path, the deepest first, where these literals stand before it
-abbrev pub pending : List Literal → List Literal → List (List Literal)
-pending before [] = []
-pending before (l ∷ ls) = pending (before ++ l ∷ []) ls ++ waits before l.atom l.positive
-
 abbrev pub unless_first : Bool → ℕ → Option ℕ → Option ℕ
 unless_first true place rest = rest
 unless_first false place rest = Some place
@@ -59,16 +45,6 @@ walk rule place (ls ∷ cases) (node.Blocked policy ∷ nodes) =
     unless_first (rule ls (node.Blocked policy)) place (walk rule (place + 1) cases nodes)
 walk rule place (ls ∷ cases) (node.Met ∷ nodes) =
     unless_first (rule ls node.Met) place (walk rule (place + 1) cases nodes)
-
--- where a walker stands: the atoms by whose names it takes literals, those that lead there, the root's first,
--- and how many it may take
-pub record Position : Type 0 where
-  pub atoms : List Atom
-  pub literals : List Literal
-  pub room : ℕ
-
-abbrev pub at_root : Position → Position
-at_root position = record position { literals = [] }
 
 -- from the root it can take literals of these atoms: they have names, and there is room
 pub record Takes (walker : Position) (atoms : List Atom) : Type 0 where

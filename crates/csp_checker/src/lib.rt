@@ -10,6 +10,5 @@ mod leaf;
 mod making;
 mod trees;
 mod walk;
-mod walker;
 
 pub use checker::{Checker, Rejected};

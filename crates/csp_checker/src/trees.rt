@@ -10,7 +10,7 @@ ghost use Rattle.csp_checker.specs.Asked.{due, lists_of, numbers_fit, trees_of};
 use crate::asked::{Asked, NumberedPair};
 use crate::before::{are_for_any, asks_the_same, was_walked};
 use crate::walk::first_bad;
-use crate::walker::Walker;
+use csp_branch::Walker;
 use csp_proof::{Body, Tree};
 
 // The line of the first failure of the whole proof.

@@ -6,11 +6,12 @@ ghost use Rattle.csp_proof.specs.Pairs.{Pair};
 ghost use Rattle.csp_proof.specs.WellFormed.{IsPreorder};
 ghost use Rattle.csp_checker.specs.Asked.{Fits, IsFor, lists_of};
 ghost use Rattle.csp_checker.specs.Leaves.{rule_by};
+ghost use Rattle.csp_branch.specs.Walks as walks;
 ghost use Rattle.csp_checker.specs.Walk as spec;
 
 use crate::asked::Asked;
 use crate::leaf::keeps_rule;
-use crate::walker::Walker;
+use csp_branch::Walker;
 use csp_proof::{Node, Tree};
 
 // The place among these nodes of the first that breaks a rule of the tree, wherever the walker stands.
@@ -40,7 +41,7 @@ fn walk(asked: &Asked, tree: &Tree, nodes: &[Node], walker: &mut Walker) -> Opti
     ensures bad { result
         ≡ spec.walk (rule_by walker.old.atoms asked.now tree.now) 0 ([] ∷ []) nodes.now }
     ensures within { IfSome result (λ place. place < length nodes.now) }
-    ensures kept { spec.at_root walker.new ≡ spec.at_root walker.old }
+    ensures kept { walks.at_root walker.new ≡ walks.at_root walker.old }
 {
     for (place, node) in nodes.iter().enumerate() {
         match node {
@@ -49,7 +50,7 @@ fn walk(asked: &Asked, tree: &Tree, nodes: &[Node], walker: &mut Walker) -> Opti
                 if !keeps_rule(asked, tree, node, walker.branch()) {
                     return Some(place);
                 }
-                if !walker.next_case() {
+                if !walker.next_branch() {
                     return None;
                 }
             }

@@ -1,5 +1,6 @@
 use Rattle.std.proofs.Common.{◌∙◌, ap}
-use Rattle.csp_checker.specs.Walk.{at_root, atoms_of}
+use Rattle.csp_branch.specs.Walks.{at_root}
+use Rattle.csp_checker.specs.Walk.{atoms_of}
 use Rattle.csp_checker.proofs.Judged.{fit_kept, judged, takes_kept}
 use Rattle.csp_checker.proofs.walk.first_bad.Goals as goal
 

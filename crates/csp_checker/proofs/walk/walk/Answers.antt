@@ -4,14 +4,15 @@ use Rattle.std.proofs.lemmas.List.Elements.{All-head, All-tail}
 use Rattle.csp_atom.specs.declared.atom.Atom.{Atom}
 use Rattle.csp_branch.specs.Paths.{Path}
 use Rattle.csp_checker.specs.Leaves.{AnswerAt, rule_by}
-use Rattle.csp_checker.specs.Walk.{Position, atoms_of}
+use Rattle.csp_branch.specs.Walks.{Position}
+use Rattle.csp_checker.specs.Walk.{atoms_of}
 use Rattle.csp_proof.specs.Accepts.{hashes_in}
 use Rattle.csp_checker.specs.Asked.{lists_of}
 use Rattle.csp_checker.proofs.Judged.{rule_here}
 use Rattle.csp_checker.proofs.Steps.{walk_split, walk_leaf, walk_end, atoms_split, atoms_leaf}
 use Rattle.csp_checker.proofs.Tables.{answers_there}
 use Rattle.csp_checker.proofs.walk.walk.Goals as goal
-use Rattle.csp_checker.proofs.walk.walk.Goals.{in-Split, in_default+else-not-keeps_rule+else-not-next_case}
+use Rattle.csp_checker.proofs.walk.walk.Goals.{in-Split, in_default+else-not-keeps_rule+else-not-next_branch}
 
 pub split-requires-clause-named : goal.split-requires-clause-named
 split-requires-clause-named c =
@@ -36,19 +37,19 @@ keeps_rule-requires c =
           (answers_there names hashes asked.second.now.policies asked.table.second fit.second shape c.requires.shape);
     }
 
-pub returns-then-not-next_case : goal.returns-then-not-next_case
-returns-then-not-next_case c =
+pub returns-then-not-next_branch : goal.returns-then-not-next_branch
+returns-then-not-next_branch c =
     let asked = c.args.asked.now in
     let tree = c.args.tree.now in
     let walker = c.loop-place.walker in
     let first = c.args.walker.now in
     let node = c.index-nodes-place.result in
     let keeps = rule_here asked tree node c.branch-walker.result.now walker first true c.branch-walker.ensures c.loop-place.invariant.kept c.if-not-keeps_rule.ensures in
-    let end = walk_end (rule_by first.atoms asked tree) walker.literals c.args.nodes.now c.loop-place.place node c.loop-place-test.true c.index-nodes-place.is c.in_default.not-Split keeps c.if-not-next_case.ensures.case in
+    let end = walk_end (rule_by first.atoms asked tree) walker.literals c.args.nodes.now c.loop-place.place node c.loop-place-test.true c.index-nodes-place.is c.in_default.not-Split keeps c.if-not-next_branch.ensures.branch in
     record {
       bad = sym end ∙ c.loop-place.invariant.same;
       within = tt;
-      kept = c.if-not-next_case.ensures.kept ∙ c.loop-place.invariant.kept;
+      kept = c.if-not-next_branch.ensures.kept ∙ c.loop-place.invariant.kept;
     }
 
 pub loop-place-preserved : goal.loop-place-preserved
@@ -74,16 +75,16 @@ loop-place-preserved c =
             kept = rw (w.walker-is, w.split.ensures) c.loop-place.invariant.kept;
             same = rw (w.walker-is, w.split.ensures) (sym step ∙ c.loop-place.invariant.same);
           }
-      | in_default+else-not-keeps_rule+else-not-next_case w ↦
+      | in_default+else-not-keeps_rule+else-not-next_branch w ↦
           let split = w.in_default.not-Split in
           let keeps = rule_here asked tree node w.branch-walker.result.now walker first true w.branch-walker.ensures c.loop-place.invariant.kept w.if-not-keeps_rule.ensures in
           let step = walk_leaf rule walker.literals nodes k node inside is split keeps in
           let rest = rw (atoms_leaf nodes k node inside is split) at c.loop-place.invariant in
-          let next = w.if-not-next_case.ensures in
+          let next = w.if-not-next_branch.ensures in
           record {
             named = rw w.walker-is (subst (λ (names : List Atom). All (Contains names) (atoms_of (drop (k + 1) nodes))) (sym (ap (λ (p : Position). p.atoms) next.kept)) rest.named);
             room = rw w.walker-is (omega (arith, rest.room, next.shorter, ap (λ (p : Position). p.room) next.kept));
             kept = rw w.walker-is (next.kept ∙ c.loop-place.invariant.kept);
-            same = rw (w.walker-is, next.case) (sym step ∙ c.loop-place.invariant.same);
+            same = rw (w.walker-is, next.branch) (sym step ∙ c.loop-place.invariant.same);
           }
     ]

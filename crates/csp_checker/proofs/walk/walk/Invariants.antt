@@ -1,7 +1,8 @@
 use Rattle.std.proofs.Common.{length, ◌≡◌, ◌+◌, ◌≤◌, drop, [], ◌∷◌, All}
 use Rattle.std.specs.Prelude.{Contains}
 use Rattle.csp_checker.specs.Leaves.{rule_by}
-use Rattle.csp_checker.specs.Walk.{at_root, atoms_of, walk, pending}
+use Rattle.csp_branch.specs.Walks.{at_root, pending}
+use Rattle.csp_checker.specs.Walk.{atoms_of, walk}
 use Rattle.csp_checker.proofs.walk.walk.Given as goal
 
 abbrev pub invariant-loop-place : goal.invariant-loop-place

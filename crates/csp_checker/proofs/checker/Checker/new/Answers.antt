@@ -7,7 +7,7 @@ use Rattle.csp_names.specs.Sorting.{referred}
 use Rattle.csp_answer.specs.Tables.{AreAnswers}
 use Rattle.csp_proof.specs.Accepts.{Lists}
 use Rattle.csp_checker.specs.Asked.{Fits}
-use Rattle.csp_checker.specs.Walk.{Position}
+use Rattle.csp_branch.specs.Walks.{Position}
 use Rattle.csp_checker.specs.declared.asked.Asked.{Asked}
 use Rattle.csp_checker.proofs.Hashes.{vocabulary_base64}
 use Rattle.csp_checker.proofs.Splits.{atoms_in, atoms_valid, trees_taken}

@@ -1,6 +1,6 @@
 use Rattle.std.proofs.Common.{◌≡◌, length}
-use Rattle.csp_checker.specs.Walk.{at_root}
-use Rattle.csp_checker.proofs.walker.Walker.go_to_root.Given as goal
+use Rattle.csp_branch.specs.Walks.{at_root}
+use Rattle.csp_branch.proofs.walker.Walker.go_to_root.Given as goal
 
 abbrev pub invariant-loop : goal.invariant-loop
 invariant-loop l = at_root l.self ≡ at_root l.fn.self

@@ -1,21 +1,23 @@
-//! A walker of trees: the literals that lead to the node where it stands, and the way back from there.
+//! A walker of trees: the literals that lead to where it stands, and the way back from there.
 ghost use Rattle.std.specs.Prelude.{◌≡◌, ◌<◌, ◌≤◌, [], ◌∷◌, ◌++◌, length, true};
-ghost use Rattle.std.specs.Prelude.{Contains, IfOk, MatchBool, MatchOption};
-ghost use Rattle.csp_branch.specs.Paths.{literal_in};
-ghost use Rattle.csp_checker.specs.Walk as spec;
+ghost use Rattle.std.specs.Prelude.{All, Contains, IfOk, MatchBool, MatchOption, map};
+ghost use Rattle.csp_branch.specs.Paths.{literal_in, literal_of};
+ghost use Rattle.csp_branch.specs.Walks as spec;
+ghost use Rattle.csp_branch.specs.declared.branch.Change.{Change as ChangeValue};
 
+use crate::branch::{Branch, Change};
+use crate::laws::a_walk_keeps_the_changes_of_its_path;
+use crate::step::Step;
 use csp_atom::Atom;
-use csp_branch::laws::a_walk_keeps_the_changes_of_its_path;
-use csp_branch::{Branch, Change, Step};
 use csp_model::Memory;
 use csp_names::Names;
 use std::alloc::Global;
 use std::marker::Model;
 
-// It stands at one node of a tree. The cases that are still to come are those of the literals that hold: for
-// each of them the case where it doesn't.
+/// It stands at one branch of a tree. The branches that wait are those of the literals that hold: for each of
+/// them the branch where it doesn't. Once the walker is made no call takes memory.
 #[derive(Drop)]
-pub(crate) struct Walker {
+pub struct Walker {
     branch: Branch,
     // What each literal of the branch changed, the root's first.
     changes: Vec<Change>,
@@ -26,7 +28,7 @@ pub(crate) struct Walker {
 impl Model for Walker {
     ghost use Rattle.std.specs.Prelude.{◌≤◌, length, vec_capacity};
     ghost use Rattle.csp_branch.specs.Changes.{AreChanges};
-    ghost use Rattle.csp_checker.specs.Walk.{Position};
+    ghost use Rattle.csp_branch.specs.Walks.{Position};
 
     ghost Value = { Position };
 
@@ -41,8 +43,8 @@ impl Model for Walker {
 }
 
 impl Walker {
-    // A walker at a root, for trees of at most so many splits by atoms of these names.
-    pub(crate) fn new(alloc: Global, names: Names, room: usize) -> Result<Walker, Memory>
+    /// A walker at a root, for trees by these names in which no path has more literals than there is room for.
+    pub fn new(alloc: Global, names: Names, room: usize) -> Result<Walker, Memory>
         ensures { IfOk result (λ made. made ≡ record { atoms = names; literals = []; room = room }) }
     {
         a_walk_keeps_the_changes_of_its_path();
@@ -53,22 +55,31 @@ impl Walker {
         })
     }
 
-    // The literals that lead to where it stands.
-    pub(crate) fn branch(&self) -> &Branch
+    /// The literals that lead to where it stands.
+    pub fn branch(&self) -> &Branch
         ensures { result.now ≡ record { atoms = self.now.atoms; literals = self.now.literals } }
     {
         &self.branch
     }
 
-    // Goes back to the root. Behind a tree that keeps its rules it stands there already.
-    pub(crate) fn go_to_root(&mut self)
+    /// The literals that lead to where it stands, the root's first, each with what it changed.
+    pub fn changes(&self) -> &[Change]
+        ensures literals { map (λ (change : ChangeValue). literal_of self.now.atoms change.step) result.now
+            ≡ self.now.literals }
+        ensures named { All (λ (change : ChangeValue). change.step.name < length self.now.atoms) result.now }
+    {
+        &self.changes
+    }
+
+    /// Goes back to the root.
+    pub fn go_to_root(&mut self)
         ensures { self.new ≡ spec.at_root self.old }
     {
         while self.take_back().is_some() {}
     }
 
-    // Goes on below a split, to the case where its atom holds.
-    pub(crate) fn split(&mut self, atom: &Atom)
+    /// Goes on below a split, to the branch where its atom holds.
+    pub fn split(&mut self, atom: &Atom)
         requires named { Contains self.old.atoms atom.now }
         requires room { length self.old.literals < self.old.room }
         ensures { self.new ≡ record self.old { literals = spec.with self.old.literals atom.now true } }
@@ -77,10 +88,10 @@ impl Walker {
         self.take(name, true);
     }
 
-    // Goes on to the next case that is still to come, if there is one: takes back what is done, and turns the
-    // deepest literal that is positive.
-    pub(crate) fn next_case(&mut self) -> bool
-        ensures case { MatchBool result
+    /// Goes on to the next branch that waits, if there is one: takes back what is done, and turns the deepest
+    /// literal that is positive.
+    pub fn next_branch(&mut self) -> bool
+        ensures branch { MatchBool result
             (self.new.literals ∷ spec.pending [] self.new.literals ≡ spec.pending [] self.old.literals)
             (spec.pending [] self.old.literals ≡ []) }
         ensures kept { spec.at_root self.new ≡ spec.at_root self.old }
@@ -95,7 +106,8 @@ impl Walker {
         false
     }
 
-    fn take(&mut self, name: usize, positive: bool)
+    /// Takes a literal by the name of its atom.
+    pub fn take(&mut self, name: usize, positive: bool)
         requires named { name < length self.old.atoms }
         requires room { length self.old.literals < self.old.room }
         ensures { self.new ≡ record self.old {
@@ -107,8 +119,8 @@ impl Walker {
         self.changes.push(change).unwrap();
     }
 
-    // Takes the last literal back, if there is one.
-    fn take_back(&mut self) -> Option<Step>
+    /// Takes the last literal back, if there is one.
+    pub fn take_back(&mut self) -> Option<Step>
         ensures { MatchOption result
             ((self.old.literals ≡ []) × (self.new ≡ self.old))
             (λ last. (last.name < length self.new.atoms) × (length self.new.literals < self.new.room)

@@ -1,12 +1,12 @@
 use Rattle.std.proofs.Common.{arith, ◌∙◌, ◌∷◌, [], ap, sym, length, length-append}
 use Rattle.csp_branch.specs.Groups.{atom_in}
 use Rattle.csp_branch.specs.Paths.{literal_in}
-use Rattle.csp_checker.specs.Walk.{Position, at_root}
-use Rattle.csp_checker.proofs.Steps.{turned, left}
-use Rattle.csp_checker.proofs.walker.Walker.next_case.Goals as goal
+use Rattle.csp_branch.specs.Walks.{Position, at_root}
+use Rattle.csp_branch.proofs.Pending.{turned, left}
+use Rattle.csp_branch.proofs.walker.Walker.next_branch.Goals as goal
 
-pub returns-then-step-clause-case : goal.returns-then-step-clause-case
-returns-then-step-clause-case c =
+pub returns-then-step-clause-branch : goal.returns-then-step-clause-branch
+returns-then-step-clause-branch c =
     let rest = c.take_back.new.self in
     turned c.loop-step.self.literals rest.literals c.take.new.self.literals (atom_in rest.atoms c.in-Some.step.name) c.in-Some.step.positive
     (ap (λ (w : Position). w.literals) c.in-Some.ensures.2) c.if-step.true (ap (λ (w : Position). w.literals) c.take.ensures)

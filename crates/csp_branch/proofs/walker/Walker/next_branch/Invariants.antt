@@ -1,6 +1,6 @@
 use Rattle.std.proofs.Common.{◌≡◌, ◌≤◌, length, []}
-use Rattle.csp_checker.specs.Walk.{at_root, pending}
-use Rattle.csp_checker.proofs.walker.Walker.next_case.Given as goal
+use Rattle.csp_branch.specs.Walks.{at_root, pending}
+use Rattle.csp_branch.proofs.walker.Walker.next_branch.Given as goal
 
 abbrev pub invariant-loop-step : goal.invariant-loop-step
 invariant-loop-step l = record {
