@@ -1,6 +1,6 @@
 //! A walker of trees: the literals that lead to where it stands, and the way back from there.
 ghost use Rattle.std.specs.Prelude.{◌≡◌, ◌<◌, ◌≤◌, [], ◌∷◌, ◌++◌, length, true};
-ghost use Rattle.std.specs.Prelude.{All, Contains, IfOk, MatchBool, MatchOption, map};
+ghost use Rattle.std.specs.Prelude.{All, Contains, IfOk, MatchBool, MatchOption, map, take};
 ghost use Rattle.csp_branch.specs.Paths.{literal_in, literal_of};
 ghost use Rattle.csp_branch.specs.Walks as spec;
 ghost use Rattle.csp_branch.specs.declared.branch.Change.{Change as ChangeValue};
@@ -71,11 +71,27 @@ impl Walker {
         &self.changes
     }
 
+    /// How many literals lead to where it stands.
+    pub fn depth(&self) -> usize
+        ensures { result ≡ length self.now.literals }
+    {
+        self.changes.len()
+    }
+
     /// Goes back to the root.
     pub fn go_to_root(&mut self)
         ensures { self.new ≡ spec.at_root self.old }
     {
-        while self.take_back().is_some() {}
+        self.go_back_to(0);
+    }
+
+    /// Takes literals back until at most so many are left.
+    pub fn go_back_to(&mut self, count: usize)
+        ensures { self.new ≡ record self.old { literals = take count self.old.literals } }
+    {
+        while self.depth() > count {
+            self.take_back();
+        }
     }
 
     /// Goes on below a split, to the branch where its atom holds.
