@@ -50,13 +50,6 @@ adds_both None (Some true) z e f = f
 adds_both None (Some false) z e f = e
 adds_both None None z e f = e
 
-pub adds_through : (x y z : Option Bool) → AddsNothing x y → AddsNothing y z → AddsNothing x z
-adds_through (Some false) y z e f = refl
-adds_through (Some true) y z e f = rw (← e) at f
-adds_through None (Some true) z e f = rw (← f) refl
-adds_through None (Some false) z e f = cc
-adds_through None None z e f = f
-
 -- two that add nothing to each other are one
 pub adds_neither : (x y : Option Bool) → AddsNothing x y → AddsNothing y x → x ≡ y
 adds_neither x y e f = sym f ∙ or_swapped y x ∙ e

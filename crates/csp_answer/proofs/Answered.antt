@@ -1,29 +1,30 @@
 -- Answers of the conjunctions of a list, and of the rule on integrity metadata.
-use Rattle.std.proofs.Common.{◌≡◌, ◌∙◌, sym, ap, ap₂, refl, subst, ℕ, Bool, true, false, List, [], ◌∷◌, ◌++◌, length, Option, Some, None, All, IfSome, Result, Ok, Err, IfOk}
+use Rattle.std.proofs.Common.{◌≡◌, ◌∙◌, sym, ap, ap₂, subst, ℕ, Bool, true, false, List, [], ◌∷◌, ◌++◌, length, Option, Some, None, All, IfSome, Result, Ok, Err, IfOk}
 use Rattle.std.specs.Option.{option_map}
 use Rattle.csp_model.specs.declared.policy.Directive.{Directive}
-use Rattle.csp_model.specs.declared.source.Hash.{Hash}
 use Rattle.csp_model.specs.declared.source.Source.{Source}
 use Rattle.csp_atom.specs.declared.atom.Atom.{Atom}
 use Rattle.csp_formula.specs.Questions.{said_by_list}
 use Rattle.csp_formula.specs.Sentences.{Sentence, Known, Either, any_of}
 use Rattle.csp_formula.specs.Surely.{surely, maybe_or}
 use Rattle.csp_formula.proofs.Maybe.{maybe_or_assoc}
-use Rattle.csp_answer.specs.Answers.{AreThere, IsAnswer, IsIntegrityThere, SaysTheSame, answer_in, disjunction_in, integrity_in, sentence_in}
+use Rattle.csp_answer.specs.Answers.{AreThere, IsAmong, IsAnswer, IsIntegrityThere, SaysTheSame, answer_in, disjunction_in, integrity_in, sentence_in}
 use Rattle.csp_answer.specs.Asking.{AmountTo, Answers}
 use Rattle.csp_answer.specs.declared.answer.Answer.{Answer}
 use Rattle.csp_answer.specs.declared.answer.Integrity.{Integrity}
 use Rattle.csp_answer.specs.declared.conjunction.Conjunction.{Conjunction}
+use Rattle.csp_answer.proofs.Among.{among_itself, among_same, both_among, either_among, ended_among, first_among, last_among}
 use Rattle.csp_answer.proofs.Amounts.{joined, or_none, or_turned, turned_to}
 
 module _ (atoms : List Atom) where
   -- an answer without the rule on integrity metadata
   pub plain : (sentence : Sentence) (conjunctions : List Conjunction) (made : Answer) → AmountTo atoms sentence conjunctions
-      → SaysTheSame (sentence_in atoms made) (answer_in atoms conjunctions None)
+      → SaysTheSame (sentence_in atoms made) (answer_in atoms conjunctions None) → IsAmong (sentence_in atoms made) (answer_in atoms conjunctions None)
       → (All (AreThere (length atoms)) conjunctions → IfSome {T = Integrity} None (IsIntegrityThere (length atoms)) → IsAnswer (length atoms) made)
       → Answers atoms sentence made
-  plain sentence conjunctions made amount says is = record {
+  plain sentence conjunctions made amount says among is = record {
     said = λ ls. says ls ∙ or_none (surely ls (disjunction_in atoms conjunctions)) ∙ amount.says ls;
+    among = λ atom has. ended_among (disjunction_in atoms conjunctions) sentence false amount.among atom (among atom has);
     answer = is amount.there tt;
   }
 
@@ -33,21 +34,31 @@ module _ (atoms : List Atom) where
   together x y ones others both of_ones of_others is =
       subst (AmountTo atoms (any_of (x ∷ y ∷ []))) (sym is)
       (turned_to atoms (Either x y) (any_of (x ∷ y ∷ [])) (ones ++ others) (joined atoms x y ones others of_ones of_others)
-      (λ ls. ap (maybe_or (surely ls x)) (sym (or_none (surely ls y)))))
+      (λ ls. ap (maybe_or (surely ls x)) (sym (or_none (surely ls y))))
+      (both_among x y x (any_of (y ∷ [])) (among_itself x) (first_among y (Known false))))
 
   -- the rule on integrity metadata stands before the last of three
   last_but_one : (x y z : Option Bool) → maybe_or (maybe_or x y) z ≡ maybe_or x (maybe_or z (maybe_or y (Some false)))
   last_but_one x y z = maybe_or_assoc x y z ∙ ap (maybe_or x) (or_turned y z ∙ ap (maybe_or z) (sym (or_none y)))
 
+  among_three : (x y z : Sentence) → IsAmong (Either (Either x y) z) (any_of (x ∷ z ∷ y ∷ []))
+  among_three x y z =
+      let of_y : IsAmong y (any_of (z ∷ y ∷ [])) = λ atom has. last_among z (any_of (y ∷ [])) atom (first_among y (Known false) atom has) in
+      let of_z : IsAmong z (any_of (x ∷ z ∷ y ∷ [])) = λ atom has. last_among x (any_of (z ∷ y ∷ [])) atom (first_among z (any_of (y ∷ [])) atom has) in
+      either_among (Either x y) z (any_of (x ∷ z ∷ y ∷ [])) (both_among x y x (any_of (z ∷ y ∷ [])) (among_itself x) of_y) of_z
+
   pub with_integrity : (x y z : Sentence) (ones others both : List Conjunction) (rule : Integrity) (made : Answer) → AmountTo atoms x ones → AmountTo atoms y others
       → both ≡ ones ++ others → integrity_in atoms (Some rule) ≡ z → IsIntegrityThere (length atoms) rule
-      → SaysTheSame (sentence_in atoms made) (answer_in atoms both (Some rule))
+      → SaysTheSame (sentence_in atoms made) (answer_in atoms both (Some rule)) → IsAmong (sentence_in atoms made) (answer_in atoms both (Some rule))
       → (All (AreThere (length atoms)) both → IfSome (Some rule) (IsIntegrityThere (length atoms)) → IsAnswer (length atoms) made)
       → Answers atoms (any_of (x ∷ z ∷ y ∷ [])) made
-  with_integrity x y z ones others both rule made of_ones of_others is same there says answer =
+  with_integrity x y z ones others both rule made of_ones of_others is same there says among answer =
       let amount = subst (AmountTo atoms (Either x y)) (sym is) (joined atoms x y ones others of_ones of_others) in
       record {
         said = λ ls. says ls ∙ ap₂ maybe_or (amount.says ls) (ap (surely ls) same) ∙ last_but_one (surely ls x) (surely ls y) (surely ls z);
+        among = λ atom has. among_three x y z atom
+            (both_among (disjunction_in atoms both) (integrity_in atoms (Some rule)) (Either x y) z amount.among (among_same (integrity_in atoms (Some rule)) z same) atom
+            (among atom has));
         answer = answer amount.there there;
       }
 
@@ -63,16 +74,19 @@ nothing_at found says is = sym (ap (λ f. said_by_list f says) is)
 -- what the call that makes an answer promises, where there is no rule on integrity metadata
 pub made_plain : {E : Type 0} (r : Result Answer E) (conjunctions : List Conjunction)
     → IfOk r (λ made. (atoms : List Atom) → SaysTheSame (sentence_in atoms made) (answer_in atoms conjunctions None))
+    → IfOk r (λ made. (atoms : List Atom) → IsAmong (sentence_in atoms made) (answer_in atoms conjunctions None))
     → IfOk r (λ made. (count : ℕ) → All (AreThere count) conjunctions → IfSome {T = Integrity} None (IsIntegrityThere count) → IsAnswer count made)
     → IfOk r (λ made. (atoms : List Atom) (x y : Sentence) → AmountTo atoms x conjunctions → x ≡ y → Answers atoms y made)
-made_plain (Ok made) conjunctions says is = λ atoms x y amount same. subst (λ s. Answers atoms s made) same (plain atoms x conjunctions made amount (says atoms) (is (length atoms)))
-made_plain (Err e) conjunctions says is = tt
+made_plain (Ok made) conjunctions says among is = λ atoms x y amount same.
+    subst (λ s. Answers atoms s made) same (plain atoms x conjunctions made amount (says atoms) (among atoms) (is (length atoms)))
+made_plain (Err e) conjunctions says among is = tt
 
 pub made_with : {E : Type 0} (r : Result Answer E) (conjunctions : List Conjunction) (rule : Integrity)
     → IfOk r (λ made. (atoms : List Atom) → SaysTheSame (sentence_in atoms made) (answer_in atoms conjunctions (Some rule)))
+    → IfOk r (λ made. (atoms : List Atom) → IsAmong (sentence_in atoms made) (answer_in atoms conjunctions (Some rule)))
     → IfOk r (λ made. (count : ℕ) → All (AreThere count) conjunctions → IfSome (Some rule) (IsIntegrityThere count) → IsAnswer count made)
     → IfOk r (λ made. (atoms : List Atom) (x y z : Sentence) (ones others : List Conjunction) → AmountTo atoms x ones → AmountTo atoms y others
     → conjunctions ≡ ones ++ others → integrity_in atoms (Some rule) ≡ z → IsIntegrityThere (length atoms) rule → Answers atoms (any_of (x ∷ z ∷ y ∷ [])) made)
-made_with (Ok made) conjunctions rule says is = λ atoms x y z ones others of_ones of_others joins same there.
-    with_integrity atoms x y z ones others conjunctions rule made of_ones of_others joins same there (says atoms) (is (length atoms))
-made_with (Err e) conjunctions rule says is = tt
+made_with (Ok made) conjunctions rule says among is = λ atoms x y z ones others of_ones of_others joins same there.
+    with_integrity atoms x y z ones others conjunctions rule made of_ones of_others joins same there (says atoms) (among atoms) (is (length atoms))
+made_with (Err e) conjunctions rule says among is = tt

@@ -1,5 +1,5 @@
 -- What is asked of the parts of a check, and the conjunction of it.
-use Rattle.std.proofs.Common.{◌≡◌, ◌∙◌, sym, ap, ap₂, refl, subst, ℕ, ◌==◌, Bool, true, false, cond, ◌||◌, not, List, [], ◌∷◌, length, Option, Some, None, Contains, IfSome}
+use Rattle.std.proofs.Common.{◌≡◌, ◌∙◌, sym, ap, ap₂, refl, subst, ℕ, ◌==◌, Bool, true, false, cond, ◌||◌, not, List, [], ◌∷◌, Option, Some, None, Contains}
 use Rattle.std.specs.Option.{option_map, option_to_list}
 use Rattle.std.specs.List.{slice_get}
 use Rattle.std.proofs.lemmas.Bool.{false≢true}
@@ -20,16 +20,18 @@ use Rattle.csp_model.specs.declared.url.Host.TheVariants.{Domain, Address}
 use Rattle.csp_branch.specs.Groups.{atom_in}
 use Rattle.csp_shape.specs.declared.shape.Shape.{Shape}
 use Rattle.csp_formula.specs.Outlines.{path_said, port_said}
-use Rattle.csp_formula.specs.Sentences.{Sentence, Known, Fact, Both, all_of}
+use Rattle.csp_formula.specs.Sentences.{Sentence, Known, Fact, all_of}
 use Rattle.csp_formula.specs.Sources.{after_redirect, has_dots, host_sentence, is_ancestor, own_port_sentence, path_fact, path_sentence, port_sentence}
 use Rattle.csp_formula.specs.Surely.{surely, maybe_and}
 use Rattle.csp_formula.specs.declared.outline.PathOutline.{PathOutline}
 use Rattle.csp_formula.specs.declared.outline.PathOutline.TheVariants as path
 use Rattle.csp_formula.specs.declared.outline.PortOutline.{PortOutline}
 use Rattle.csp_formula.specs.declared.outline.PortOutline.TheVariants as port
-use Rattle.csp_answer.specs.Asking.{AmountTo, IsAsked, IsNameOf, IsPortNamed, asked_in, conjunction_of, path_asked}
+use Rattle.csp_answer.specs.Answers.{fact_in}
+use Rattle.csp_answer.specs.Asking.{AmountTo, IsAsked, IsNameOf, IsPortNamed, conjunction_of, path_asked}
 use Rattle.csp_answer.specs.Naming.{host_atom, path_atom}
-use Rattle.csp_answer.proofs.Amounts.{and_never, never, one, turned_to}
+use Rattle.csp_answer.proofs.Among.{among_same}
+use Rattle.csp_answer.proofs.Amounts.{and_never, one, turned_to_never}
 
 -- an atom, or what never holds
 abbrev pub maybe_fact : Option Atom → Sentence
@@ -67,17 +69,17 @@ module _ (atoms : List Atom) where
   pub conjunction_amounts : (x y z : Sentence) (lead : Option ℕ) (at by : Option (Option ℕ)) → IsAsked atoms x (option_map Some lead) → IsAsked atoms y at
       → IsAsked atoms z by → AmountTo atoms (all_of (x ∷ y ∷ z ∷ [])) (option_to_list (conjunction_of lead at by))
   conjunction_amounts x y z None at by of_x of_y of_z =
-      turned_to atoms (Known false) (all_of (x ∷ y ∷ z ∷ [])) [] (never atoms)
-      (λ ls. ap (λ s. surely ls (all_of (s ∷ y ∷ z ∷ []))) of_x.says)
+      turned_to_never atoms (all_of (x ∷ y ∷ z ∷ [])) (λ ls. ap (λ s. surely ls (all_of (s ∷ y ∷ z ∷ []))) of_x.says)
   conjunction_amounts x y z (Some n) None by of_x of_y of_z =
-      turned_to atoms (Known false) (all_of (x ∷ y ∷ z ∷ [])) [] (never atoms)
+      turned_to_never atoms (all_of (x ∷ y ∷ z ∷ []))
       (λ ls. sym (and_never (surely ls x)) ∙ ap (λ s. surely ls (all_of (x ∷ s ∷ z ∷ []))) of_y.says)
   conjunction_amounts x y z (Some n) (Some p) None of_x of_y of_z =
-      turned_to atoms (Known false) (all_of (x ∷ y ∷ z ∷ [])) [] (never atoms)
+      turned_to_never atoms (all_of (x ∷ y ∷ z ∷ []))
       (λ ls. sym (ap (maybe_and (surely ls x)) (and_never (surely ls y)) ∙ and_never (surely ls x)) ∙ ap (λ s. surely ls (all_of (x ∷ y ∷ s ∷ []))) of_z.says)
   conjunction_amounts x y z (Some n) (Some p) (Some q) of_x of_y of_z =
       one atoms (record { lead = Some n; port = p; path = q }) (all_of (x ∷ y ∷ z ∷ []))
       (λ ls. ap₂ maybe_and (ap (surely ls) of_x.says) (ap₂ maybe_and (ap (surely ls) of_y.says) (ap (λ s. maybe_and (surely ls s) (Some true)) of_z.says)))
+      (among_same (all_of (fact_in atoms (Some n) ∷ fact_in atoms p ∷ fact_in atoms q ∷ [])) (all_of (x ∷ y ∷ z ∷ [])) (rw (of_x.says, of_y.says, of_z.says) refl))
       (record { lead = of_x.there; port = of_y.there; path = of_z.there })
 
 -- Hosts

@@ -1,12 +1,15 @@
 pub mod Adding
+pub mod Among
 pub mod Amounts
 pub mod Answered
 pub mod AskedParts
 pub mod Finding
+pub mod Hashes
 pub mod ListedSoFar
 pub mod ListsNamed
 pub mod Members
 pub mod NamesIn
+pub mod NamesOf
 pub mod Parts
 pub mod Rules
 pub mod Sorting

@@ -9,7 +9,7 @@ use Rattle.csp_model.specs.declared.source.Source.{Source}
 use Rattle.csp_model.specs.declared.url.Origin.{Origin}
 use Rattle.csp_atom.specs.declared.atom.Atom.{Atom}
 use Rattle.csp_atom.specs.declared.atom.Atom.TheVariants.{HostDomain}
-use Rattle.csp_answer.specs.Asking.{HasPorts, IsListNamed, IsNameOf, IsSourceNamed}
+use Rattle.csp_answer.specs.Asking.{HasPorts, IsNameOf, IsSourceNamed}
 use Rattle.csp_answer.specs.Naming.{AreNamesThere, HasPort, IsNamed, NamedAtoms, atoms_of, lead_atom, named_in, rest_atom}
 use Rattle.csp_answer.specs.declared.naming.NamedPolicy.{NamedPolicy}
 use Rattle.csp_answer.specs.declared.naming.SourceNames.{SourceNames}

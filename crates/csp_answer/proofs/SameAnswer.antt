@@ -9,7 +9,7 @@ use Rattle.std.proofs.lemmas.Bool.Decides.{Decides-and, Decides-eqb}
 use Rattle.std.proofs.lemmas.Slice.Eq.{slice_eq-Decides}
 use Rattle.csp_atom.specs.declared.atom.Atom.{Atom}
 use Rattle.csp_formula.specs.Sentences.{Sentence, Either}
-use Rattle.csp_answer.specs.Answers.{AreThere, IsIntegrityThere, Rise, answer_in, disjunction_in, integrity_in, sentence_in, SaysTheSame}
+use Rattle.csp_answer.specs.Answers.{AreThere, IsAmong, IsIntegrityThere, Rise, answer_in, disjunction_in, integrity_in, sentence_in, SaysTheSame}
 use Rattle.csp_answer.specs.Policies.{IsSameAnswer, IsSameIntegrity}
 use Rattle.csp_answer.specs.Tables.{Says}
 use Rattle.csp_answer.specs.contracts.answer.AnswerPartialEq.TheImpl as answers
@@ -49,6 +49,7 @@ says_too atoms sentence one other same says =
         rise = subst Rise (sym same.conjunctions) says.answer.rise;
       };
       says = subst (λ (s : Sentence). SaysTheSame s sentence) (sym is) says.says;
+      among = subst (λ (s : Sentence). IsAmong s sentence) (sym is) says.among;
     }
 
 -- The test

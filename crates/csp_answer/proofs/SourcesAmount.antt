@@ -1,15 +1,14 @@
 -- What the conjunction of a source amounts to, by the source's outline.
-use Rattle.std.proofs.Common.{◌≡◌, ◌≢◌, ◌∙◌, sym, ap, ap₂, subst, refl, ℕ, Bool, true, false, cond, List, [], ◌∷◌, Option, Some, None, Contains, is_some}
-use Rattle.std.specs.Option.{option_map, option_to_list}
+use Rattle.std.proofs.Common.{◌≡◌, ◌≢◌, ◌∙◌, sym, ap, ap₂, subst, refl, ℕ, Bool, true, false, cond, List, [], ◌∷◌, Option, Some, None, is_some}
+use Rattle.std.specs.Option.{option_to_list}
 use Rattle.csp_model.specs.DecideEquality.{same_keyword}
 use Rattle.csp_model.specs.DecideMatching.{own_scheme_matches, self_scheme_matches}
-use Rattle.csp_model.specs.Schemes.{default_port, scheme_named, scheme_text}
+use Rattle.csp_model.specs.Schemes.{scheme_named, scheme_text}
 use Rattle.csp_model.specs.declared.source.HostPart.{HostPart}
 use Rattle.csp_model.specs.declared.source.Keyword.{Keyword}
 use Rattle.csp_model.specs.declared.source.Keyword.TheVariants as keyword
 use Rattle.csp_model.specs.declared.source.PathPart.{PathPart}
 use Rattle.csp_model.specs.declared.source.PortPart.{PortPart}
-use Rattle.csp_model.specs.declared.source.PortPart.TheVariants as port_part
 use Rattle.csp_model.specs.declared.source.Source.{Source}
 use Rattle.csp_model.specs.declared.source.Source.TheVariants as source
 use Rattle.csp_model.specs.declared.url.Host.{Host}
@@ -17,7 +16,7 @@ use Rattle.csp_model.specs.declared.url.Origin.{Origin}
 use Rattle.csp_model.specs.declared.url.Origin.TheVariants as origin
 use Rattle.csp_model.specs.declared.url.Scheme.{Scheme}
 use Rattle.csp_atom.specs.declared.atom.Atom.{Atom}
-use Rattle.csp_atom.specs.declared.atom.Atom.TheVariants.{HostIs, PortIs, SchemeIs}
+use Rattle.csp_atom.specs.declared.atom.Atom.TheVariants.{HostIs, SchemeIs}
 use Rattle.csp_shape.specs.declared.shape.Shape.{Shape}
 use Rattle.csp_formula.specs.Outlines.{outlined, own_said, path_said, port_said}
 use Rattle.csp_formula.specs.Sentences.{Sentence, Known, Fact, Both, all_of}
@@ -28,10 +27,11 @@ use Rattle.csp_formula.specs.declared.outline.Outline.TheVariants as outline
 use Rattle.csp_formula.specs.declared.outline.PathOutline.{PathOutline}
 use Rattle.csp_formula.specs.declared.outline.PortOutline.{PortOutline}
 use Rattle.csp_answer.specs.Asking.{AmountTo, HasPorts, IsAsked, IsNameOf, IsPortNamed, IsSourceNamed, conjunction_of, path_asked}
-use Rattle.csp_answer.specs.Naming.{HasOwnPort, HasPort, host_atom, own_atom, path_atom, scheme_atom}
+use Rattle.csp_answer.specs.Naming.{HasOwnPort, HasPort, host_atom, own_atom, scheme_atom}
 use Rattle.csp_answer.specs.declared.conjunction.Conjunction.{Conjunction}
 use Rattle.csp_answer.specs.declared.naming.SourceNames.{SourceNames}
-use Rattle.csp_answer.proofs.Amounts.{always, and_always, never, turned_to}
+use Rattle.csp_answer.proofs.Among.{among_same, ended_among}
+use Rattle.csp_answer.proofs.Amounts.{and_always, never, turned_to}
 use Rattle.csp_answer.proofs.AskedParts.{conjunction_amounts, host_said, maybe_fact, named_lead, nothing_asked, own_named, path_named, port_named}
 
 module _ (atoms : List Atom) (self : Origin) (kind : Shape) where
@@ -54,6 +54,8 @@ module _ (atoms : List Atom) (self : Origin) (kind : Shape) where
       (conjunction_amounts atoms (maybe_fact (scheme_atom part)) (Known true) (Known true) lead (Some None) (Some None) asked nothing nothing)
       (λ ls. and_always (surely ls (maybe_fact (scheme_atom part)))
       ∙ ap (λ a. surely ls (maybe_fact a)) (asked_scheme part (shape_scheme kind) says) ∙ ap (surely ls) says)
+      (ended_among (maybe_fact (scheme_atom part)) (source_sentence self kind (source.SchemeOnly part)) true
+      (among_same (maybe_fact (scheme_atom part)) (source_sentence self kind (source.SchemeOnly part)) (ap maybe_fact (asked_scheme part (shape_scheme kind) says) ∙ says)))
 
   -- the source is one of a host
 
@@ -109,7 +111,7 @@ module _ (atoms : List Atom) (self : Origin) (kind : Shape) where
   own_amounts own at lead asked is of_port =
       turned_to atoms (all_of (maybe_fact own ∷ port_said at ∷ Known true ∷ [])) (all_of (maybe_fact own ∷ port_said at ∷ [])) (option_to_list (conjunction_of lead asked (Some None)))
       (conjunction_amounts atoms (maybe_fact own) (port_said at) (Known true) lead asked (Some None) (named_lead atoms own lead is) of_port (nothing_asked atoms))
-      (λ ls. refl)
+      (λ ls. refl) (λ atom has. has)
 
   self_amounts_at : (from : Origin) (b : Bool) (at : PortOutline) (lead : Option ℕ) (asked : Option (Option ℕ)) (scheme : Option Scheme)
       → IsNameOf atoms (cond b (own_atom from) None) lead → HasPorts atoms from → (IsPortNamed atoms at → IsAsked atoms (port_said at) asked)

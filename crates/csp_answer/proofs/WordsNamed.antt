@@ -1,5 +1,5 @@
 -- The names of what sources ask for apart from URLs, and what they say.
-use Rattle.std.proofs.Common.{arith, ◌≡◌, ◌∙◌, sym, ap, ap₂, refl, subst, ℕ, ◌<◌, ◌==◌, Bool, true, false, ◌||◌, not, cond, List, [], ◌∷◌, ◌++◌, map, filter, length, Option, Some, None, All}
+use Rattle.std.proofs.Common.{◌≡◌, ◌∙◌, sym, ap, ap₂, refl, subst, ℕ, ◌<◌, ◌==◌, Bool, true, false, ◌||◌, not, cond, List, [], ◌∷◌, ◌++◌, map, length, Option, Some, None, All}
 use Rattle.std.specs.List.{AllZip, cons_option, filter_map, list_any, slice_get, slice_index_or}
 use Rattle.std.specs.Option.{option_map}
 use Rattle.std.proofs.lemmas.Bool.{false≢true, true≢false}
@@ -24,7 +24,7 @@ use Rattle.csp_formula.specs.Compiled.{digest_fact, digest_of, has_pair, integri
 use Rattle.csp_formula.specs.Sentences.{Sentence, Fact, Not, all_of, any_of}
 use Rattle.csp_formula.specs.Surely.{surely}
 use Rattle.csp_formula.proofs.MembersOf.{own_has}
-use Rattle.csp_answer.specs.Answers.{IsIntegrityThere, conjunction_in, denial_in, integrity_in, name_in}
+use Rattle.csp_answer.specs.Answers.{IsIntegrityThere, denial_in, integrity_in, name_in}
 use Rattle.csp_answer.specs.Asking.{AmountTo, IsSourceNamed, names_but, word_name, word_names, word_sentence}
 use Rattle.csp_answer.specs.Naming.{ArePairs}
 use Rattle.csp_answer.specs.declared.answer.Integrity.{Integrity}
@@ -33,6 +33,7 @@ use Rattle.csp_answer.specs.declared.naming.PairNames.{PairNames}
 use Rattle.csp_answer.specs.declared.naming.SourceNames.{SourceNames}
 use Rattle.csp_answer.specs.declared.words.Word.{Word}
 use Rattle.csp_answer.specs.declared.words.Word.TheVariants as word
+use Rattle.csp_answer.proofs.Among.{among_same, ended_among}
 use Rattle.csp_answer.proofs.Amounts.{and_always, joined, never, one}
 use Rattle.csp_answer.proofs.AskedParts.{atom_of}
 
@@ -114,6 +115,7 @@ module _ (atoms : List Atom) where
       let later : StandAt atoms names given = cc in
       joined atoms (Fact a) (any_of (map Fact given)) (alone n ∷ []) (map alone names)
       (one atoms (alone n) (Fact a) (λ ls. and_always (surely ls (name_in atoms n)) ∙ ap (λ x. surely ls (Fact x)) (atom_of atoms n a here))
+      (ended_among (name_in atoms n) (Fact a) true (among_same (name_in atoms n) (Fact a) (ap Fact (atom_of atoms n a here))))
       (record { lead = slice_get_within atoms n a here; port = tt; path = tt }))
       (names_amount names given later)
 

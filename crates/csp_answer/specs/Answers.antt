@@ -1,11 +1,13 @@
 -- What answers say, as sentences over the atoms of their names.
-use Rattle.std.specs.Prelude.{◌≡◌, ℕ, ◌+◌, ◌<◌, ◌≤◌, true, false, List, [], ◌∷◌, ◌++◌, map, length, Option, Some, None, All, IfSome}
-use Rattle.std.specs.List.{slice_index_or}
+use Rattle.std.specs.Prelude.{◌≡◌, ℕ, ◌+◌, ◌<◌, ◌≤◌, true, false, List, [], ◌∷◌, ◌++◌, map, length, Option, Some, None, All, Contains, IfSome}
+use Rattle.std.specs.List.{flat_map, slice_index_or}
+use Rattle.std.specs.Option.{option_to_list}
 use Rattle.csp_atom.specs.declared.atom.Atom.{Atom}
 use Rattle.csp_atom.specs.declared.atom.Literal.{Literal}
 use Rattle.csp_branch.specs.Groups.{atom_in}
 use Rattle.csp_formula.specs.Sentences.{Sentence, Known, Fact, Not, Either, all_of, any_of}
 use Rattle.csp_formula.specs.Surely.{surely}
+use Rattle.csp_formula.specs.Values.{atoms_in}
 use Rattle.csp_answer.specs.declared.answer.Answer.{Answer}
 use Rattle.csp_answer.specs.declared.answer.Integrity.{Integrity}
 use Rattle.csp_answer.specs.declared.conjunction.Conjunction.{Conjunction}
@@ -43,6 +45,23 @@ sentence_in atoms answer = answer_in atoms answer.conjunctions.items answer.inte
 -- whatever literals there are, they decide the same of both
 abbrev pub SaysTheSame : Sentence → Sentence → Type 0
 SaysTheSame one other = (literals : List Literal) → surely literals one ≡ surely literals other
+
+-- each atom of the one stands in the other
+abbrev pub IsAmong : Sentence → Sentence → Type 0
+IsAmong one other = (atom : Atom) → Contains (atoms_in one) atom → Contains (atoms_in other) atom
+
+-- the names of a conjunction, each where it stands: of what leads it, of the port and of the path
+abbrev pub names_in : Conjunction → List ℕ
+names_in c = option_to_list c.lead ++ option_to_list c.port ++ option_to_list c.path
+
+-- those of the rule on integrity metadata, where there is one
+abbrev pub rule_names : Option Integrity → List ℕ
+rule_names None = []
+rule_names (Some i) = i.outside ∷ (i.others.items ++ i.own.items)
+
+-- those of an answer: those of its conjunctions in order, and then those of the rule
+abbrev pub names_of : Answer → List ℕ
+names_of answer = flat_map names_in answer.conjunctions.items ++ rule_names answer.integrity
 
 -- the names are there
 abbrev pub IsThere : ℕ → Option ℕ → Type 0

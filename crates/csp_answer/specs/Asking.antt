@@ -16,7 +16,7 @@ use Rattle.csp_formula.specs.declared.outline.PathOutline.{PathOutline}
 use Rattle.csp_formula.specs.declared.outline.PathOutline.TheVariants as path
 use Rattle.csp_formula.specs.declared.outline.PortOutline.{PortOutline}
 use Rattle.csp_formula.specs.declared.outline.PortOutline.TheVariants as port
-use Rattle.csp_answer.specs.Answers.{AreThere, IsAnswer, IsThere, SaysTheSame, disjunction_in, fact_in, sentence_in}
+use Rattle.csp_answer.specs.Answers.{AreThere, IsAmong, IsAnswer, IsThere, SaysTheSame, disjunction_in, fact_in, sentence_in}
 use Rattle.csp_answer.specs.Naming.{HasOwnPort, HasPort, lead_atom, rest_atom}
 use Rattle.csp_answer.specs.declared.answer.Answer.{Answer}
 use Rattle.csp_answer.specs.declared.conjunction.Conjunction.{Conjunction}
@@ -56,9 +56,11 @@ pub record IsListAt (atoms : List Atom) (p : NamedPolicy) (place : ℕ) (list : 
 
 -- Conjunctions
 
--- one of the conjunctions holds where the sentence does, and their names are there
+-- one of the conjunctions holds where the sentence does, they speak of no other atoms, and their names are
+-- there
 pub record AmountTo (atoms : List Atom) (sentence : Sentence) (conjunctions : List Conjunction) : Type 0 where
   pub says : SaysTheSame (disjunction_in atoms conjunctions) sentence
+  pub among : IsAmong (disjunction_in atoms conjunctions) sentence
   pub there : All (AreThere (length atoms)) conjunctions
 
 -- what is asked of a part of a check: None where the part never holds, and Some None where nothing is asked
@@ -87,9 +89,10 @@ conjunction_of (Some lead) (Some port) (Some path) =
     Some (record { lead = Some lead; port = port; path = path })
 conjunction_of lead port path = None
 
--- the answer says what the sentence does, by names that are there
+-- the answer says what the sentence does, and speaks of no other atoms, by names that are there
 pub record Answers (atoms : List Atom) (sentence : Sentence) (made : Answer) : Type 0 where
   pub said : SaysTheSame (sentence_in atoms made) sentence
+  pub among : IsAmong (sentence_in atoms made) sentence
   pub answer : IsAnswer (length atoms) made
 
 -- Words

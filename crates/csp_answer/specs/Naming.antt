@@ -109,7 +109,8 @@ abbrev pub HasOwnPort : List Atom → Origin → Type 0
 HasOwnPort atoms (origin.Tuple scheme host (Some n)) = Contains atoms (PortIs n)
 HasOwnPort atoms self = ⊤
 
--- the names of each directive's sources are those of their atoms, and all ports that may be asked for have one
+-- the names of each directive's sources are those of their atoms, and all ports that may be asked for have
+-- one
 pub record IsNamed (atoms : List Atom) (named : NamedPolicy) : Type 0 where
   pub sources : map (map (named_in atoms)) named.directives
       ≡ map (λ (d : Directive). map (atoms_of named.policy.now.origin) d.sources) named.policy.now.directives

@@ -9,7 +9,7 @@ use Rattle.csp_shape.specs.Shapes.{is_shape}
 use Rattle.csp_shape.specs.declared.shape.Shape.{Shape}
 use Rattle.csp_formula.specs.Compiled.{policy_sentence}
 use Rattle.csp_formula.specs.Sentences.{Sentence}
-use Rattle.csp_answer.specs.Answers.{IsAnswer, SaysTheSame, sentence_in}
+use Rattle.csp_answer.specs.Answers.{IsAmong, IsAnswer, SaysTheSame, sentence_in}
 use Rattle.csp_answer.specs.declared.answer.Answer.{Answer}
 use Rattle.csp_answer.specs.declared.policy.PolicyAnswers.{PolicyAnswers}
 use Rattle.csp_answer.specs.declared.table.AnswerTable.{AnswerTable}
@@ -18,10 +18,11 @@ use Rattle.csp_answer.specs.declared.table.AnswerTable.{AnswerTable}
 abbrev pub answer_at : ℕ → PolicyAnswers → Option Answer
 answer_at shape answers = option_and_then (slice_get answers.answers) (slice_get answers.places shape)
 
--- the answer says this, by these names
+-- the answer says this, by these names, and speaks of no other atoms
 pub record Says (atoms : List Atom) (sentence : Sentence) (made : Answer) : Type 0 where
   pub answer : IsAnswer (length atoms) made
   pub says : SaysTheSame (sentence_in atoms made) sentence
+  pub among : IsAmong (sentence_in atoms made) sentence
 
 -- what the policy says of each shape, by the shape's number
 abbrev pub IsAnswered : List Atom → List Hash → Policy → PolicyAnswers → Type 0

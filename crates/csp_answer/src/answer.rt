@@ -1,5 +1,6 @@
 //! What a policy answers at a shape.
-ghost use Rattle.std.specs.Prelude.{◌≡◌, ℕ, All, IfOk, IfSome, List as Items, option_copied};
+ghost use Rattle.std.specs.Prelude.{◌≡◌, ◌++◌, ℕ, All, IfOk, IfSome, List as Items, OnOk, option_copied};
+ghost use Rattle.std.specs.Option.{option_to_list};
 ghost use Rattle.csp_atom.specs.declared.atom.Atom.{Atom as AtomValue};
 ghost use Rattle.csp_answer.specs.Answers as spec;
 
@@ -37,6 +38,9 @@ impl Answer {
         ensures said { IfOk result (λ made. (atoms : Items AtomValue)
             → spec.SaysTheSame (spec.sentence_in atoms made)
             (spec.answer_in atoms conjunctions.items integrity)) }
+        ensures among { IfOk result (λ made. (atoms : Items AtomValue)
+            → spec.IsAmong (spec.sentence_in atoms made)
+            (spec.answer_in atoms conjunctions.items integrity)) }
         ensures answer { IfOk result (λ made. (count : ℕ)
             → All (spec.AreThere count) conjunctions.items
             → IfSome integrity (spec.IsIntegrityThere count) → spec.IsAnswer count made) }
@@ -62,4 +66,39 @@ impl Answer {
     {
         self.integrity.as_ref()
     }
+
+    /// The names of the answer, each where it stands: those of the conjunctions, then those of the rule.
+    pub fn names(&self, alloc: Global) -> Result<Vec<usize>, Memory>
+        ensures { IfOk result (λ made. made.items ≡ spec.names_of self.now) }
+    {
+        let mut names = Vec::new(alloc);
+        for conjunction in &self.conjunctions {
+            add_names(conjunction, &mut names)?;
+        }
+        if let Some(integrity) = &self.integrity {
+            names.push(integrity.outside)?;
+            names.extend_from_slice(&integrity.others)?;
+            names.extend_from_slice(&integrity.own)?;
+        }
+        Ok(names)
+    }
+}
+
+// Adds the names of a conjunction.
+fn add_names(conjunction: &Conjunction, names: &mut Vec<usize>) -> Result<(), Memory>
+    ensures { OnOk result (names.new.items ≡ names.old.items ++ spec.names_in conjunction.now) }
+{
+    add_some(conjunction.lead, names)?;
+    add_some(conjunction.port, names)?;
+    add_some(conjunction.path, names)
+}
+
+// Adds a name where there is one.
+fn add_some(name: Option<usize>, names: &mut Vec<usize>) -> Result<(), Memory>
+    ensures { OnOk result (names.new.items ≡ names.old.items ++ option_to_list name) }
+{
+    if let Some(name) = name {
+        names.push(name)?;
+    }
+    Ok(())
 }

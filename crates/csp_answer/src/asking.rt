@@ -41,6 +41,10 @@ pub(crate) fn answer_to(
         → ArePairs naming.entry.names.now hashes naming.entry.pairs.now
         → spec.SaysTheSame (spec.sentence_in naming.entry.names.now made)
         (question_sentence named.now.policy.now hashes question)) }
+    ensures among { IfOk result (λ made. (hashes : Items HashValue)
+        → ArePairs naming.entry.names.now hashes naming.entry.pairs.now
+        → spec.IsAmong (spec.sentence_in naming.entry.names.now made)
+        (question_sentence named.now.policy.now hashes question)) }
     ensures answer { IfOk result (λ made. (hashes : Items HashValue)
         → ArePairs naming.entry.names.now hashes naming.entry.pairs.now
         → spec.IsAnswer (length naming.entry.names.now) made) }

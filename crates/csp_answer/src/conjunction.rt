@@ -12,8 +12,8 @@ pub struct Conjunction {
 }
 
 impl Conjunction {
-    // The conjunction of one name.
-    pub(crate) fn of(lead: usize) -> Conjunction
+    /// The conjunction of one name.
+    pub fn of(lead: usize) -> Conjunction
         ensures { result ≡ record { lead = Some lead; port = None; path = None } }
     {
         Conjunction {
@@ -23,8 +23,8 @@ impl Conjunction {
         }
     }
 
-    // The conjunction that always holds.
-    pub(crate) fn always() -> Conjunction
+    /// The conjunction that always holds.
+    pub fn always() -> Conjunction
         ensures { result ≡ record { lead = None; port = None; path = None } }
     {
         Conjunction {

@@ -16,8 +16,8 @@ use csp_branch::Branch;
 use csp_model::{Algorithm, CheckPart};
 use csp_names::{Names, part_number};
 
-// The parts of a check.
-const PARTS: [CheckPart; 9] = [
+/// The parts of a check.
+pub const PARTS: [CheckPart; 9] = [
     CheckPart::Host,
     CheckPart::Path,
     CheckPart::Port,

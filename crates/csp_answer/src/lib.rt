@@ -9,6 +9,7 @@ mod asking;
 mod collecting;
 mod conjunction;
 mod deciding;
+pub mod laws;
 mod listed;
 mod naming;
 mod policy;
@@ -18,6 +19,6 @@ mod words;
 
 pub use answer::{Answer, Integrity};
 pub use conjunction::Conjunction;
-pub use deciding::decided;
+pub use deciding::{PARTS, decided};
 pub use policy::PolicyAnswers;
 pub use table::{AnswerTable, NamedAnswers, answers_of};

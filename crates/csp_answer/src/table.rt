@@ -2,7 +2,7 @@
 ghost use Rattle.std.specs.Prelude.{◌≡◌, All, Contains, IfOk, IfSome, IsTrue, List as Items, map};
 ghost use Rattle.csp_answer.specs.Policies.{place_at};
 ghost use Rattle.csp_atom.specs.Atoms.{IsValidAtom};
-ghost use Rattle.csp_formula.specs.Belonging.{HasBase64Values};
+ghost use Rattle.csp_atom.specs.Vocabulary.{vocabulary_hashes};
 ghost use Rattle.csp_model.specs.Policies.{IsReadable};
 ghost use Rattle.csp_model.specs.declared.source.Hash.{Hash as HashValue};
 ghost use Rattle.csp_names.specs.Sorting.{referred};
@@ -17,6 +17,7 @@ use csp_model::{List, Memory, PolicyList};
 use csp_names::Names;
 use csp_shape::laws::each_number_is_one_shape;
 use csp_shape::shape_at;
+use csp_source::laws::each_token_has_one_source;
 use std::alloc::Global;
 
 /// What each policy of two lists answers at each shape.
@@ -48,7 +49,7 @@ pub fn answers_of(
 ) -> Result<NamedAnswers, Memory>
     requires first { IsReadable first.now }
     requires second { IsReadable second.now }
-    requires hashes { HasBase64Values vocabulary.now.hashes }
+    requires hashes { vocabulary.now.hashes ≡ vocabulary_hashes first.now second.now }
     requires others { All IsValidAtom (referred others.now) }
     ensures first { IfOk result (λ made.
         spec.AreAnswers made.names vocabulary.now.hashes first.now.policies made.table.first) }
@@ -57,6 +58,7 @@ pub fn answers_of(
     ensures kinds { IfOk result (λ made. spec.AreKinds made.table) }
     ensures others { IfOk result (λ made. All (Contains made.names) (referred others.now)) }
 {
+    each_token_has_one_source();
     let named = name_lists(alloc, first, second, vocabulary, others)?;
     let naming = Naming {
         names: &named.names,

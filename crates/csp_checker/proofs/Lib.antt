@@ -2,7 +2,6 @@ pub mod Steps
 pub mod Law
 pub mod Lines
 pub mod Formed
-pub mod Hashes
 pub mod Splits
 pub mod Tables
 pub mod PairsMade

@@ -15,7 +15,6 @@ use csp_branch::Walker;
 use csp_model::{Memory, PolicyList};
 use csp_proof::Proof;
 use csp_proof::laws::what_is_accepted_is_so;
-use csp_source::laws::each_token_has_one_source;
 use std::alloc::Global;
 use std::marker::Model;
 
@@ -64,7 +63,6 @@ impl<'a> Checker<'a> {
         ensures { IfOk result (λ checker. checker
             ≡ record { first = first.now; second = second.now; proof = proof.now }) }
     {
-        each_token_has_one_source();
         let trees = proof.trees.as_slice();
         let vocabulary = vocabulary_of(alloc, first, second)?;
         let splits = splits_of(alloc, trees)?;

@@ -22,7 +22,7 @@ returns-in_ok-joined-in-Style c =
     IfOk-weaker c.new.result _ _ (λ made plain hashes are. plain names (any_of (nonces ∷ listed ∷ [])) _ parts
     (ap (λ (k : Shape). any_of (nonces ∷ list_sentence list.origin.now k sources ∷ [])) c.shape.ensures
     ∙ ap (λ (r : FetchRule). fetch_sentence r hashes sources asked.parser_inserted (list_sentence list.origin.now (shape_asked asked) sources)) (sym c.in-Style.is)))
-    (made_plain c.new.result c.in_ok-joined-in-Style.field-0.items c.new.ensures.said c.new.ensures.answer)
+    (made_plain c.new.result c.in_ok-joined-in-Style.field-0.items c.new.ensures.said c.new.ensures.among c.new.ensures.answer)
 
 pub returns-in_ok-listed-in-List : goal.returns-in_ok-listed-in-List
 returns-in_ok-listed-in-List c =
@@ -33,4 +33,4 @@ returns-in_ok-listed-in-List c =
     IfOk-weaker c.new-in-List.result _ _ (λ made plain hashes are. plain names (list_sentence list.origin.now c.shape-in-List.result sources) _ c.in_ok-listed-in-List.ensures
     (ap (λ (k : Shape). list_sentence list.origin.now k sources) c.shape-in-List.ensures
     ∙ ap (λ (r : FetchRule). fetch_sentence r hashes sources asked.parser_inserted (list_sentence list.origin.now (shape_asked asked) sources)) (sym c.in-List.is)))
-    (made_plain c.new-in-List.result c.in_ok-listed-in-List.field-0.items c.new-in-List.ensures.said c.new-in-List.ensures.answer)
+    (made_plain c.new-in-List.result c.in_ok-listed-in-List.field-0.items c.new-in-List.ensures.said c.new-in-List.ensures.among c.new-in-List.ensures.answer)

@@ -2,22 +2,15 @@ use Rattle.std.proofs.Common.{arith, ◌≡◌, ◌∙◌, sym, ap, subst, [], L
 use Rattle.std.specs.Prelude.{Contains}
 use Rattle.csp_model.specs.declared.source.Hash.{Hash}
 use Rattle.csp_atom.specs.Atoms.{IsValidAtom}
-use Rattle.csp_formula.specs.Belonging.{HasBase64Values}
 use Rattle.csp_names.specs.Sorting.{referred}
 use Rattle.csp_answer.specs.Tables.{AreAnswers}
 use Rattle.csp_proof.specs.Accepts.{Lists}
 use Rattle.csp_checker.specs.Asked.{Fits}
 use Rattle.csp_branch.specs.Walks.{Position}
 use Rattle.csp_checker.specs.declared.asked.Asked.{Asked}
-use Rattle.csp_checker.proofs.Hashes.{vocabulary_base64}
 use Rattle.csp_checker.proofs.Splits.{atoms_in, atoms_valid, trees_taken}
 use Rattle.csp_checker.proofs.Tables.{kinds_alike}
 use Rattle.csp_checker.proofs.checker.Checker.new.Goals as goal
-
-pub answers_of-requires-clause-hashes : goal.answers_of-requires-clause-hashes
-answers_of-requires-clause-hashes c =
-    subst HasBase64Values (sym c.in_ok-vocabulary.ensures.hashes)
-    (vocabulary_base64 c.each_token_has_one_source.ensures.read c.args.first.now c.args.second.now c.requires.first c.requires.second)
 
 pub answers_of-requires-clause-others : goal.answers_of-requires-clause-others
 answers_of-requires-clause-others c =

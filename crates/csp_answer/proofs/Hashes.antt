@@ -6,6 +6,7 @@ use Rattle.std.proofs.lemmas.List.Elements.{All-nil, All-cons, All-head, All-tai
 use Rattle.csp_model.specs.Grammar.{IsSource, is_base64_value}
 use Rattle.csp_model.specs.Policies.{IsReadable, IsReadablePolicy}
 use Rattle.csp_model.specs.Reading.{source_of}
+use Rattle.csp_model.specs.declared.policy.Directive.{Directive}
 use Rattle.csp_model.specs.declared.policy.Policy.{Policy}
 use Rattle.csp_model.specs.declared.policy.PolicyList.{PolicyList}
 use Rattle.csp_model.specs.declared.source.Hash.{Hash}
@@ -14,7 +15,13 @@ use Rattle.csp_model.specs.declared.source.Source.TheVariants as source
 use Rattle.csp_atom.specs.Vocabulary.{hash_of_source, hashes_of, vocabulary_hashes}
 use Rattle.csp_atom.proofs.VocabularyDistinct.{Contains-distinct}
 use Rattle.csp_formula.specs.Belonging.{HasBase64Values}
-use Rattle.csp_proof.proofs.ReadableSaid.{hashes_in_directive, hashes_in_policy}
+
+-- the hash-sources of a directive, and those of all directives of a policy
+abbrev hashes_in_directive : Directive → List Hash
+hashes_in_directive d = filter_map hash_of_source d.sources
+
+abbrev hashes_in_policy : Policy → List Hash
+hashes_in_policy p = flat_map hashes_in_directive p.directives
 
 abbrev IsBase64 : Hash → Type 0
 IsBase64 h = IsTrue (is_base64_value h.value)
