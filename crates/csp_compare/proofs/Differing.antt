@@ -1,12 +1,8 @@
 -- Where no shape shows a difference, there is none.
-use Rattle.std.proofs.Common.{arith, ◌≡◌, ◌∙◌, sym, ap, subst, refl, ℕ, zero, suc, ◌+◌, ◌<◌, cond, List, [], length, All, inl, inr}
-use Rattle.std.specs.Prelude.{Option, Some, None, Contains, IsTrue, MatchOption, slice_get, ◌⊎◌}
-use Rattle.std.specs.BTreeMap.{BTreeMap, get}
-use Rattle.std.specs.Ordering.{nat_cmp, is_eq}
-use Rattle.std.proofs.lemmas.Bool.{cases_Bool, cond-true, cond-false}
+use Rattle.std.proofs.Common.{arith, ◌≡◌, ◌∙◌, sym, ap, subst, refl, ℕ, zero, suc, ◌+◌, ◌<◌, ◌≤◌, List, length, All, inl, inr}
+use Rattle.std.specs.Prelude.{Option, Some, None, Contains, ◌⊎◌}
 use Rattle.std.proofs.lemmas.List.Elements.{All-weaker}
-use Rattle.std.proofs.lemmas.Map.Lookups.{exact_unsigned}
-use Rattle.std.proofs.lemmas.Option.{same_Some}
+use Rattle.csp_atom.specs.declared.atom.Atom.{Atom}
 use Rattle.csp_model.specs.Names.{group_directive, inline_directive}
 use Rattle.csp_model.specs.Verdict.{effective_name}
 use Rattle.csp_model.specs.declared.check.Check.{Check}
@@ -17,26 +13,17 @@ use Rattle.csp_model.specs.declared.check.InlineKind.{InlineKind}
 use Rattle.csp_model.specs.declared.check.InlineKind.TheVariants as inline
 use Rattle.csp_model.specs.declared.name.Name.{Name}
 use Rattle.csp_model.specs.declared.policy.PolicyList.{PolicyList}
-use Rattle.csp_model.specs.declared.source.Hash.{Hash}
-use Rattle.csp_search.specs.declared.searching.Effort.TheVariants.{Whole}
 use Rattle.csp_shape.specs.Numbers.{number, shape_count}
-use Rattle.csp_shape.specs.Shapes.{HasShape, is_shape}
+use Rattle.csp_shape.specs.Shapes.{HasShape}
 use Rattle.csp_shape.specs.declared.shape.Shape.{Shape}
 use Rattle.csp_shape.proofs.Apart.{one_shape}
 use Rattle.csp_shape.proofs.Checks.{shape_of, shaped, is_listed, is_only}
-use Rattle.csp_proof.specs.Accepts.{hashes_in}
 use Rattle.csp_proof.proofs.ReadableSaid.{AllSaid, are_said}
 use Rattle.csp_proof.proofs.ShapesListed.{within_count}
-use Rattle.csp_table.specs.Tables.{AreAt}
-use Rattle.csp_placed.specs.declared.placing.PlacedFormulas.{PlacedFormulas}
-use Rattle.csp_compare.specs.Differences.{DiffersAmong, IsDifference, IsDifferenceAmong, SubsumesAmong, effective_names, effective_of, HasNodes, IsIncludedAt, AreIncluded, IsIncludedBelow}
+use Rattle.csp_compare.specs.Differences.{HasNodes, HasNoneAt, IsAmongAt, IsDifference, IsDifferenceAmong, IsIncludedAt, IsIncludedBelow, SubsumesAmong, effective_names, effective_of}
 use Rattle.csp_compare.specs.Tasks.{lists_of, IsTask}
-use Rattle.csp_compare.specs.declared.difference.Known.{Known}
-use Rattle.csp_compare.specs.declared.difference.Known.TheVariants.{Included}
 use Rattle.csp_compare.specs.declared.task.Task.{Task}
 use Rattle.csp_compare.proofs.OneShape.{HasCases, included_at}
-use Rattle.csp_compare.proofs.SameSentences.{case_same}
-use Rattle.csp_compare.proofs.Sharing.{level}
 
 -- Effective directives
 
@@ -92,12 +79,14 @@ shape_effective asked kind has = sym (ap effective_of (is_only asked kind has) �
 
 -- Shapes without a difference
 
-pub none_differs : AllSaid → (task : Task) (effective : List Name) → IsTask task → IsIncludedBelow task effective shape_count
+pub none_differs : AllSaid → (task : Task) (names : List Atom) (effective : List Name) → IsTask task names → (n : ℕ) → shape_count ≤ n → IsIncludedBelow task effective n
     → SubsumesAmong effective task.first.now task.second.now
-none_differs law task effective is below asked valid among allowed =
+none_differs law task names effective is n past below asked valid among allowed =
     let kind = shape_of asked in
     let lists = lists_of task in
-    let here = below kind (is_listed asked) (within_count kind) (subst (Contains effective) (sym (effective_shape asked)) among) in
+    let at : IsAmongAt effective (number kind) kind = record { listed = is_listed asked; number = refl; among = subst (Contains effective) (sym (effective_shape asked)) among } in
+    let small = within_count kind in
+    let here = below (number kind) kind (omega (arith, small, past)) at in
     let shown = subst (All (HasCases lists kind)) is.policies (All-weaker (HasNodes lists kind) (HasCases lists kind) (λ n has. (has.1.cases, has.1.accepted)) task.policies.now here) in
     included_at lists kind (are_said law task.first.now task.second.now is.first is.second) asked valid (shaped asked) allowed shown
 
@@ -110,56 +99,24 @@ last_or_before (suc m) (suc n) small = elim (last_or_before m n (omega (arith, s
   | inr last ↦ inr (ap suc last)
 ]
 
-pub below_more : (task : Task) (effective : List Name) (shape : Shape) (n : ℕ) → IsTrue (is_shape shape) → number shape ≡ n
-    → (Contains effective (effective_of shape) → IsIncludedAt task shape) → IsIncludedBelow task effective n → IsIncludedBelow task effective (n + 1)
-below_more task effective shape n is here included below kind listed small among = elim (last_or_before (number kind) n small) [
-  | inl before ↦ below kind listed before among
-  | inr last ↦
-      let same = one_shape shape kind is listed (here ∙ sym last) in
-      subst (IsIncludedAt task) same (included (subst (λ (k : Shape). Contains effective (effective_of k)) (sym same) among))
+below_more : (task : Task) (effective : List Name) (n : ℕ) → ((kind : Shape) → IsAmongAt effective n kind → IsIncludedAt task kind)
+    → IsIncludedBelow task effective n → IsIncludedBelow task effective (n + 1)
+below_more task effective n included below place kind small at = elim (last_or_before place n small) [
+  | inl before ↦ below place kind before at
+  | inr last ↦ included kind (subst (λ (p : ℕ). IsAmongAt effective p kind) last at)
 ]
 
--- Kinds of formulas
+-- where no shape of the next number has one of the directives, and where the one that has is included
 
-same_nodes : (task : Task) (kind other : Shape) (placed : PlacedFormulas) → AreAt (hashes_in (lists_of task)) task.first.now task.second.now kind placed
-    → AreAt (hashes_in (lists_of task)) task.first.now task.second.now other placed → (n : ℕ) → HasNodes (lists_of task) kind n → HasNodes (lists_of task) other n
-same_nodes task kind other placed one two n has = (
-  has.0,
-  record {
-    cases = has.1.cases;
-    preorder = has.1.preorder;
-    valid = has.1.valid;
-    accepted = λ line. sym (case_same (lists_of task) kind other n (sym one.first ∙ two.first) (sym one.second ∙ two.second) has.1.cases [] line) ∙ has.1.accepted line;
-  },
-)
+pub below_none : (task : Task) (effective : List Name) (n : ℕ) → HasNoneAt effective n → IsIncludedBelow task effective n → IsIncludedBelow task effective (n + 1)
+below_none task effective n none = below_more task effective n (λ kind at. absurd (none kind at))
 
-included_same : (task : Task) (kind other : Shape) (placed : PlacedFormulas) → IsTask task → AreAt task.vocabulary.now.hashes task.first.now task.second.now kind placed
-    → AreAt task.vocabulary.now.hashes task.first.now task.second.now other placed → IsIncludedAt task kind → IsIncludedAt task other
-included_same task kind other placed is one two included =
-    let Are = λ (hashes : List Hash) (s : Shape). AreAt hashes task.first.now task.second.now s placed in
-    All-weaker (HasNodes (lists_of task) kind) (HasNodes (lists_of task) other)
-    (same_nodes task kind other placed (subst (λ hashes. Are hashes kind) is.hashes one) (subst (λ hashes. Are hashes other) is.hashes two)) task.policies.now included
-
-pub known_more : (task : Task) (kinds : List PlacedFormulas) (old new : BTreeMap ℕ Known) (k : ℕ) (v : Known) (shape : Shape) (first : PlacedFormulas) → IsTask task
-    → ((q : ℕ) → get nat_cmp new q ≡ cond (is_eq (nat_cmp k q)) (Some v) (get nat_cmp old q)) → slice_get kinds k ≡ Some first
-    → AreAt task.vocabulary.now.hashes task.first.now task.second.now shape first → (v ≡ Included → IsIncludedAt task shape) → AreIncluded task kinds old → AreIncluded task kinds new
-known_more task kinds old new k v shape first is updates stands says shown are place placed kind at here also = elim (cases_Bool (is_eq (nat_cmp k place))) [
-  | inl same ↦
-      let key : k ≡ place = exact_unsigned k place (level _ same) in
-      let value : v ≡ Included = same_Some _ _ (sym (updates place ∙ cond-true _ _ _ same) ∙ at) in
-      let formulas : placed ≡ first = same_Some _ _ (sym here ∙ ap (slice_get kinds) (sym key) ∙ stands) in
-      included_same task shape kind first is says
-      (subst (λ (f : PlacedFormulas). AreAt task.vocabulary.now.hashes task.first.now task.second.now kind f) formulas also) (shown value)
-  | inr other ↦ are place placed kind (sym (updates place ∙ cond-false _ _ _ other) ∙ at) here also
-]
+pub below_one : (task : Task) (effective : List Name) (n : ℕ) (shape : Shape) → IsAmongAt effective n shape → IsIncludedAt task shape
+    → IsIncludedBelow task effective n → IsIncludedBelow task effective (n + 1)
+below_one task effective n shape is included =
+    below_more task effective n (λ kind at. subst (IsIncludedAt task) (one_shape shape kind is.listed at.listed (is.number ∙ sym at.number)) included)
 
 -- Answers
-
-pub looked : AllSaid → (task : Task) (effective : List Name) → IsTask task → (found : Option Check)
-    → MatchOption found (Whole ≡ Whole → IsIncludedBelow task effective shape_count) (DiffersAmong effective task.first.now task.second.now)
-    → IsDifferenceAmong effective task.first.now task.second.now found
-looked law task effective is None below = none_differs law task effective is (below refl)
-looked law task effective is (Some asked) differs = differs
 
 pub of_all : (first second : PolicyList) (effective : List Name) → effective ≡ effective_names → (found : Option Check)
     → IsDifferenceAmong effective first second found → IsDifference first second found

@@ -1,38 +1,51 @@
--- Numbers of trees that are known under a kind of formulas stay known, and become known.
-use Rattle.std.proofs.Common.{◌≡◌, ◌∙◌, sym, ap, subst, ℕ, cond, List, inl, inr}
-use Rattle.std.specs.Prelude.{Some, slice_get}
+-- What is known of a kind of shapes stays known, and becomes known.
+use Rattle.std.proofs.Common.{◌≡◌, ◌∙◌, sym, subst, ℕ, true, cond, List, inl, inr}
+use Rattle.std.specs.Prelude.{Some}
 use Rattle.std.specs.BTreeMap.{BTreeMap, get}
+use Rattle.std.specs.BTreeSet.{BTreeSet, contains}
 use Rattle.std.specs.Global.{Vec}
 use Rattle.std.specs.Ordering.{nat_cmp, is_eq}
 use Rattle.std.proofs.lemmas.Bool.{cases_Bool, cond-true, cond-false}
 use Rattle.std.proofs.lemmas.Map.Lookups.{exact_unsigned}
 use Rattle.std.proofs.lemmas.Option.{same_Some}
+use Rattle.csp_atom.specs.declared.atom.Atom.{Atom}
 use Rattle.csp_proof.specs.Pairs.{Pair}
 use Rattle.csp_proof.specs.declared.proof.Tree.{Tree}
 use Rattle.csp_shape.specs.declared.shape.Shape.{Shape}
-use Rattle.csp_table.specs.Tables.{AreAt}
-use Rattle.csp_placed.specs.declared.placing.PlacedFormulas.{PlacedFormulas}
+use Rattle.csp_compare.specs.Differences.{AreIncluded, IsIncludedAt}
 use Rattle.csp_compare.specs.Drafts.{Adds}
-use Rattle.csp_compare.specs.Tasks.{lists_of, IsTask, AreShown, AreKnown}
+use Rattle.csp_compare.specs.Tasks.{AreKnown, AreShown, IsOfKind, IsTask, lists_of}
 use Rattle.csp_compare.specs.declared.task.Task.{Task}
 use Rattle.csp_compare.proofs.Adding.{zip_longer}
-use Rattle.csp_compare.proofs.SameSentences.{all_shown_same}
+use Rattle.csp_compare.proofs.SameKind.{all_shown_same, included_same}
 use Rattle.csp_compare.proofs.Sharing.{level}
 
-pub known_longer : (task : Task) (kinds : List PlacedFormulas) (ps : List Pair) (old new : List Tree) (known : BTreeMap ℕ (Vec ℕ)) → Adds (lists_of task) ps old new → AreKnown task kinds old known → AreKnown task kinds new known
-known_longer task kinds ps old new known adds are place numbers placed kind at here says =
-    zip_longer (lists_of task) kind ps old new task.policies.now numbers.items adds (are place numbers placed kind at here says)
+-- Numbers of trees
 
-pub known_insert : (task : Task) (kinds : List PlacedFormulas) (trees : List Tree) (old new : BTreeMap ℕ (Vec ℕ)) (k : ℕ) (v : Vec ℕ) (shape : Shape) (first : PlacedFormulas) → IsTask task
-    → ((q : ℕ) → get nat_cmp new q ≡ cond (is_eq (nat_cmp k q)) (Some v) (get nat_cmp old q)) → slice_get kinds k ≡ Some first
-    → AreAt task.vocabulary.now.hashes task.first.now task.second.now shape first → AreShown task trees shape v.items → AreKnown task kinds trees old → AreKnown task kinds trees new
-known_insert task kinds trees old new k v shape first is updates stands says shown are place numbers placed kind at here also = elim (cases_Bool (is_eq (nat_cmp k place))) [
+pub known_longer : (task : Task) (ps : List Pair) (old new : List Tree) (known : BTreeMap ℕ (Vec ℕ)) → Adds (lists_of task) ps old new → AreKnown task old known → AreKnown task new known
+known_longer task ps old new known adds are kind numbers shape at of =
+    zip_longer (lists_of task) shape ps old new task.policies.now numbers.items adds (are kind numbers shape at of)
+
+pub known_insert : (task : Task) (names : List Atom) (trees : List Tree) (old new : BTreeMap ℕ (Vec ℕ)) (k : ℕ) (v : Vec ℕ) (shape : Shape) → IsTask task names
+    → ((q : ℕ) → get nat_cmp new q ≡ cond (is_eq (nat_cmp k q)) (Some v) (get nat_cmp old q)) → IsOfKind task k shape → AreShown task trees shape v.items
+    → AreKnown task trees old → AreKnown task trees new
+known_insert task names trees old new k v shape is updates here shown are kind numbers other at there = elim (cases_Bool (is_eq (nat_cmp k kind))) [
   | inl same ↦
-      let key : k ≡ place = exact_unsigned k place (level _ same) in
-      let value : v ≡ numbers = same_Some _ _ (sym (updates place ∙ cond-true _ _ _ same) ∙ at) in
-      let formulas : placed ≡ first = same_Some _ _ (sym here ∙ ap (slice_get kinds) (sym key) ∙ stands) in
-      subst (λ (w : Vec ℕ). AreShown task trees kind w.items) value
-      (all_shown_same task.vocabulary.now.hashes (lists_of task) shape kind first trees task.policies.now v.items is.hashes says
-      (subst (λ (f : PlacedFormulas). AreAt task.vocabulary.now.hashes task.first.now task.second.now kind f) formulas also) shown)
-  | inr other ↦ are place numbers placed kind (sym (updates place ∙ cond-false _ _ _ other) ∙ at) here also
+      let key : k ≡ kind = exact_unsigned k kind (level _ same) in
+      let value : v ≡ numbers = same_Some _ _ (sym (updates kind ∙ cond-true _ _ _ same) ∙ at) in
+      subst (λ (w : Vec ℕ). AreShown task trees other w.items) value
+      (all_shown_same task names is kind shape other (subst (λ (n : ℕ). IsOfKind task n shape) key here) there trees v.items shown)
+  | inr apart ↦ are kind numbers other (sym (updates kind ∙ cond-false _ _ _ apart) ∙ at) there
+]
+
+-- Kinds at which the second list allows what the first allows
+
+pub included_insert : (task : Task) (names : List Atom) (old new : BTreeSet ℕ) (k : ℕ) (shape : Shape) → IsTask task names
+    → ((q : ℕ) → contains nat_cmp new q ≡ cond (is_eq (nat_cmp k q)) true (contains nat_cmp old q)) → IsOfKind task k shape → IsIncludedAt task shape
+    → AreIncluded task old → AreIncluded task new
+included_insert task names old new k shape is updates here included are kind other has there = elim (cases_Bool (is_eq (nat_cmp k kind))) [
+  | inl same ↦
+      let key : k ≡ kind = exact_unsigned k kind (level _ same) in
+      included_same task names is kind shape other (subst (λ (n : ℕ). IsOfKind task n shape) key here) there included
+  | inr apart ↦ are kind other (sym (updates kind ∙ cond-false _ _ _ apart) ∙ has) there
 ]

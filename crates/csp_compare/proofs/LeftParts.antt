@@ -1,7 +1,7 @@
 -- What is left of the and, or of the or, of formulas that are gone over one after another.
 use Rattle.std.proofs.Common.{arith, ◌≡◌, ◌∙◌, sym, ap, subst, refl, ℕ, ◌+◌, ◌<◌, get_or, drop, Bool, true, false, not, List, [], ◌∷◌, ◌++◌, length, map, append-nil, inl, inr, All}
 use Rattle.std.specs.Prelude.{Option, Some, None, Contains, ◌⊎◌}
-use Rattle.std.specs.List.{list_all}
+use Rattle.std.specs.List.{flat_map, list_all}
 use Rattle.std.proofs.lemmas.Bool.{and_from}
 use Rattle.std.proofs.lemmas.List.{map_push, drop_more}
 use mathlib.Core.Bool.{beq}
@@ -15,8 +15,6 @@ use Rattle.csp_formula.specs.Surely.{maybe_and, maybe_or, surely}
 use Rattle.csp_formula.specs.Values.{atoms_in}
 use Rattle.csp_formula.specs.declared.formula.Formula.{Formula}
 use Rattle.csp_formula.specs.declared.formula.Formula.TheVariants as formula
-use Rattle.csp_placed.specs.Facts.{facts_of}
-use Rattle.csp_placed.proofs.Gathering.{all_facts, any_facts}
 use Rattle.csp_compare.specs.Residuals.{has_no_constant, KeepsValues, value_under, joined_by, IsUnsure, IsLeft}
 use Rattle.csp_compare.proofs.LeftOver.{says_Constant, surely_is}
 
@@ -91,9 +89,15 @@ value_push v e (t ∷ ss) s =
 abbrev joint : Bool → List Formula → Sentence
 joint e formulas = joined_by e (map sentence_of formulas)
 
+-- the atoms that stand in some of the formulas
+abbrev facts_of : List Formula → List Atom
+facts_of formulas = flat_map (λ (f : Formula). atoms_in (sentence_of f)) formulas
+
 joint_facts : (e : Bool) (formulas : List Formula) → atoms_in (joint e formulas) ≡ facts_of formulas
-joint_facts true formulas = all_facts formulas
-joint_facts false formulas = any_facts formulas
+joint_facts true [] = refl
+joint_facts false [] = refl
+joint_facts true (f ∷ fs) = ap (λ (atoms : List Atom). atoms_in (sentence_of f) ++ atoms) (joint_facts true fs)
+joint_facts false (f ∷ fs) = ap (λ (atoms : List Atom). atoms_in (sentence_of f) ++ atoms) (joint_facts false fs)
 
 facts_push : (left : List Formula) (f : Formula) → facts_of (left ++ f ∷ []) ≡ facts_of left ++ atoms_in (sentence_of f)
 facts_push left f =

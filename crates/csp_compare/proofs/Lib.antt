@@ -9,6 +9,7 @@ pub mod LeftParts
 pub mod NodesSame
 pub mod NoneDiffers
 pub mod OneShape
+pub mod Posed
 pub mod Refuting
-pub mod SameSentences
+pub mod SameKind
 pub mod Sharing

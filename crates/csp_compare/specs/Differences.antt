@@ -1,7 +1,8 @@
 -- Where two lists of policies differ, among the checks with some effective directives; and words of private
 -- contracts, which stand here since contracts cite only specs/.
-use Rattle.std.specs.Prelude.{◌≡◌, ℕ, List, [], ◌∷◌, Option, Some, All, AllPairs, Contains, IsTrue, MatchOption, map, slice_get, ◌<◌}
-use Rattle.std.specs.BTreeMap.{BTreeMap, get}
+use Rattle.std.specs.Prelude.{◌≡◌, ◌<◌, ℕ, List, [], ◌∷◌, Option, IsTrue, MatchOption, map}
+use Rattle.std.specs.Prelude.{All, AllPairs, Contains}
+use Rattle.std.specs.BTreeSet.{BTreeSet, contains}
 use Rattle.std.specs.Cmp.Lexicographic.{slice_cmp}
 use Rattle.std.specs.Ordering.{nat_cmp}
 use Rattle.std.specs.declared.cmp.Ordering.TheVariants.{Less}
@@ -15,23 +16,14 @@ use Rattle.csp_model.specs.declared.name.Name.TheVariants.{ConnectSrc, FontSrc, 
 use Rattle.csp_model.specs.declared.policy.PolicyList.{PolicyList}
 use Rattle.csp_proof.specs.Accepts.{Lists}
 use Rattle.csp_proof.specs.declared.proof.Node.{Node}
-use Rattle.csp_proof.specs.Pairs.{Pair}
-use Rattle.csp_search.specs.Answers.{ShowsInclusion, ShowsNone}
-use Rattle.csp_search.specs.declared.searching.Effort.{Effort}
-use Rattle.csp_search.specs.declared.searching.Effort.TheVariants.{Whole}
+use Rattle.csp_search.specs.Answers.{ShowsInclusion}
 use Rattle.csp_shape.specs.Numbers.{number}
 use Rattle.csp_shape.specs.Shapes.{is_shape}
 use Rattle.csp_shape.specs.declared.shape.Shape.{Shape}
 use Rattle.csp_shape.specs.declared.shape.Shape.TheVariants as shape
-use Rattle.csp_table.specs.Tables.{AreAt}
-use Rattle.csp_placed.specs.declared.placing.PlacedFormulas.{PlacedFormulas}
 use Rattle.csp_compare.specs.Answers.{IsCounterexample}
 use Rattle.csp_compare.specs.Drafts.{at_shape}
-use Rattle.csp_compare.specs.Tasks.{lists_of}
-use Rattle.csp_compare.specs.declared.difference.Known.{Known}
-use Rattle.csp_compare.specs.declared.difference.Known.TheVariants.{Included}
-use Rattle.csp_compare.specs.declared.difference.Sight.{Sight}
-use Rattle.csp_compare.specs.declared.difference.Sight.TheVariants as sight
+use Rattle.csp_compare.specs.Tasks.{IsOfKind, lists_of}
 use Rattle.csp_compare.specs.declared.differences.Difference.{Difference}
 use Rattle.csp_compare.specs.declared.task.Task.{Task}
 
@@ -99,36 +91,33 @@ effective_of shape.WorkerStart = Sandbox
 
 -- there are nodes that show the pair
 abbrev pub HasNodes : Lists → Shape → ℕ → Type 0
-HasNodes lists kind policy = (nodes : List Node) × ShowsInclusion lists (at_shape kind policy) nodes
+HasNodes lists shape policy = (nodes : List Node) × ShowsInclusion lists (at_shape shape policy) nodes
 
 -- so it is for each enforced policy of the second list
 abbrev pub IsIncludedAt : Task → Shape → Type 0
-IsIncludedAt task kind = All (HasNodes (lists_of task) kind) task.policies.now
+IsIncludedAt task shape = All (HasNodes (lists_of task) shape) task.policies.now
 
 -- a check of the shape that the second list refuses
 abbrev pub DiffersAt : Task → Shape → Check → Type 0
-DiffersAt task kind asked =
-    IsCounterexample task.first.now task.second.now asked × (effective_name asked ≡ effective_of kind)
+DiffersAt task shape asked =
+    IsCounterexample task.first.now task.second.now asked × (effective_name asked ≡ effective_of shape)
 
--- of one policy
-abbrev pub IsPairSight : Lists → Pair → Effort → Sight → Type 0
-IsPairSight lists pair effort (sight.Differs asked) = ShowsNone lists pair asked
-IsPairSight lists pair effort sight.Included = (nodes : List Node) × ShowsInclusion lists pair nodes
-IsPairSight lists pair effort sight.Unsure = effort ≡ Whole → ⊥
+-- at each shape of a known kind
+abbrev pub AreIncluded : Task → BTreeSet ℕ → Type 0
+AreIncluded task known = (kind : ℕ) (shape : Shape)
+    → IsTrue (contains nat_cmp known kind) → IsOfKind task kind shape → IsIncludedAt task shape
 
-abbrev pub IsSight : Task → Shape → Effort → Sight → Type 0
-IsSight task kind effort (sight.Differs asked) = DiffersAt task kind asked
-IsSight task kind effort sight.Included = IsIncludedAt task kind
-IsSight task kind effort sight.Unsure = effort ≡ Whole → ⊥
+-- the shape of this number, which has one of these effective directives
+pub record IsAmongAt (effective : List Name) (place : ℕ) (shape : Shape) : Type 0 where
+  pub listed : IsTrue (is_shape shape)
+  pub number : number shape ≡ place
+  pub among : Contains effective (effective_of shape)
 
--- a kind of formulas that counts as included is so at each shape at which the formulas are what the policies
--- say
-abbrev pub AreIncluded : Task → List PlacedFormulas → BTreeMap ℕ Known → Type 0
-AreIncluded task kinds known = (place : ℕ) (placed : PlacedFormulas) (kind : Shape)
-    → get nat_cmp known place ≡ Some Included → slice_get kinds place ≡ Some placed
-    → AreAt task.vocabulary.now.hashes task.first.now task.second.now kind placed → IsIncludedAt task kind
+-- no shape of this number has one
+abbrev pub HasNoneAt : List Name → ℕ → Type 0
+HasNoneAt effective place = (shape : Shape) → IsAmongAt effective place shape → ⊥
 
 -- at the shapes with these effective directives that have a number below this one
 abbrev pub IsIncludedBelow : Task → List Name → ℕ → Type 0
-IsIncludedBelow task effective count = (kind : Shape) → IsTrue (is_shape kind) → number kind < count
-    → Contains effective (effective_of kind) → IsIncludedAt task kind
+IsIncludedBelow task effective count = (place : ℕ) (shape : Shape) → place < count
+    → IsAmongAt effective place shape → IsIncludedAt task shape

@@ -5,18 +5,19 @@
 mod comparing;
 mod difference;
 mod differences;
+mod directives;
 mod draft;
 mod kinds;
 pub mod laws;
 mod natural;
 mod numbers;
-mod pair;
 mod probing;
 mod residuals;
 mod task;
 mod trees;
 
 pub use comparing::{Answer, compare};
-pub use difference::{effective_directives, find_difference, find_difference_among};
+pub use difference::{find_difference, find_difference_among};
 pub use differences::{Difference, find_differences};
+pub use directives::effective_directives;
 pub use residuals::residual;

@@ -2,19 +2,17 @@
 ghost use Rattle.std.specs.Prelude.{◌≡◌, ◌<◌, ◌+◌, ◌^◌, length, IfOk, OnOk, IsTrue, map};
 ghost use Rattle.std.specs.List.{AllZip};
 ghost use Rattle.csp_compare.specs.Drafts.{Adds, IsShown, at_shape};
-ghost use Rattle.csp_compare.specs.Tasks.{IsOutcome, IsTableOf, IsTask, lists_of};
+ghost use Rattle.csp_compare.specs.Tasks.{IsOutcome, IsReady, lists_of};
+ghost use Rattle.csp_model.specs.Policies.{IsReadable};
+ghost use Rattle.csp_proof.specs.Pairs.{enforced};
 ghost use Rattle.csp_shape.specs.Shapes.{is_shape};
-ghost use Rattle.csp_table.specs.Tables.{AreAt};
 
 use crate::draft::Draft;
-use crate::pair::{PairOutcome, search_pair};
 use crate::task::Task;
-use csp_model::{Check, Duplicate, Memory};
-use csp_placed::PlacedFormulas;
-use csp_search::{Effort, Overview, Question};
+use csp_branch::Walker;
+use csp_model::{Check, Memory};
+use csp_search::{Found, search};
 use csp_shape::{Shape, shape_number};
-use csp_table::FormulaTable;
-use csp_valuation::Valuation;
 use std::alloc::Global;
 
 // What comes of the pairs of one shape with each of the enforced policies.
@@ -27,42 +25,26 @@ pub(crate) enum Outcome {
 }
 
 // Searches for a tree for each policy, and adds it.
-pub(crate) fn search_shape<'a>(
+pub(crate) fn search_shape(
     alloc: Global,
-    task: Task<'a>,
-    table: &'a FormulaTable,
+    task: Task,
+    walker: &mut Walker,
     shape: Shape,
-    formulas: &'a PlacedFormulas,
     draft: &mut Draft,
-    effort: &mut Effort,
 ) -> Result<Outcome, Memory>
-    requires task { IsTask task }
-    requires table { IsTableOf task table.now }
+    requires ready { IsReady task walker.old }
     requires listed { IsTrue (is_shape shape) }
-    requires formulas { AreAt task.vocabulary.now.hashes task.first.now task.second.now
-        shape formulas.now }
     requires room { length draft.old + length task.policies.now < 2 ^ 32 }
-    ensures { IfOk result (IsOutcome task.entry shape draft.old draft.new) }
+    ensures outcome { IfOk result (IsOutcome task.entry shape draft.old draft.new) }
+    ensures walker { OnOk result (walker.new ≡ walker.old) }
 {
-    let overview = Overview::new(alloc, formulas)?;
-    let room = formulas.atoms.len();
-    let mut valuation = Valuation::new(alloc, formulas.atoms.copy(alloc)?, room)?;
     let mut numbers = Vec::new(alloc);
     for policy in task.policies {
-        let question = Question {
-            first: task.first,
-            second: task.second,
-            vocabulary: task.vocabulary,
-            formulas,
-            overview: &overview,
-            shape,
-            policy: *policy,
-        };
-        match search_pair(alloc, task, table, question, &mut valuation, effort)? {
-            PairOutcome::Shown { nodes } => {
+        match search(alloc, task.question(shape, *policy), walker)? {
+            Found::Nodes { nodes } => {
                 numbers.push(draft.add(shape_number(shape), *policy, nodes)?)?;
             }
-            PairOutcome::Refuted { check } => return Ok(Outcome::Refuted { check }),
+            Found::Check { check } => return Ok(Outcome::Refuted { check }),
         }
     }
     Ok(Outcome::Shown { numbers })
@@ -75,7 +57,8 @@ pub(crate) fn share_shape(
     numbers: &[u32],
     draft: &mut Draft,
 ) -> Result<(), Memory>
-    requires task { IsTask task }
+    requires second { IsReadable task.second.now }
+    requires policies { task.policies.now ≡ enforced task.second.now }
     requires listed { IsTrue (is_shape shape) }
     requires room { length draft.old + length task.policies.now < 2 ^ 32 }
     requires shown { AllZip

@@ -1,19 +1,18 @@
-//! Tests of csp_formula and csp_valuation, and of what is left of a formula.
+//! Tests of csp_formula and csp_answer, and of what is left of a formula.
 ghost use Rattle.std.specs.Prelude.{IsTrue};
 ghost use Rattle.csp_shape.specs.Shapes.{is_shape};
 
 use crate::cells::cell_of;
 use crate::values::{literals, policies};
+use csp_answer::{NamedAnswers, answers_of};
 use csp_atom::{Atom, Literal, Vocabulary, holds, vocabulary_of};
+use csp_branch::Branch;
 use csp_cell::Cell;
 use csp_compare::residual;
-use csp_formula::{Formula, compile, question_at, same_formulas, surely};
-use csp_model::{Check, Duplicate, List, Memory, Policy, PolicyList};
+use csp_formula::{Formula, compile, surely};
+use csp_model::{Check, Duplicate, List, Memory, PolicyList};
 use csp_pick::{can_pick, representative};
-use csp_placed::{PlacedFormula, place_formulas};
 use csp_shape::{Shape, shape_at};
-use csp_table::FormulaTable;
-use csp_valuation::{Taken, Valuation};
 use csp_verdict::allows;
 use std::alloc::Global;
 use std::process::Abort;
@@ -149,55 +148,33 @@ fn what_is_left_of_a_formula(rt: HostRuntime) -> Result<(), Fail> {
     Ok(())
 }
 
-fn taken(literal: &Literal) -> Taken<'_> {
-    Taken {
-        atom: &literal.atom,
-        positive: literal.positive,
-    }
-}
-
-// What one literal or two decide of a formula over these atoms, taken one after the other.
+// What these literals, taken one after the other, decide of the answer of the first policy at a shape.
 fn decided_along(
     alloc: Global,
-    atoms: List<Atom>,
-    formula: &PlacedFormula,
-    known: &[Literal],
-) -> Result<Option<bool>, Memory> {
-    let mut valuation = Valuation::new(alloc, atoms, 2)?;
-    if let Some(first) = known.first() {
-        valuation.take(taken(first));
-        if let Some(second) = known.get(1) {
-            valuation.take(taken(second));
-        }
-    }
-    Ok(valuation.value_of(formula))
-}
-
-// The same by places.
-fn decided_by_places(
-    rt: &(impl Abort + AllocGlobal),
     list: &PolicyList,
     number: u8,
-    known: &str,
+    known: &[Literal],
 ) -> Result<Option<bool>, Fail> {
-    let vocabulary: Vocabulary = vocabulary_of(rt.alloc(), list, list)?;
-    let policy = list.policies.get(0).ok_or("no policy")?;
-    let shape = shape_at(number).ok_or("no shape")?;
-    let compiled = compile(rt.alloc(), policy, shape, &vocabulary)?;
-    let placed = place_formulas(rt.alloc(), &[&compiled], &[])?;
-    let known = literals(rt.alloc(), known)?;
-    let formula = placed.first.get(0).ok_or("no formula")?;
-    let atoms = placed.atoms.copy(rt.alloc())?;
-    let known = known.as_slice();
-    Ok(decided_along(rt.alloc(), atoms, formula.formula(), known)?)
+    let vocabulary = vocabulary_of(alloc, list, list)?;
+    let atoms: Vec<&Atom> = known.iter().map(|literal| &literal.atom).collect(alloc)?;
+    let NamedAnswers { names, table } = answers_of(alloc, list, list, &vocabulary, &atoms)?;
+    let mut branch = Branch::new(alloc, names)?;
+    for literal in known {
+        let name = branch.names().find(&literal.atom).ok_or("no name")?;
+        branch.take(name, literal.positive);
+    }
+    let answers = table.first.get(0).ok_or("no policy")?;
+    let answer = answers.at(usize::from(number)).ok_or("no shape")?;
+    Ok(csp_answer::decided(&branch, answer))
 }
 
 #[test]
-fn what_a_path_decides(rt: HostRuntime) -> Result<(), Fail> {
+fn what_a_branch_decides(rt: HostRuntime) -> Result<(), Fail> {
     for &(policy, number, known, wanted) in &DECIDED {
         let block = format!(in rt.alloc(); "Content-Security-Policy: {policy}")?;
         let list = policies(&rt, block.as_str())?;
-        let found = decided_by_places(&rt, &list, number, known)?;
+        let literals = literals(rt.alloc(), known)?;
+        let found = decided_along(rt.alloc(), &list, number, literals.as_slice())?;
         assert_eq!(rt; found, wanted, "{policy} at {number} under {known}");
     }
     Ok(())
@@ -225,16 +202,15 @@ fn check_at(
     representative(rt.alloc(), &cell, shape, vocabulary)
 }
 
-// Each atom of the formula as it is for the check.
+// Each of these atoms as it is for the check.
 fn facts_of(
     alloc: Global,
-    formula: &Formula,
+    atoms: &[Atom],
     vocabulary: &Vocabulary,
     check: &Check,
 ) -> Result<List<Literal>, Memory> {
-    let placed = place_formulas(alloc, &[formula], &[])?;
     let mut known = List::new(alloc);
-    for atom in placed.atoms.as_slice() {
+    for atom in atoms {
         known.push(Literal {
             atom: atom.copy(alloc)?,
             positive: holds(atom, check, vocabulary),
@@ -243,122 +219,21 @@ fn facts_of(
     Ok(known)
 }
 
-// What the policy's formula comes to where each of its atoms is decided as it is for the check.
-fn value_on(
-    alloc: Global,
-    policy: &Policy,
-    vocabulary: &Vocabulary,
-    shape: Shape,
-    check: &Check,
-) -> Result<Option<bool>, Memory> {
-    let formula = compile(alloc, policy, shape, vocabulary)?;
-    let known = facts_of(alloc, &formula, vocabulary, check)?;
-    Ok(surely(&formula, known.as_slice()))
-}
-
 #[test]
 fn formulas_are_what_the_policy_allows(rt: HostRuntime) -> Result<(), Fail> {
     let list = policies(&rt, EVERY_KIND)?;
     let vocabulary = vocabulary_of(rt.alloc(), &list, &list)?;
+    let named = answers_of(rt.alloc(), &list, &list, &vocabulary, &[])?;
     let policy = list.policies.get(0).ok_or("no policy")?;
     for number in 0..189 {
         let shape = shape_at(number).ok_or("no shape")?;
         let check = check_at(&rt, &vocabulary, shape)?;
-        let value = value_on(rt.alloc(), policy, &vocabulary, shape, &check);
+        let known = facts_of(rt.alloc(), named.names.atoms(), &vocabulary, &check)?;
+        let formula = compile(rt.alloc(), policy, shape, &vocabulary)?;
+        let value = surely(&formula, known.as_slice());
         let is_allowed = allows(policy, &check);
         drop(check);
-        assert_eq!(rt; value?, Some(is_allowed), "{number}");
-    }
-    Ok(())
-}
-
-// A policy whose lists differ and yet say the same at many shapes.
-const ALIKE: &str = "Content-Security-Policy: \
-    default-src a.example https://b.example/x 'nonce-a'; img-src 'self' data: a.example; \
-    font-src 'self' blob: a.example; media-src 'self' a.example data:; connect-src 1.2.3 a.example; \
-    object-src 3.2.1 a.example; form-action 'self' data: a.example; base-uri 'self' http: a.example; \
-    script-src-elem 'nonce-a' 'strict-dynamic' a.example; script-src 'strict-dynamic' 'nonce-a'; \
-    style-src-elem 'nonce-a' 'sha256-47DEQpj8HBSa+/TImW+5JCeuQeRkm5NMpJWZG3hSuFU='; \
-    style-src-attr 'sha256-47DEQpj8HBSa+/TImW+5JCeuQeRkm5NMpJWZG3hSuFU=' 'nonce-b' 'unsafe-hashes'; \
-    script-src-attr 'unsafe-hashes' 'sha256-47DEQpj8HBSa-_TImW-5JCeuQeRkm5NMpJWZG3hSuFU='";
-
-// A policy whose formulas of different kinds of lists have no atom and are equal: none of them matches
-// anything.
-const BARE: &str =
-    "Content-Security-Policy: default-src 'none'; img-src 'report-sample' 'unsafe-eval'; \
-    font-src 'none'; media-src 'report-sample'; connect-src * 'report-sample'; form-action 'none'; \
-    base-uri 'report-sample' data:; style-src 'none'; style-src-attr 'unsafe-inline'; \
-    script-src 'strict-dynamic'; script-src-attr 'report-sample'; script-src-elem 'none'; \
-    worker-src 'report-sample' 'unsafe-eval'";
-
-// What a formula says, as text: an or without parts is false.
-fn formula_text(alloc: Global, formula: &Formula) -> Result<String, Memory> {
-    let text = format!(in alloc; "{formula:?}")?;
-    let mut told = String::new(alloc);
-    for (number, part) in text.split("OneOf([])").enumerate() {
-        if number > 0 {
-            told.push_str("Constant(false)")?;
-        }
-        told.push_str(part)?;
-    }
-    Ok(told)
-}
-
-// What the policy's formula of each shape says.
-fn formula_texts(
-    rt: &(impl Abort + AllocGlobal),
-    policy: &Policy,
-    vocabulary: &Vocabulary,
-) -> Result<List<String>, Fail> {
-    let mut texts = List::new(rt.alloc());
-    for number in 0..189 {
-        let shape = shape_at(number).ok_or("no shape")?;
-        let formula = compile(rt.alloc(), policy, shape, vocabulary)?;
-        texts.push(formula_text(rt.alloc(), &formula)?)?;
-    }
-    Ok(texts)
-}
-
-// Formulas of the shape and of those before it are found to be equal exactly where they are. Whether none is.
-fn check_found(
-    rt: &(impl Abort + AllocGlobal),
-    policy: &Policy,
-    texts: &List<String>,
-    number: u8,
-) -> Result<bool, Fail> {
-    let asked = question_at(policy, shape_at(number).ok_or("no shape")?);
-    let text = texts.get(usize::from(number)).ok_or("no text")?;
-    let mut is_new = true;
-    for earlier in 0..number {
-        let question = question_at(policy, shape_at(earlier).ok_or("no shape")?);
-        let is_equal = texts.get(usize::from(earlier)) == Some(text);
-        let found = (
-            same_formulas(policy, question, asked),
-            same_formulas(policy, asked, question),
-        );
-        assert_eq!(rt; found, (is_equal, is_equal), "{earlier} {number}");
-        is_new = is_new && !is_equal;
-    }
-    Ok(is_new)
-}
-
-// A table of one policy's formulas has each of them once.
-#[test]
-fn equal_formulas_are_found(rt: HostRuntime) -> Result<(), Fail> {
-    let nothing = policies(&rt, "")?;
-    for block in [EVERY_KIND, ALIKE, BARE] {
-        let list = policies(&rt, block)?;
-        let vocabulary = vocabulary_of(rt.alloc(), &list, &nothing)?;
-        let policy = list.policies.get(0).ok_or("no policy")?;
-        let texts = formula_texts(&rt, policy, &vocabulary)?;
-        let mut different = List::new(rt.alloc());
-        for number in 0..189 {
-            if check_found(&rt, policy, &texts, number)? {
-                different.push(number)?;
-            }
-        }
-        let table = FormulaTable::new(rt.alloc(), &list, &nothing, &vocabulary)?;
-        assert_eq!(rt; table.kinds.len(), different.len());
+        assert_eq!(rt; value, Some(is_allowed), "{number}");
     }
     Ok(())
 }

@@ -19,6 +19,4 @@ pub mod AtomsOfPolicies
 pub mod ReadParts
 pub mod Alike
 pub mod NormalQuestions
-pub mod InStep
-pub mod SameAnswers
 mod ExamplesOfShapes

@@ -1,6 +1,6 @@
 -- What a policy is asked at a shape: all that its sentence depends on there.
-use Rattle.std.specs.Prelude.{◌≡◌, ⊤, ℕ, is_some, Bool, true, false, ◌&&◌, if◌then◌else◌, List, [], ◌∷◌, Option, Some, None, slice_get}
-use Rattle.std.specs.List.{filter_map, list_any}
+use Rattle.std.specs.Prelude.{ℕ, is_some, Bool, true, false, ◌&&◌, if◌then◌else◌, List, [], Option, Some, None, slice_get}
+use Rattle.std.specs.List.{list_any}
 use Rattle.csp_model.specs.DecideTokens.{has_keyword}
 use Rattle.csp_model.specs.declared.check.FetchRule.{FetchRule}
 use Rattle.csp_model.specs.declared.check.FetchRule.TheVariants as rule
@@ -13,11 +13,10 @@ use Rattle.csp_model.specs.declared.source.Source.{Source}
 use Rattle.csp_model.specs.declared.source.Source.TheVariants as source
 use Rattle.csp_model.specs.declared.url.Origin.{Origin}
 use Rattle.csp_model.specs.declared.url.Scheme.{Scheme}
-use Rattle.csp_atom.specs.Vocabulary.{hash_of_source}
 use Rattle.csp_shape.specs.declared.shape.Shape.{Shape}
 use Rattle.csp_shape.specs.declared.shape.Shape.TheVariants as shape
-use Rattle.csp_formula.specs.Compiled.{fetch_sentence, inline_sentence, nonce_fact}
-use Rattle.csp_formula.specs.Sentences.{Sentence, Known, any_of}
+use Rattle.csp_formula.specs.Compiled.{fetch_sentence, inline_sentence}
+use Rattle.csp_formula.specs.Sentences.{Sentence, Known}
 use Rattle.csp_formula.specs.Sources.{list_sentence}
 use Rattle.csp_formula.specs.declared.question.ListQuestion.{ListQuestion}
 use Rattle.csp_formula.specs.declared.question.Question.{Question}
@@ -87,19 +86,3 @@ matches_nothing by sources = false
 -- what is asked of a list
 abbrev pub of_list : ListQuestion → List Source → Question
 of_list q sources = if matches_nothing q.rule sources then asks.Known false else asks.Listed q
-
--- one of two parts holds, of which neither ever does: so says a list of two sources that match nothing, an
--- empty list of styles, and one by which no nonce and no hash counts for inline code
-abbrev pub never_twice : Sentence
-never_twice = any_of (Known false ∷ Known false ∷ [])
-
--- the lists have the same nonces and hashes in one order, as far as the rule looks at them
-abbrev pub HaveSameWords : FetchRule → List Source → List Source → Type 0
-HaveSameWords rule.Script one other = (filter_map nonce_fact one ≡ filter_map nonce_fact other)
-    × (filter_map hash_of_source one ≡ filter_map hash_of_source other)
-HaveSameWords rule.Style one other = filter_map nonce_fact one ≡ filter_map nonce_fact other
-HaveSameWords rule.List one other = ⊤
-
--- the sources, or none where they don't count
-abbrev pub counted : Bool → List Source → List Source
-counted counts sources = if counts then sources else []

@@ -45,8 +45,8 @@ pub fn compile(
     formula_of(alloc, policy, question_at(policy, shape), vocabulary)
 }
 
-/// The formula of a policy's answer to a question. With `question_at` it is what `compile` makes.
-pub fn formula_of(
+// The formula of a policy's answer to a question.
+fn formula_of(
     alloc: Global,
     policy: &Policy,
     question: Question,

@@ -8,16 +8,14 @@ pub mod laws;
 mod outline;
 mod parts;
 mod question;
-mod same;
 mod schemes;
 mod shapes;
 mod sources;
 mod tokens;
 
-pub use compiling::{compile, formula_of};
+pub use compiling::compile;
 pub use deciding::surely;
 pub use formula::Formula;
 pub use outline::{Outline, PathOutline, PortOutline, source_outline};
 pub use question::{ListQuestion, Question, is_dynamic, question_at, sources_at};
-pub use same::same_formulas;
 pub use tokens::source_digest;

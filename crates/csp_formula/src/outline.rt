@@ -171,38 +171,3 @@ fn piece_outline(path: &Path, shape: Shape) -> PathOutline
         PathOutline::Itself
     }
 }
-
-// Whether two outlines are one.
-pub(crate) fn same_outline(one: Outline, other: Outline) -> bool
-    ensures { IsTrue result → one ≡ other }
-{
-    match (one, other) {
-        (Outline::Constant(one), Outline::Constant(other)) => one == other,
-        (Outline::Scheme, Outline::Scheme) => true,
-        (Outline::Hosted { port, path }, Outline::Hosted { port: at, path: by }) => {
-            same_port(port, at) && same_path(path, by)
-        }
-        (Outline::Own { port }, Outline::Own { port: at }) => same_port(port, at),
-        _ => false,
-    }
-}
-
-fn same_port(one: PortOutline, other: PortOutline) -> bool
-    ensures { IsTrue result → one ≡ other }
-{
-    match (one, other) {
-        (PortOutline::Constant(one), PortOutline::Constant(other)) => one == other,
-        (PortOutline::Is(one), PortOutline::Is(other)) => one == other,
-        _ => false,
-    }
-}
-
-fn same_path(one: PathOutline, other: PathOutline) -> bool
-    ensures { IsTrue result → one ≡ other }
-{
-    match (one, other) {
-        (PathOutline::Constant(one), PathOutline::Constant(other)) => one == other,
-        (PathOutline::Itself, PathOutline::Itself) => true,
-        _ => false,
-    }
-}

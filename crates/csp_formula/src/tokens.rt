@@ -1,17 +1,14 @@
 //! Formulas of nonces, integrity metadata and digests.
-ghost use Rattle.std.specs.Prelude.{◌≡◌, ◌∷◌, [], IfOk, IsTrue, MatchOption};
-ghost use Rattle.std.specs.List.{filter_map};
+ghost use Rattle.std.specs.Prelude.{◌≡◌, IfOk};
 ghost use Rattle.std.specs.Option.{option_map};
 ghost use Rattle.base64.specs.GeneralPurpose.{IsBytes};
-ghost use Rattle.csp_atom.specs.Vocabulary.{hash_of_source};
-ghost use Rattle.csp_model.specs.DecideEquality.{same_hash};
 ghost use Rattle.csp_formula.specs.Sentences.{Not, Fact, sentence_of};
 ghost use Rattle.csp_formula.specs.Compiled as spec;
 ghost use Rattle.csp_formula.specs.HashSets.{IsSetOf};
 
 use crate::formula::Formula;
 use csp_atom::Atom;
-use csp_model::{Digest, Duplicate, Hash, Memory, Source, Text};
+use csp_model::{Digest, Duplicate, Hash, Memory, Source};
 use csp_token::hash_of;
 use std::alloc::Global;
 use std::collections::BTreeSet;
@@ -27,37 +24,6 @@ pub(crate) fn nonces_formula(alloc: Global, sources: &[Source]) -> Result<Formul
         }
     }
     Ok(Formula::OneOf(parts))
-}
-
-// Whether two lists have the same nonces in one order.
-pub(crate) fn same_nonces(one: &[Source], other: &[Source]) -> bool
-    ensures { IsTrue result
-        → filter_map spec.nonce_fact one.now ≡ filter_map spec.nonce_fact other.now }
-{
-    let mut left = other;
-    for source in one {
-        if let Source::Nonce { value } = source {
-            match next_nonce(left) {
-                Some((found, later)) if found.as_str() == value.as_str() => left = later,
-                _ => return false,
-            }
-        }
-    }
-    next_nonce(left).is_none()
-}
-
-// The first nonce, and the sources after it.
-fn next_nonce(sources: &[Source]) -> Option<(&Text, &[Source])>
-    ensures { MatchOption result (filter_map spec.nonce_fact sources.now ≡ [])
-        (λ found. filter_map spec.nonce_fact sources.now
-        ≡ Fact (Atom.NonceIs found.0.now) ∷ filter_map spec.nonce_fact found.1.now) }
-{
-    for (number, source) in sources.iter().enumerate() {
-        if let Source::Nonce { value } = source {
-            return Some((value, &sources[number + 1..]));
-        }
-    }
-    None
 }
 
 // The formula of integrity metadata, where the vocabulary has these hashes.
@@ -111,42 +77,6 @@ fn hash_sources<'a>(alloc: Global, sources: &'a [Source]) -> Result<BTreeSet<&'a
     Ok(hashes)
 }
 
-// Whether two lists have the same hashes in one order.
-pub(crate) fn same_hashes(one: &[Source], other: &[Source]) -> bool
-    ensures { IsTrue result → filter_map hash_of_source one.now ≡ filter_map hash_of_source other.now }
-{
-    let mut left = other;
-    for source in one {
-        if let Source::Digest { hash } = source {
-            match next_hash(left) {
-                Some((found, later)) if is_same(found, hash) => left = later,
-                _ => return false,
-            }
-        }
-    }
-    next_hash(left).is_none()
-}
-
-fn is_same(one: &Hash, other: &Hash) -> bool
-    ensures { result ≡ same_hash one.now other.now }
-{
-    one == other
-}
-
-// The first hash, and the sources after it.
-fn next_hash(sources: &[Source]) -> Option<(&Hash, &[Source])>
-    ensures { MatchOption result (filter_map hash_of_source sources.now ≡ [])
-        (λ found. filter_map hash_of_source sources.now
-        ≡ found.0.now ∷ filter_map hash_of_source found.1.now) }
-{
-    for (number, source) in sources.iter().enumerate() {
-        if let Source::Digest { hash } = source {
-            return Some((hash, &sources[number + 1..]));
-        }
-    }
-    None
-}
-
 // The formula of digests: one of them is that of a hash-source.
 pub(crate) fn digests_formula(alloc: Global, sources: &[Source]) -> Result<Formula, Memory>
     ensures { IfOk result (λ f. sentence_of f ≡ spec.digests_sentence sources.now) }
@@ -158,48 +88,6 @@ pub(crate) fn digests_formula(alloc: Global, sources: &[Source]) -> Result<Formu
         }
     }
     Ok(Formula::OneOf(parts))
-}
-
-// Whether two lists stand for the same digests in one order.
-pub(crate) fn same_digests(one: &[Source], other: &[Source]) -> bool
-    ensures { IsTrue result
-        → filter_map spec.digest_fact one.now ≡ filter_map spec.digest_fact other.now }
-{
-    let mut left = other;
-    for source in one {
-        if let Some(digest) = source_digest(source) {
-            match next_digest(left) {
-                Some((found, later)) if is_same_digest(found, digest) => left = later,
-                _ => return false,
-            }
-        }
-    }
-    next_digest(left).is_none()
-}
-
-fn is_same_digest(one: Digest, other: Digest) -> bool
-    ensures { IsTrue result → one ≡ other }
-{
-    match (one, other) {
-        (Digest::Sha256(one), Digest::Sha256(other)) => one == other,
-        (Digest::Sha384(one), Digest::Sha384(other)) => one == other,
-        (Digest::Sha512(one), Digest::Sha512(other)) => one == other,
-        _ => false,
-    }
-}
-
-// The first digest, and the sources after it.
-fn next_digest(sources: &[Source]) -> Option<(Digest, &[Source])>
-    ensures { MatchOption result (filter_map spec.digest_fact sources.now ≡ [])
-        (λ found. filter_map spec.digest_fact sources.now
-        ≡ Fact (Atom.DigestIs found.0) ∷ filter_map spec.digest_fact found.1.now) }
-{
-    for (number, source) in sources.iter().enumerate() {
-        if let Some(digest) = source_digest(source) {
-            return Some((digest, &sources[number + 1..]));
-        }
-    }
-    None
 }
 
 /// The digest that a source stands for, if it is a hash-source.

@@ -4,4 +4,5 @@ pub mod Narrowing
 pub mod PairsApart
 pub mod PairsListed
 pub mod ReasonsGiven
+pub mod SameQuestions
 pub mod WaysFound

@@ -1,21 +1,24 @@
--- The cell of a path, literal by literal.
-use Rattle.std.proofs.Common.{◌≡◌, ◌∙◌, ℕ, zero, suc, ◌+◌, ◌<◌, Bool, refl, sym, ap, subst, List, [], ◌∷◌, ◌++◌, length, take, Option, Some, None, All, Contains, IsTrue, slice_get, get_or, append_assoc, append-nil}
-use Rattle.std.proofs.lemmas.List.{take_more}
-use Rattle.std.proofs.lemmas.List.Elements.{All-nil, All-push, All-weaker, Contains-append_left, Contains-push}
-use Rattle.std.proofs.lemmas.Option.{slice_get_within, get_or_from_slice_get, slice_get_read, slice_get-map}
+-- The cell of a branch, literal by literal.
+use Rattle.std.proofs.Common.{◌≡◌, ◌∙◌, ℕ, zero, suc, ◌+◌, ◌<◌, Bool, sym, ap, subst, List, [], ◌∷◌, ◌++◌, length, map, take, Option, Some, None, All, Contains, IsTrue, slice_get, get_or, append_assoc, append-nil}
+use Rattle.std.proofs.lemmas.List.{get_or_default, take_more}
+use Rattle.std.proofs.lemmas.List.Elements.{All-push, All-weaker, Contains-append_left, Contains-push}
+use Rattle.std.proofs.lemmas.Option.{slice_get_within, get_or_from_slice_get, slice_get-get_or, slice_get-map}
 use Rattle.std.specs.Option.{option_map}
 use Rattle.csp_atom.specs.Follows.{decided, follows, or_else}
 use Rattle.csp_atom.specs.Holding.{is_true_of}
 use Rattle.csp_atom.specs.declared.atom.Atom.{Atom}
+use Rattle.csp_atom.specs.declared.atom.Atom.TheVariants.{HostDomain}
 use Rattle.csp_atom.specs.declared.atom.Literal.{Literal}
-use Rattle.csp_cell.specs.Cells.{Meets, Region, Takes}
+use Rattle.csp_branch.specs.Groups.{atom_in}
+use Rattle.csp_branch.specs.Paths.{literal_of}
+use Rattle.csp_branch.specs.declared.branch.Change.{Change}
+use Rattle.csp_branch.proofs.Telling.{path_more}
+use Rattle.csp_cell.specs.Cells.{Region, Takes}
 use Rattle.csp_cell.proofs.Splitting.{meets}
 use Rattle.csp_cell.proofs.Taking.{all_taken}
+use Rattle.csp_proof.specs.Accepts.{literal}
 use Rattle.csp_shape.specs.declared.shape.Shape.{Shape}
-use Rattle.csp_valuation.specs.Paths.{literal_of, literals_of}
-use Rattle.csp_valuation.specs.declared.taken.Taken.{Taken}
 use Rattle.csp_search.specs.Branches.{IsCellOf, IsFresh}
-use Rattle.csp_search.proofs.Opens.{decided_push}
 
 -- each literal is on an atom that those before it leave open
 fresh_from : (before ls : List Literal) (i : ℕ) (l : Literal) → IsFresh before ls → slice_get ls i ≡ Some l → decided (before ++ take i ls) l.atom ≡ None
@@ -32,21 +35,13 @@ fresh_at ls i l fresh at = fresh_from [] ls i l fresh at
 one_more : (ls : List Literal) (i : ℕ) (l : Literal) → slice_get ls i ≡ Some l → take (i + 1) ls ≡ take i ls ++ l ∷ []
 one_more ls i l at = take_more ls i l (slice_get_within ls i l at) ∙ ap (λ (m : Literal). take i ls ++ m ∷ []) (get_or_from_slice_get ls i l l at)
 
-pub cell_start : (kind : Shape) (cell : Region) → cell ≡ record { shape = kind; literals = [] } → IsCellOf kind [] cell
-cell_start kind cell is = record {
-  shape = ap (λ (r : Region). r.shape) is;
-  decides = λ atom. ap (λ (r : Region). decided r.literals atom) is;
-  meets = λ hashes asked all. subst (λ (ls : List Literal). Meets hashes asked ls) (ap (λ (r : Region). r.literals) is) all;
-  each = subst (λ (ls : List Literal). All (Contains []) ls) (sym (ap (λ (r : Region). r.literals) is)) (All-nil (Contains {X = Literal} []));
-}
-
 -- with one literal more
 cell_push : (kind : Shape) (ls : List Literal) (l : Literal) (old new : Region) → IsCellOf kind ls old → new.shape ≡ old.shape → Takes old.literals l new.literals
     → ((atom : Atom) → decided new.literals atom ≡ decided (old.literals ++ l ∷ []) atom) → IsCellOf kind (ls ++ l ∷ []) new
 cell_push kind ls l old new is shape takes decides = record {
   shape = shape ∙ is.shape;
   decides = λ atom.
-      decides atom ∙ decided_push old.literals l atom ∙ ap (λ (o : Option Bool). or_else o (follows l atom)) (is.decides atom) ∙ sym (decided_push ls l atom);
+      decides atom ∙ path_more old.literals l atom ∙ ap (λ (o : Option Bool). or_else o (follows l atom)) (is.decides atom) ∙ sym (path_more ls l atom);
   meets = λ hashes asked all.
       let both = (meets hashes asked old.literals new.literals l takes).0 all in
       All-push (λ (m : Literal). IsTrue (is_true_of hashes asked m)) ls l (is.meets hashes asked both.0) both.1;
@@ -61,8 +56,18 @@ pub cell_more : (kind : Shape) (ls : List Literal) (i : ℕ) (l : Literal) (old 
 cell_more kind ls i l old new at is shape takes decides =
     subst (λ (xs : List Literal). IsCellOf kind xs new) (sym (one_more ls i l at)) (cell_push kind (take i ls) l old new is shape takes decides)
 
--- The literals of a path, by their places
+-- The atom of a name, and the literal of a step of a walk
 
-pub taken_at : (path : List Taken) (i : ℕ) (taken : Taken) → i < length path → taken ≡ get_or path i taken → slice_get (literals_of path) i ≡ Some (literal_of taken)
-taken_at path i taken within is =
-    slice_get-map literal_of path i ∙ ap (λ (o : Option Taken). option_map literal_of o) (slice_get_read path (length path) i taken refl within is)
+pub atom_here : (names seen : List Atom) (name : ℕ) (a : Atom) → seen ≡ names → name < length names → a ≡ get_or seen name a → atom_in names name ≡ a
+atom_here names seen name a same within is =
+    get_or_default names name HostDomain a within ∙ sym (subst (λ (atoms : List Atom). a ≡ get_or atoms name a) same is)
+
+pub step_at : (names seen : List Atom) (changes : List Change) (ls : List Literal) (i : ℕ) (d : Change) (a : Atom) → map (λ (change : Change). literal_of names change.step) changes ≡ ls
+    → All (λ (change : Change). change.step.name < length names) changes → seen ≡ names → i < length changes → a ≡ get_or seen (get_or changes i d).step.name a
+    → slice_get ls i ≡ Some (literal a (get_or changes i d).step.positive)
+step_at names seen changes ls i d a says named same within is =
+    let change = get_or changes i d in
+    let says_of = λ (c : Change). literal_of names c.step in
+    subst (λ (xs : List Literal). slice_get xs i ≡ Some (literal a change.step.positive)) says
+    (slice_get-map says_of changes i ∙ ap (option_map says_of) (slice_get-get_or changes i d within)
+    ∙ ap (λ (b : Atom). Some (literal b change.step.positive)) (atom_here names seen change.step.name a same (named i d within) is))

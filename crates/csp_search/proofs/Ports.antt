@@ -1,21 +1,20 @@
 -- A cell denies no more ports than two lists can name.
-use Rattle.std.proofs.Common.{◌≡◌, ◌≢◌, ◌∙◌, ◌≤◌, Bool, true, false, refl, sym, ap, List, [], ◌∷◌, ◌++◌, length, length-append, get_or, map, arith, All, AllPairs, Contains, filter}
+use Rattle.std.proofs.Common.{◌≡◌, ◌≢◌, ◌∙◌, Bool, true, false, refl, sym, ap, List, [], ◌∷◌, ◌++◌, length, length-append, get_or, map, arith, All, AllPairs, Contains, filter}
 use Rattle.std.proofs.lemmas.List.Elements.{All-head, All-tail, All-map, All-filter, filter_passes, filter-append}
 use Rattle.std.proofs.lemmas.List.{length-map}
 use Rattle.std.proofs.lemmas.List.Kept.{AllPairs-cons, AllPairs-filter}
-use Rattle.csp_model.specs.Policies.{IsReadable, token_limit}
-use Rattle.csp_model.specs.declared.policy.PolicyList.{PolicyList}
-use Rattle.csp_model.specs.declared.source.Hash.{Hash}
+use Rattle.csp_model.specs.Policies.{IsReadable}
 use Rattle.csp_atom.specs.Follows.{follows}
 use Rattle.csp_atom.specs.declared.atom.Atom.{Atom}
 use Rattle.csp_atom.specs.declared.atom.Atom.TheVariants.{PortIs}
 use Rattle.csp_atom.specs.declared.atom.Literal.{Literal}
-use Rattle.csp_shape.specs.declared.shape.Shape.{Shape}
 use Rattle.csp_cell.specs.Cells.{Covers, StandTogether}
 use Rattle.csp_pick.specs.Picks.{LeavesPorts, denies_port, denies_port_of}
-use Rattle.csp_table.specs.Tables.{AreAt, atoms_of, names_port}
-use Rattle.csp_placed.specs.declared.placing.PlacedFormulas.{PlacedFormulas}
+use Rattle.csp_search.specs.Questions.{asked_atoms, atoms_of}
+use Rattle.csp_search.specs.declared.searching.Question.{Question}
+use Rattle.csp_search.proofs.FewPorts.{few_ports}
 use Rattle.csp_search.proofs.Lists.{AreApart, contains_filter, no_more, pairs_head, pairs_tail}
+use Rattle.csp_search.proofs.PortsSaid.{names_port}
 
 -- Denials of different ports
 
@@ -46,27 +45,21 @@ atoms_apart (l ∷ ls) each pairs =
     (λ k d within. apart l (get_or ls k d) here (later k d within) (pairs_head StandTogether l ls pairs k d within)))
     (atoms_apart ls later (pairs_tail StandTogether l ls pairs))
 
--- what is proved of the ports that a list names
-abbrev pub FewPorts : Type 0
-FewPorts = (list : PolicyList) (kind : Shape) (hashes : List Hash) → IsReadable list
-    → length (filter names_port (atoms_of hashes kind list)) ≤ token_limit
-
-pub leaves_ports : FewPorts → (hashes : List Hash) (first second : PolicyList) (kind : Shape) (placed : PlacedFormulas)
-    → IsReadable first → IsReadable second → AreAt hashes first second kind placed
-    → (ls : List Literal) → AllPairs StandTogether ls → All (λ (l : Literal). Contains placed.atoms l.atom) ls → LeavesPorts ls
-leaves_ports few hashes first second kind placed one two at ls pairs among =
+pub leaves_ports : (q : Question) → IsReadable q.first.now → IsReadable q.second.now → (ls : List Literal) → AllPairs StandTogether ls
+    → All (λ (l : Literal). Contains (asked_atoms q) l.atom) ls → LeavesPorts ls
+leaves_ports q one two ls pairs among =
     let atom_of = λ (l : Literal). l.atom in
-    let ones = atoms_of hashes kind first in
-    let twos = atoms_of hashes kind second in
+    let ones = atoms_of q.vocabulary.now.hashes q.shape q.first.now in
+    let twos = atoms_of q.vocabulary.now.hashes q.shape q.second.now in
     let denials = filter denies_port ls in
     let ports = filter names_port (ones ++ twos) in
     let passes = filter_passes denies_port ls in
-    let inside = All-filter denies_port (λ (l : Literal). Contains placed.atoms l.atom) ls among in
+    let inside = All-filter denies_port (λ (l : Literal). Contains (asked_atoms q) l.atom) ls among in
     let different = atoms_apart denials passes (AllPairs-filter StandTogether denies_port ls pairs) in
     let named : All (λ (l : Literal). Contains ports l.atom) denials =
     λ k d within.
     let l = get_or denials k d in
-    contains_filter names_port (ones ++ twos) l.atom (denied l.atom l.positive (passes k d within)).1 ((at.atoms l.atom).0 (inside k d within)) in
+    contains_filter names_port (ones ++ twos) l.atom (denied l.atom l.positive (passes k d within)).1 (inside k d within) in
     let fewer = no_more (map atom_of denials) ports different (All-map (Contains ports) atom_of denials named) in
     let size = ap length (filter-append names_port ones twos) ∙ length-append (filter names_port ones) (filter names_port twos) in
-    omega (arith, fewer, length-map denials atom_of, size, few first kind hashes one, few second kind hashes two)
+    omega (arith, fewer, length-map denials atom_of, size, few_ports q.first.now one q.shape q.vocabulary.now.hashes, few_ports q.second.now two q.shape q.vocabulary.now.hashes)

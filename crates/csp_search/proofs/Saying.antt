@@ -1,107 +1,138 @@
--- A policy's formula says what the policy's sentence says.
-use Rattle.std.proofs.Common.{◌≡◌, ℕ, ◌+◌, ◌<◌, zero, suc, Bool, true, false, not, ◌&&◌, ◌∙◌, refl, ap, sym, subst, List, [], ◌∷◌, map, Option, Some, None, IsSome, MatchOption, slice_get}
+-- What a policy answers says what the policy's sentence says.
+use Rattle.std.proofs.Common.{◌≡◌, ℕ, zero, suc, Bool, true, false, not, ◌&&◌, refl, ap, subst, List, [], ◌∷◌, length, Option, Some, None, IsSome, IsTrue, MatchOption, arith, slice_get}
 use Rattle.std.specs.Prelude.{if◌then◌else◌, ⊤}
-use Rattle.std.specs.Option.{option_or}
-use borrow.Author.Count.{below_more}
 use Rattle.csp_model.specs.Verdict.{is_enforce}
 use Rattle.csp_model.specs.declared.policy.Policy.{Policy}
 use Rattle.csp_model.specs.declared.source.Hash.{Hash}
 use Rattle.csp_atom.specs.declared.atom.Atom.{Atom}
 use Rattle.csp_atom.specs.declared.atom.Literal.{Literal}
+use Rattle.csp_shape.specs.Numbers.{number}
+use Rattle.csp_shape.specs.Shapes.{is_shape}
 use Rattle.csp_shape.specs.declared.shape.Shape.{Shape}
 use Rattle.csp_formula.specs.Compiled.{policy_sentence}
-use Rattle.csp_formula.specs.Sentences.{Sentence}
 use Rattle.csp_formula.specs.Surely.{surely}
-use Rattle.csp_valuation.specs.Glimpses.{Tells}
-use Rattle.csp_placed.specs.Placed.{sentence_at}
-use Rattle.csp_valuation.specs.Valuations.{Assignment}
-use Rattle.csp_valuation.specs.declared.glance.Glimpse.{Glimpse}
-use Rattle.csp_valuation.specs.declared.glance.Glimpse.TheVariants as glimpse
-use Rattle.csp_placed.specs.declared.placed.PlacedFormula.{PlacedFormula}
+use Rattle.csp_answer.specs.Answers.{IsAnswer, sentence_in}
+use Rattle.csp_answer.specs.Tables.{AreAnswers, Says, answer_of}
+use Rattle.csp_answer.specs.declared.answer.Answer.{Answer}
+use Rattle.csp_answer.specs.declared.policy.PolicyAnswers.{PolicyAnswers}
 use Rattle.csp_proof.specs.Accepts.{hashes_in, is_surely, policy_is, Lists}
-use Rattle.csp_search.specs.Leaves.{enforced_at, is_surely_at, IsDecidedAt, IsDecided, IsSurely, IsGlimpse, HasNoLeaf, LeavesNothing, IsOpen}
-use Rattle.csp_search.specs.Questions.{IsPosed, lists_of, pair_of}
-use Rattle.csp_search.specs.declared.searching.Question.{Question}
 use Rattle.csp_proof.specs.Pairs.{Pair}
+use Rattle.csp_search.specs.Asking.{first_answer, second_answer, where_enforced}
+use Rattle.csp_search.specs.Leaves.{IsDecided, IsSurely, HasNoLeaf, LeavesNothing, IsOpen}
+use Rattle.csp_search.specs.Questions.{IsPosed, lists_of}
+use Rattle.csp_search.specs.declared.searching.Question.{Question}
 
-abbrev pub SaysThem : List Hash → Shape → List Atom → List Policy → List PlacedFormula → Type 0
-SaysThem hashes kind atoms policies formulas = map (sentence_at atoms) formulas ≡ map (λ (p : Policy). policy_sentence p kind hashes) policies
+module _ (atoms : List Atom) (hashes : List Hash) (kind : Shape) where
+  -- where there is a policy it has an answer, which says what it says
+  abbrev pub HasAnswer : Option Policy → Option Answer → Type 0
+  HasAnswer None answer = ⊤
+  HasAnswer (Some policy) answer = MatchOption answer ⊥ (Says atoms (policy_sentence policy kind hashes))
 
-module _ (hashes : List Hash) (kind : Shape) (literals : List Literal) (atoms : List Atom) where
-  value_where : (enforced expected : Bool) (f : PlacedFormula) (s : Sentence) → sentence_at atoms f ≡ s
-      → is_surely_at literals atoms expected (if enforced then Some f else None) ≡ (enforced && is_surely expected (surely literals s))
-  value_where true expected f s e = ap (λ (x : Sentence). is_surely expected (surely literals x)) e
-  value_where false expected f s e = refl
+  answer_at_place : (policies : List Policy) (made : List PolicyAnswers) (place : ℕ) → length made ≡ length policies
+      → ((n : ℕ) (p : Policy) (a : PolicyAnswers) → slice_get policies n ≡ Some p → slice_get made n ≡ Some a → MatchOption (answer_of (a ∷ []) 0 (number kind)) ⊥ (Says atoms (policy_sentence p kind hashes)))
+      → HasAnswer (slice_get policies place) (answer_of made place (number kind))
+  answer_at_place [] made place long each = tt
+  answer_at_place (p ∷ policies) [] place long each = absurd (omega arith)
+  answer_at_place (p ∷ policies) (a ∷ made) zero long each = each 0 p a refl refl
+  answer_at_place (p ∷ policies) (a ∷ made) (suc place) long each =
+      answer_at_place policies made place (omega arith) (λ n q b one two. each (suc n) q b one two)
 
-  pub value_said : (expected : Bool) (policies : List Policy) (formulas : List PlacedFormula) (place : ℕ) → SaysThem hashes kind atoms policies formulas
-      → is_surely_at literals atoms expected (enforced_at policies formulas place) ≡ policy_is expected hashes kind literals (slice_get policies place)
-  value_said expected [] formulas place e = refl
-  value_said expected (p ∷ policies) [] place e = cc
-  value_said expected (p ∷ policies) (f ∷ formulas) zero e =
-      let same : sentence_at atoms f ≡ policy_sentence p kind hashes = cc in
-      value_where (is_enforce p.disposition) expected f (policy_sentence p kind hashes) same
-  value_said expected (p ∷ policies) (f ∷ formulas) (suc place) e =
-      let rest : map (sentence_at atoms) formulas ≡ map (λ (q : Policy). policy_sentence q kind hashes) policies = cc in
-      value_said expected policies formulas place rest
+  pub has_answer : (policies : List Policy) (made : List PolicyAnswers) (place : ℕ) → IsTrue (is_shape kind) → AreAnswers atoms hashes policies made
+      → HasAnswer (slice_get policies place) (answer_of made place (number kind))
+  has_answer policies made place listed are =
+      answer_at_place policies made place are.long (λ n p a one two. are.each n p a one two kind listed)
 
-  decided_where : (enforced : Bool) (f : PlacedFormula) (s : Sentence) → sentence_at atoms f ≡ s → IsDecidedAt literals atoms (if enforced then Some f else None)
-      → enforced ≡ true → IsSome (surely literals s)
-  decided_where true f s e known is = subst (λ (x : Sentence). IsSome (surely literals x)) e known
-  decided_where false f s e known is = cc
+  -- the policy is there and enforced, and the answer says what it says
+  pub record IsSaid (asked : Option Policy) (found : Answer) : Type 0 where
+    pub policy : Policy
+    pub is : asked ≡ Some policy
+    pub enforced : is_enforce policy.disposition ≡ true
+    pub says : Says atoms (policy_sentence policy kind hashes) found
 
-  pub decided_said : (policies : List Policy) (formulas : List PlacedFormula) (place : ℕ) → SaysThem hashes kind atoms policies formulas
-      → IsDecidedAt literals atoms (enforced_at policies formulas place) → IsDecided hashes kind literals (slice_get policies place)
-  decided_said [] formulas place e known = tt
-  decided_said (p ∷ policies) [] place e known = cc
-  decided_said (p ∷ policies) (f ∷ formulas) zero e known =
-      let same : sentence_at atoms f ≡ policy_sentence p kind hashes = cc in
-      decided_where (is_enforce p.disposition) f (policy_sentence p kind hashes) same known
-  decided_said (p ∷ policies) (f ∷ formulas) (suc place) e known =
-      let rest : map (sentence_at atoms) formulas ≡ map (λ (q : Policy). policy_sentence q kind hashes) policies = cc in
-      decided_said policies formulas place rest known
+  same_answer : (answer found : Answer) → Some found ≡ Some answer → answer ≡ found
+  same_answer answer found same = cc
 
--- What is found
+  pub found_says : (asked : Option Policy) (answer : Option Answer) (found : Answer) → HasAnswer asked answer → Some found ≡ where_enforced asked answer → IsSaid asked found
+  found_says None answer found has same = cc
+  found_says (Some p) None found has same = absurd has
+  found_says (Some p) (Some answer) found has same = by (is_enforce p.disposition) refl same where
+    by : (enforced : Bool) → is_enforce p.disposition ≡ enforced → Some found ≡ (if enforced then Some answer else None) → IsSaid (Some p) found
+    by false is same = cc
+    by true is same = record { policy = p; is = refl; enforced = is; says = subst (Says atoms (policy_sentence p kind hashes)) (same_answer answer found same) has }
 
-pub match_weaker : {A : Type 0} (P Q : Type 0) (o : Option A) → (P → Q) → MatchOption o ⊤ (λ _. P) → MatchOption o ⊤ (λ _. Q)
-match_weaker P Q None turn h = tt
-match_weaker P Q (Some x) turn h = turn h
+  module _ (literals : List Literal) where
+    -- the answer is one, and tells the value of the policy
+    pub record Tells (asked : Option Policy) (found : Answer) : Type 0 where
+      pub named : IsAnswer (length atoms) found
+      pub value : (expected : Bool) → is_surely expected (surely literals (sentence_in atoms found)) ≡ policy_is expected hashes kind literals asked
+      pub decided : IsSome (surely literals (sentence_in atoms found)) → IsDecided hashes kind literals asked
 
--- what is so of each policy so far is so of one more, where nothing is to split by
-pub decided_more : (P : Type 0) (Q : ℕ → Type 0) (n : ℕ) (R : ℕ → Type 0) (o : Option ℕ) → MatchOption o (P × ((k : ℕ) → k < n → Q k)) R → Q n
-    → MatchOption o (P × ((k : ℕ) → k < n + 1 → Q k)) R
-decided_more P Q n R None h here = (h.0, below_more Q n h.1 here)
-decided_more P Q n R (Some x) h here = h
+    found_tells : (asked : Option Policy) (found : Answer) → IsSaid asked found → Tells asked found
+    found_tells asked found said = record {
+      named = said.says.answer;
+      value = λ expected. rw (said.is, said.enforced) (ap (is_surely expected) (said.says.says literals));
+      decided = λ known. rw said.is (λ enforced. subst (λ (o : Option Bool). IsSome o) (said.says.says literals) known);
+    }
 
--- and nothing is asked where something is
-pub open_more : (P later : Type 0) (R : ℕ → Type 0) (o : Option ℕ) (place : ℕ) → MatchOption o P R → R place → MatchOption (option_or o (Some place)) later R
-open_more P later R None place h here = here
-open_more P later R (Some x) place h here = h
+    -- a policy with no enforced answer isn't enforced
+    pub record SaysNothing (policy : Option Policy) : Type 0 where
+      pub value : (expected : Bool) → policy_is expected hashes kind literals policy ≡ false
+      pub decided : IsDecided hashes kind literals policy
 
--- The formulas of a question say what its policies say
+    none_says : (enforced : Bool) (p : Policy) (answer : Answer) → is_enforce p.disposition ≡ enforced → None ≡ (if enforced then Some answer else None) → SaysNothing (Some p)
+    none_says true p answer is same = cc
+    none_says false p answer is same = record {
+      value = λ expected. rw is refl;
+      decided = λ enforced. cc;
+    }
 
-says_by : (known hashes : List Hash) (kind : Shape) (atoms placed : List Atom) (policies : List Policy) (formulas : List PlacedFormula) → known ≡ hashes → atoms ≡ placed
-    → SaysThem known kind placed policies formulas → SaysThem hashes kind atoms policies formulas
-says_by known hashes kind atoms placed policies formulas same there says =
-    subst (λ (hs : List Hash). SaysThem hs kind atoms policies formulas) same (subst (λ (xs : List Atom). SaysThem known kind xs policies formulas) (sym there) says)
+    none_tells : (policy : Option Policy) (answer : Option Answer) → HasAnswer policy answer → None ≡ where_enforced policy answer → SaysNothing policy
+    none_tells None answer has same = record { value = λ expected. refl; decided = tt }
+    none_tells (Some p) None has same = absurd has
+    none_tells (Some p) (Some answer) has same = none_says (is_enforce p.disposition) p answer refl same
 
-pub first_says : (q : Question) (atoms : List Atom) → IsPosed q → atoms ≡ q.formulas.now.atoms
-    → SaysThem (hashes_in (lists_of q)) q.shape atoms q.first.now.policies q.formulas.now.first
-first_says q atoms posed there =
-    says_by q.vocabulary.now.hashes (hashes_in (lists_of q)) q.shape atoms q.formulas.now.atoms q.first.now.policies q.formulas.now.first posed.hashes there posed.formulas.first
+-- The answers of a question say what its policies say
 
-pub second_says : (q : Question) (atoms : List Atom) → IsPosed q → atoms ≡ q.formulas.now.atoms
-    → SaysThem (hashes_in (lists_of q)) q.shape atoms q.second.now.policies q.formulas.now.second
-second_says q atoms posed there =
-    says_by q.vocabulary.now.hashes (hashes_in (lists_of q)) q.shape atoms q.formulas.now.atoms q.second.now.policies q.formulas.now.second posed.hashes there posed.formulas.second
+first_has : (q : Question) (atoms : List Atom) (place : ℕ) → IsPosed q atoms
+    → HasAnswer atoms (hashes_in (lists_of q)) q.shape (slice_get q.first.now.policies place) (answer_of q.table.now.first place (number q.shape))
+first_has q atoms place posed =
+    has_answer atoms (hashes_in (lists_of q)) q.shape q.first.now.policies q.table.now.first place posed.listed
+    (subst (λ (hs : List Hash). AreAnswers atoms hs q.first.now.policies q.table.now.first) posed.hashes posed.first_answers)
 
--- what a short look tells of the formula of the pair's policy
-pub glimpse_said : (q : Question) (v : Assignment) (f : PlacedFormula) (seen : Glimpse) → IsPosed q → v.atoms ≡ q.formulas.now.atoms
-    → Some f ≡ enforced_at q.second.now.policies q.formulas.now.second q.policy → Tells v (sentence_at v.atoms f) seen → IsGlimpse (lists_of q) (pair_of q) v seen
-glimpse_said q v f glimpse.Holds posed there found tells =
-    sym (value_said (hashes_in (lists_of q)) q.shape v.literals v.atoms true q.second.now.policies q.formulas.now.second q.policy (second_says q v.atoms posed there))
-    ∙ ap (λ (o : Option PlacedFormula). is_surely_at v.literals v.atoms true o) (sym found) ∙ ap (is_surely true) tells
-glimpse_said q v f (glimpse.Open place) posed there found tells = tells
-glimpse_said q v f glimpse.Nothing posed there found tells = tt
+second_has : (q : Question) (atoms : List Atom) → IsPosed q atoms
+    → HasAnswer atoms (hashes_in (lists_of q)) q.shape (slice_get q.second.now.policies q.policy) (answer_of q.table.now.second q.policy (number q.shape))
+second_has q atoms posed =
+    has_answer atoms (hashes_in (lists_of q)) q.shape q.second.now.policies q.table.now.second q.policy posed.listed
+    (subst (λ (hs : List Hash). AreAnswers atoms hs q.second.now.policies q.table.now.second) posed.hashes posed.second_answers)
+
+module _ (q : Question) (atoms : List Atom) (literals : List Literal) (posed : IsPosed q atoms) where
+  pub first_tells : (place : ℕ) (found : Answer) → Some found ≡ first_answer q place
+      → Tells atoms (hashes_in (lists_of q)) q.shape literals (slice_get q.first.now.policies place) found
+  first_tells place found same =
+      let policy = slice_get q.first.now.policies place in
+      found_tells atoms (hashes_in (lists_of q)) q.shape literals policy found
+      (found_says atoms (hashes_in (lists_of q)) q.shape policy (answer_of q.table.now.first place (number q.shape)) found (first_has q atoms place posed) same)
+
+  pub first_silent : (place : ℕ) → None ≡ first_answer q place → SaysNothing atoms (hashes_in (lists_of q)) q.shape literals (slice_get q.first.now.policies place)
+  first_silent place same =
+      none_tells atoms (hashes_in (lists_of q)) q.shape literals (slice_get q.first.now.policies place) (answer_of q.table.now.first place (number q.shape)) (first_has q atoms place posed) same
+
+  pub second_tells : (found : Answer) → Some found ≡ second_answer q
+      → Tells atoms (hashes_in (lists_of q)) q.shape literals (slice_get q.second.now.policies q.policy) found
+  second_tells found same =
+      let policy = slice_get q.second.now.policies q.policy in
+      found_tells atoms (hashes_in (lists_of q)) q.shape literals policy found
+      (found_says atoms (hashes_in (lists_of q)) q.shape policy (answer_of q.table.now.second q.policy (number q.shape)) found (second_has q atoms posed) same)
+
+  pub second_silent : None ≡ second_answer q → SaysNothing atoms (hashes_in (lists_of q)) q.shape literals (slice_get q.second.now.policies q.policy)
+  second_silent same =
+      none_tells atoms (hashes_in (lists_of q)) q.shape literals (slice_get q.second.now.policies q.policy) (answer_of q.table.now.second q.policy (number q.shape)) (second_has q atoms posed) same
+
+-- what holds where it is decided holds where something is known
+pub decided_tells : {P : Type 0} (known said : Option Bool) → known ≡ said → (IsSome said → P) → MatchOption known ⊤ (λ _. P)
+decided_tells None said is turn = tt
+decided_tells (Some value) None is turn = cc
+decided_tells (Some value) (Some other) is turn = turn refl
 
 -- What is decided and hasn't the one value has the other
 
@@ -116,7 +147,7 @@ second_false : (a b : Bool) → a ≡ true → (a && b) ≡ false → b ≡ fals
 second_false true b is fails = fails
 second_false false b is fails = cc
 
-pub surely_other : (wanted : Bool) (hashes : List Hash) (kind : Shape) (literals : List Literal) (o : Option Policy)
+surely_other : (wanted : Bool) (hashes : List Hash) (kind : Shape) (literals : List Literal) (o : Option Policy)
     → policy_is (not wanted) hashes kind literals o ≡ false → IsDecided hashes kind literals o → IsSurely wanted hashes kind literals o
 surely_other wanted hashes kind literals None fails known = tt
 surely_other wanted hashes kind literals (Some p) fails known = λ enforced.

@@ -1,20 +1,23 @@
 -- Trees for branches, and the nodes that begin a tree that keeps all rules.
-use Rattle.std.proofs.Common.{◌≡◌, ℕ, ◌+◌, ◌<◌, Bool, true, false, refl, sym, subst, List, [], ◌∷◌, ◌++◌, length, length-append, Option, Some, None, arith, ◌∙◌, slice_get, get_or, append_assoc, append-nil, All, Contains}
-use Rattle.std.proofs.lemmas.Option.{slice_get_within, get_or_from_slice_get}
-use Rattle.std.proofs.lemmas.List.Elements.{All-nil, All-push, Contains-get_or}
+use Rattle.std.proofs.Common.{◌≡◌, ℕ, ◌+◌, ◌<◌, Bool, true, false, refl, sym, subst, List, [], ◌∷◌, ◌++◌, length, length-append, None, arith, ◌∙◌, append_assoc, append-nil, All, Contains}
+use Rattle.std.proofs.lemmas.List.Elements.{All-nil, All-push}
 use Rattle.csp_atom.specs.Atoms.{IsValidAtom}
 use Rattle.csp_atom.specs.Follows.{decided}
 use Rattle.csp_atom.specs.declared.atom.Atom.{Atom}
 use Rattle.csp_atom.specs.declared.atom.Literal.{Literal}
-use Rattle.csp_valuation.specs.Valuations.{value_of_atom}
+use Rattle.csp_branch.specs.Groups.{atom_in}
+use Rattle.csp_branch.specs.Walks.{with}
 use Rattle.csp_proof.specs.Accepts.{Lists, bad_case, blocks, is_met, literal}
 use Rattle.csp_proof.specs.Pairs.{Pair}
 use Rattle.csp_proof.specs.WellFormed.{Cases, Splits, IsBlocked, IsMet, preorder, IsValidNode}
 use Rattle.csp_proof.specs.declared.proof.Node.{Node}
 use Rattle.csp_proof.specs.declared.proof.Node.TheVariants.{Split, Blocked, Met}
 use Rattle.csp_search.specs.Answers.{ShowsInclusion}
-use Rattle.csp_search.specs.Branches.{with, IsFresh, IsBranch}
+use Rattle.csp_search.specs.Asking.{IsOpenName}
+use Rattle.csp_search.specs.Branches.{IsFresh, IsBranch}
 use Rattle.csp_search.specs.Leaves.{closes, IsLeaf}
+use Rattle.csp_search.specs.Questions.{asked_atoms, lists_of, pair_of}
+use Rattle.csp_search.specs.declared.searching.Question.{Question}
 use Rattle.csp_search.proofs.Opens.{open_all, open_fewer}
 
 module _ (lists : Lists) (pair : Pair) where
@@ -73,80 +76,67 @@ module _ (lists : Lists) (pair : Pair) where
 
 -- Branches
 
-abbrev pub AreBranches : List Atom → List (List Literal) → Type 0
-AreBranches atoms [] = Unit {0}
-AreBranches atoms (ls ∷ branches) = IsBranch atoms ls × AreBranches atoms branches
-
 fresh_push : (before ls : List Literal) (l : Literal) → IsFresh before ls → decided (before ++ ls) l.atom ≡ None → IsFresh before (ls ++ l ∷ [])
 fresh_push before [] l f e = (subst (λ (xs : List Literal). decided xs l.atom ≡ None) (append-nil before) e, tt)
 fresh_push before (m ∷ ls) l f e =
     (f.0, fresh_push (before ++ m ∷ []) ls l f.1 (subst (λ (xs : List Literal). decided xs l.atom ≡ None) (sym (append_assoc before (m ∷ []) ls)) e))
 
-found : (atoms : List Atom) (place : ℕ) (a : Atom) → slice_get atoms place ≡ Some a → Contains atoms a
-found atoms place a at = subst (Contains atoms) (get_or_from_slice_get atoms place a a at) (Contains-get_or atoms place a (slice_get_within atoms place a at))
-
-pub branch_with : (atoms : List Atom) (ls : List Literal) (place : ℕ) (a : Atom) (sign : Bool) → IsBranch atoms ls → slice_get atoms place ≡ Some a → decided ls a ≡ None → IsBranch atoms (with ls a sign)
-branch_with atoms ls place a sign b at e = record {
-  fresh = fresh_push [] ls (literal a sign) b.fresh e;
-  among = All-push (λ (l : Literal). Contains atoms l.atom) ls (literal a sign) b.among (found atoms place a at);
-  room = omega (arith, b.room, open_fewer ls atoms place a sign at e, length-append ls (literal a sign ∷ []));
-}
-
-pub root : (atoms : List Atom) → IsBranch atoms []
-root atoms = record {
+pub root : (names asked : List Atom) → IsBranch names asked []
+root names asked = record {
   fresh = tt;
-  among = All-nil (λ (l : Literal). Contains atoms l.atom);
-  room = omega (arith, open_all atoms);
+  among = All-nil (λ (l : Literal). Contains asked l.atom);
+  room = omega (arith, open_all names);
 }
 
--- What a search keeps
+module _ (q : Question) (names : List Atom) where
+  pub branch_with : (ls : List Literal) (name : ℕ) (sign : Bool) → IsBranch names (asked_atoms q) ls → IsOpenName q names ls name
+      → IsBranch names (asked_atoms q) (with ls (atom_in names name) sign)
+  branch_with ls name sign b o =
+      let l = literal (atom_in names name) sign in
+      record {
+        fresh = fresh_push [] ls l b.fresh o.undecided;
+        among = All-push (λ (m : Literal). Contains (asked_atoms q) m.atom) ls l b.among o.is.asked;
+        room = omega (arith, b.room, open_fewer ls names name sign o.is.there o.undecided, length-append ls (l ∷ []));
+      }
 
--- the nodes so far begin a tree, and are valid; each branch is one that splits led to
-pub record Keeps (lists : Lists) (pair : Pair) (atoms : List Atom) (nodes : List Node) (branches : List (List Literal)) : Type 0 where
-  pub begins : Begins lists pair nodes branches
-  pub valid : All IsValidNode nodes
-  pub each : AreBranches atoms branches
+  -- where a name is open there is room for a literal
+  pub has_room : (ls : List Literal) (name : ℕ) → IsBranch names (asked_atoms q) ls → IsOpenName q names ls name → length ls < length names
+  has_room ls name b o = omega (arith, b.room, open_fewer ls names name true o.is.there o.undecided)
 
-pub keeps_start : (lists : Lists) (pair : Pair) (atoms : List Atom) → Keeps lists pair atoms [] ([] ∷ [])
-keeps_start lists pair atoms = record { begins = begin lists pair; valid = All-nil IsValidNode; each = (root atoms, tt) }
+  -- What a search keeps
 
-pub keeps_leaf : (lists : Lists) (pair : Pair) (atoms : List Atom) (nodes later : List Node) (ls : List Literal) (branches : List (List Literal)) (n : Node)
-    → Keeps lists pair atoms nodes (ls ∷ branches) → IsLeaf lists pair ls n → later ≡ nodes ++ n ∷ [] → Keeps lists pair atoms later branches
-keeps_leaf lists pair atoms nodes later ls branches n k l e = record {
-  begins = rw e (leaf_closed lists pair nodes ls branches n l.closed k.begins);
-  valid = rw e (All-push IsValidNode nodes n k.valid l.valid);
-  each = k.each.1;
-}
+  abbrev pub AreBranches : List (List Literal) → Type 0
+  AreBranches [] = Unit {0}
+  AreBranches (ls ∷ branches) = IsBranch names (asked_atoms q) ls × AreBranches branches
 
-pub keeps_split : (lists : Lists) (pair : Pair) (atoms : List Atom) (nodes later : List Node) (ls : List Literal) (branches : List (List Literal)) (place : ℕ) (a : Atom)
-    → Keeps lists pair atoms nodes (ls ∷ branches) → slice_get atoms place ≡ Some a → decided ls a ≡ None → IsValidAtom a → later ≡ nodes ++ Split a ∷ []
-    → Keeps lists pair atoms later (with ls a true ∷ with ls a false ∷ branches)
-keeps_split lists pair atoms nodes later ls branches place a k at d valid e = record {
-  begins = rw e (branched lists pair nodes ls branches a k.begins);
-  valid = rw e (All-push IsValidNode nodes (Split a) k.valid valid);
-  each = (branch_with atoms ls place a true k.each.0 at d, (branch_with atoms ls place a false k.each.0 at d, k.each.1));
-}
+  -- the nodes so far begin a tree, and are valid; each branch is one that splits led to
+  pub record Keeps (nodes : List Node) (branches : List (List Literal)) : Type 0 where
+    pub begins : Begins (lists_of q) (pair_of q) nodes branches
+    pub valid : All IsValidNode nodes
+    pub each : AreBranches branches
 
-pub ends : (lists : Lists) (pair : Pair) (atoms : List Atom) (nodes : List Node) → Keeps lists pair atoms nodes [] → ShowsInclusion lists pair nodes
-unfolding Begins AllAccepted spelled
-ends lists pair atoms nodes k =
-    let r = k.begins [] tt in
-    record { cases = r.0; preorder = r.1 ∙ append-nil nodes; valid = k.valid; accepted = accepted_good lists pair [] r.0 r.2 }
+  pub keeps_start : Keeps [] ([] ∷ [])
+  keeps_start = record { begins = begin (lists_of q) (pair_of q); valid = All-nil IsValidNode; each = (root names (asked_atoms q), tt) }
 
--- the atom at a place that has no value
-pub open_at : (ls : List Literal) (known atoms : List Atom) (place : ℕ) → known ≡ atoms → value_of_atom ls (slice_get known place) ≡ None
-    → (a : Atom) × (slice_get atoms place ≡ Some a) × (decided ls a ≡ None)
-open_at ls known atoms place same none = by (slice_get atoms place) refl (rw same at none) where
-  by : (o : Option Atom) → slice_get atoms place ≡ o → value_of_atom ls (slice_get atoms place) ≡ None → (a : Atom) × (slice_get atoms place ≡ Some a) × (decided ls a ≡ None)
-  by None at none = let no : Some false ≡ None = subst (λ (o : Option Atom). value_of_atom ls o ≡ None) at none in cc
-  by (Some a) at none = (a, at, subst (λ (o : Option Atom). value_of_atom ls o ≡ None) at none)
+  pub keeps_leaf : (nodes later : List Node) (ls : List Literal) (branches : List (List Literal)) (n : Node)
+      → Keeps nodes (ls ∷ branches) → IsLeaf (lists_of q) (pair_of q) ls n → later ≡ nodes ++ n ∷ [] → Keeps later branches
+  keeps_leaf nodes later ls branches n k l e = record {
+    begins = rw e (leaf_closed (lists_of q) (pair_of q) nodes ls branches n l.closed k.begins);
+    valid = rw e (All-push IsValidNode nodes n k.valid l.valid);
+    each = k.each.1;
+  }
 
-pub open_here : (ls : List Literal) (known atoms : List Atom) (place : ℕ) (a : Atom) → known ≡ atoms → value_of_atom ls (slice_get known place) ≡ None → a ≡ get_or atoms place a
-    → (slice_get atoms place ≡ Some a) × (decided ls a ≡ None)
-open_here ls known atoms place a same none is =
-    let (b, at, d) = open_at ls known atoms place same none in
-    let e : b ≡ a = sym (is ∙ get_or_from_slice_get atoms place b a at) in
-    (subst (λ (x : Atom). slice_get atoms place ≡ Some x) e at, subst (λ (x : Atom). decided ls x ≡ None) e d)
+  pub keeps_split : (nodes later : List Node) (ls : List Literal) (branches : List (List Literal)) (name : ℕ)
+      → Keeps nodes (ls ∷ branches) → IsOpenName q names ls name → IsValidAtom (atom_in names name) → later ≡ nodes ++ Split (atom_in names name) ∷ []
+      → Keeps later (with ls (atom_in names name) true ∷ with ls (atom_in names name) false ∷ branches)
+  keeps_split nodes later ls branches name k o valid e = record {
+    begins = rw e (branched (lists_of q) (pair_of q) nodes ls branches (atom_in names name) k.begins);
+    valid = rw e (All-push IsValidNode nodes (Split (atom_in names name)) k.valid valid);
+    each = (branch_with ls name true k.each.0 o, (branch_with ls name false k.each.0 o, k.each.1));
+  }
 
-pub open_within : (ls : List Literal) (known atoms : List Atom) (place : ℕ) → known ≡ atoms → value_of_atom ls (slice_get known place) ≡ None → place < length atoms
-open_within ls known atoms place same none = let (b, at, d) = open_at ls known atoms place same none in slice_get_within atoms place b at
+  pub ends : (nodes : List Node) → Keeps nodes [] → ShowsInclusion (lists_of q) (pair_of q) nodes
+  unfolding Begins AllAccepted spelled
+  ends nodes k =
+      let r = k.begins [] tt in
+      record { cases = r.0; preorder = r.1 ∙ append-nil nodes; valid = k.valid; accepted = accepted_good (lists_of q) (pair_of q) [] r.0 r.2 }

@@ -1,27 +1,12 @@
 -- The branches of a search, each by the literals that lead to it.
-use Rattle.std.specs.Prelude.{◌≡◌, ℕ, ◌+◌, ◌≤◌, Bool, true, false, List, [], ◌∷◌, ◌++◌, length, Option, Some, None, All, Contains, ⊤}
+use Rattle.std.specs.Prelude.{◌≡◌, ℕ, ◌+◌, ◌≤◌, Bool, List, [], ◌∷◌, ◌++◌, length, Option, Some, None, All, Contains, ⊤}
 use Rattle.csp_model.specs.declared.check.Check.{Check}
 use Rattle.csp_model.specs.declared.source.Hash.{Hash}
 use Rattle.csp_atom.specs.Follows.{decided}
 use Rattle.csp_atom.specs.declared.atom.Atom.{Atom}
 use Rattle.csp_atom.specs.declared.atom.Literal.{Literal}
 use Rattle.csp_cell.specs.Cells.{Meets, Region}
-use Rattle.csp_proof.specs.Accepts.{literal}
 use Rattle.csp_shape.specs.declared.shape.Shape.{Shape}
-
--- the literals, and one more
-abbrev pub with : List Literal → Atom → Bool → List Literal
-with literals atom positive = literals ++ literal atom positive ∷ []
-
--- the branch that waits where a literal stands: the other one of a split, until it is taken
-abbrev pub waits : List Literal → Atom → Bool → List (List Literal)
-waits before atom true = with before atom false ∷ []
-waits before atom false = []
-
--- the branches that wait along a path, the deepest first, where these literals stand before it
-abbrev pub pending : List Literal → List Literal → List (List Literal)
-pending before [] = []
-pending before (l ∷ ls) = pending (before ++ l ∷ []) ls ++ waits before l.atom l.positive
 
 -- how many of the atoms are open
 abbrev pub is_open : Option Bool → ℕ
@@ -37,11 +22,11 @@ abbrev pub IsFresh : List Literal → List Literal → Type 0
 IsFresh before [] = ⊤
 IsFresh before (l ∷ ls) = (decided before l.atom ≡ None) × IsFresh (before ++ l ∷ []) ls
 
--- a branch that splits by these atoms led to
-pub record IsBranch (atoms : List Atom) (literals : List Literal) : Type 0 where
+-- a branch that splits by these of the atoms that have names led to
+pub record IsBranch (names asked : List Atom) (literals : List Literal) : Type 0 where
   pub fresh : IsFresh [] literals
-  pub among : All (λ (l : Literal). Contains atoms l.atom) literals
-  pub room : open_atoms literals atoms + length literals ≤ length atoms
+  pub among : All (λ (l : Literal). Contains asked l.atom) literals
+  pub room : open_atoms literals names + length literals ≤ length names
 
 -- the cell of the checks of the shape of which these literals are true
 pub record IsCellOf (kind : Shape) (literals : List Literal) (cell : Region) : Type 0 where

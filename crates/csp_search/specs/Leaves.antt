@@ -1,5 +1,6 @@
 -- Where a branch of a search ends: at a leaf, or where nothing is left to split by.
-use Rattle.std.specs.Prelude.{◌≡◌, ℕ, ◌<◌, Bool, true, false, if◌then◌else◌, List, length, Option, Some, None, IsSome, slice_get, ⊤}
+use Rattle.std.specs.Prelude.{◌≡◌, ℕ, ◌<◌, Bool, true, false, List, length, slice_get}
+use Rattle.std.specs.Prelude.{Option, Some, None, IsSome, ⊤}
 use Rattle.csp_model.specs.Verdict.{is_enforce}
 use Rattle.csp_model.specs.declared.policy.Policy.{Policy}
 use Rattle.csp_model.specs.declared.source.Hash.{Hash}
@@ -8,41 +9,17 @@ use Rattle.csp_atom.specs.declared.atom.Literal.{Literal}
 use Rattle.csp_shape.specs.declared.shape.Shape.{Shape}
 use Rattle.csp_formula.specs.Compiled.{policy_sentence}
 use Rattle.csp_formula.specs.Surely.{surely}
-use Rattle.csp_placed.specs.Placed.{sentence_at}
-use Rattle.csp_valuation.specs.Valuations.{Assignment, value_at}
-use Rattle.csp_valuation.specs.declared.glance.Glimpse.{Glimpse}
-use Rattle.csp_valuation.specs.declared.glance.Glimpse.TheVariants as glimpse
-use Rattle.csp_placed.specs.declared.placed.PlacedFormula.{PlacedFormula}
-use Rattle.csp_proof.specs.Accepts.{Lists, blocks, hashes_in, is_met, is_surely}
+use Rattle.csp_proof.specs.Accepts.{Lists, blocks, hashes_in, is_met}
 use Rattle.csp_proof.specs.Pairs.{Pair}
 use Rattle.csp_proof.specs.WellFormed.{IsValidNode}
 use Rattle.csp_proof.specs.declared.proof.Node.{Node}
 use Rattle.csp_proof.specs.declared.proof.Node.TheVariants as node
-use Rattle.csp_search.specs.declared.leaf.Step.{Step}
-use Rattle.csp_search.specs.declared.leaf.Step.TheVariants as step
-
--- Formulas of policies
-
-abbrev pub where_enforced : {F : Type 0} → Option Policy → Option F → Option F
-where_enforced None formula = None
-where_enforced (Some policy) None = None
-where_enforced (Some policy) (Some formula) =
-    if is_enforce policy.disposition then Some formula else None
-
--- the formula of the policy at this place, where it is enforced
-abbrev pub enforced_at : {F : Type 0} → List Policy → List F → ℕ → Option F
-enforced_at policies formulas place = where_enforced (slice_get policies place) (slice_get formulas place)
-
--- the formula over these atoms surely has the value
-abbrev pub is_surely_at : List Literal → List Atom → Bool → Option PlacedFormula → Bool
-is_surely_at literals atoms expected None = false
-is_surely_at literals atoms expected (Some formula) =
-    is_surely expected (surely literals (sentence_at atoms formula))
-
--- the literals decide the formula
-abbrev pub IsDecidedAt : List Literal → List Atom → Option PlacedFormula → Type 0
-IsDecidedAt literals atoms None = ⊤
-IsDecidedAt literals atoms (Some formula) = IsSome (surely literals (sentence_at atoms formula))
+use Rattle.csp_search.specs.Answers.{ShowsNone}
+use Rattle.csp_search.specs.Asking.{IsOpenName}
+use Rattle.csp_search.specs.Questions.{lists_of, pair_of}
+use Rattle.csp_search.specs.declared.searching.Question.{Question}
+use Rattle.csp_search.specs.declared.step.Step.{Step}
+use Rattle.csp_search.specs.declared.step.Step.TheVariants as step
 
 -- Leaves
 
@@ -82,8 +59,8 @@ IsSurely expected hashes kind literals (Some policy) =
     is_enforce policy.disposition ≡ true
     → surely literals (policy_sentence policy kind hashes) ≡ Some expected
 
--- each enforced policy of the first list surely allows the checks that are left, and the pair's policy of the
--- second refuses them
+-- each enforced policy of the first list surely allows the checks that are left, and the pair's policy of
+-- the second refuses them
 pub record IsOpen (lists : Lists) (pair : Pair) (literals : List Literal) : Type 0 where
   pub first : (policy : ℕ) → policy < length lists.first.policies
       → IsSurely true (hashes_in lists) pair.shape literals (slice_get lists.first.policies policy)
@@ -92,16 +69,9 @@ pub record IsOpen (lists : Lists) (pair : Pair) (literals : List Literal) : Type
 
 -- How a search goes on from a branch
 
--- what a short look tells of the pair's policy: that the branch is met, that a place isn't decided, or
--- nothing
-abbrev pub IsGlimpse : Lists → Pair → Assignment → Glimpse → Type 0
-IsGlimpse lists pair valuation glimpse.Holds = is_met lists pair valuation.literals ≡ true
-IsGlimpse lists pair valuation (glimpse.Open place) = value_at valuation place ≡ None
-IsGlimpse lists pair valuation glimpse.Nothing = ⊤
-
--- a leaf that may stand there, a place that isn't decided, or none of both
-abbrev pub IsStep : Lists → Pair → Assignment → Step → Type 0
-IsStep lists pair valuation (step.Close leaf) = IsLeaf lists pair valuation.literals leaf
-IsStep lists pair valuation (step.Split place) = value_at valuation place ≡ None
-IsStep lists pair valuation step.Leave =
-    HasNoLeaf lists pair valuation.literals × LeavesNothing lists pair valuation.literals
+-- a leaf that may stand there, a name that is asked for and open, or a check that shows that the answer is
+-- no
+abbrev pub IsStep : Question → List Atom → List Literal → Step → Type 0
+IsStep q names literals (step.Close leaf) = IsLeaf (lists_of q) (pair_of q) literals leaf
+IsStep q names literals (step.Split name) = IsOpenName q names literals name
+IsStep q names literals (step.Found asked) = ShowsNone (lists_of q) (pair_of q) asked

@@ -1,4 +1,5 @@
 pub mod Answers
 pub mod Questions
+pub mod Asking
 pub mod Leaves
 pub mod Branches

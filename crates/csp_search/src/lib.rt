@@ -2,17 +2,18 @@
 //! there is none.
 #![tactic(auto)]
 
-mod beginning;
-mod hints;
+mod asked;
+mod cover;
+mod goals;
 mod leaf;
 mod open;
-mod order;
-mod overview;
+mod parts;
+mod plan;
 mod probing;
 mod searching;
+mod step;
 mod tree;
-mod uses;
+mod view;
 
-pub use overview::Overview;
 pub use probing::probe;
-pub use searching::{Effort, Found, Question, search};
+pub use searching::{Found, Question, search};

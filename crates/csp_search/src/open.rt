@@ -1,69 +1,106 @@
-//! A check of the branch that a search leaves open.
-ghost use Rattle.std.specs.Prelude.{◌≡◌, ◌≤◌, All, IfOk, [], length};
-ghost use Rattle.csp_cell.specs.Cells.{IsOf};
+//! A check of a branch that no leaf may end.
+ghost use Rattle.std.specs.Prelude.{◌≡◌, ◌≢◌, ◌≤◌, [], All, IfOk, IfSome, None, OnOk, length, take};
+ghost use Rattle.csp_atom.specs.Atoms.{BelongsTo};
+ghost use Rattle.csp_atom.specs.Follows.{decided};
+ghost use Rattle.csp_atom.specs.declared.atom.Literal.{Literal as LiteralValue};
+ghost use Rattle.csp_branch.specs.Groups.{atom_in};
+ghost use Rattle.csp_branch.specs.Walks.{at_root};
 ghost use Rattle.csp_search.specs.Answers.{ShowsNone};
+ghost use Rattle.csp_search.specs.Asking.{IsAsked};
 ghost use Rattle.csp_search.specs.Branches.{IsBranch, IsCellOf, IsFresh};
-ghost use Rattle.csp_search.specs.Leaves.{IsOpen};
-ghost use Rattle.csp_search.specs.Questions.{IsPosed, lists_of, pair_of};
-ghost use Rattle.csp_valuation.specs.Paths.{literals_of};
+ghost use Rattle.csp_search.specs.Leaves.{HasNoLeaf};
+ghost use Rattle.csp_search.specs.Questions.{asked_atoms, lists_of, pair_of};
+ghost use Rattle.csp_shape.specs.Shapes.{looks_at};
 
-use crate::order::order_branch;
-use crate::searching::Question;
+use crate::asked::Asked;
+use crate::leaf::leaf_of;
+use csp_answer::laws::an_answer_speaks_of_its_names;
+use csp_branch::Walker;
 use csp_cell::Cell;
 use csp_formula::laws::{
-    a_formula_is_what_the_policy_allows, the_atoms_of_a_formula_are_of_its_shape,
+    a_formula_is_what_the_policy_allows, literals_that_decide_each_atom_decide_a_sentence,
+    the_atoms_of_a_formula_are_of_its_shape,
 };
 use csp_model::{Check, Memory};
 use csp_pick::representative;
 use csp_shape::Shape;
-use csp_source::laws::each_token_has_one_source;
-use csp_table::laws::a_list_names_few_ports;
-use csp_valuation::{Taken, Valuation};
 use std::alloc::Global;
 
-// The cell of the checks of a shape of which the literals of a path are true.
-fn cell_of(alloc: Global, shape: Shape, path: &[Taken]) -> Result<Cell, Memory>
-    requires fresh { IsFresh [] (literals_of path.now) }
-    requires valid { All (IsOf shape) (literals_of path.now) }
-    ensures { IfOk result (IsCellOf shape (literals_of path.now)) }
+// A check of the branch on which no open name holds, if the first list allows it and the policy of the
+// second list refuses it.
+pub(crate) fn refute(
+    alloc: Global,
+    asked: Asked,
+    walker: &mut Walker,
+) -> Result<Option<Check>, Memory>
+    requires asked { IsAsked asked walker.old.atoms }
+    requires branch { IsBranch walker.old.atoms (asked_atoms asked.question) walker.old.literals }
+    requires room { length walker.old.atoms ≤ walker.old.room }
+    ensures found { IfOk result (λ found. IfSome found
+        (ShowsNone (lists_of asked.entry.question) (pair_of asked.entry.question))) }
+    ensures walker { OnOk result (walker.new ≡ walker.old) }
 {
-    let mut cell = Cell::new(alloc, shape);
-    for taken in path {
-        cell = cell.narrow(taken.atom, taken.positive)?;
-    }
-    Ok(cell)
+    let depth = walker.depth();
+    deny_all(asked, walker);
+    let found = if leaf_of(asked.question, walker.branch()).is_none() {
+        Some(open_check(alloc, asked, walker)?)
+    } else {
+        None
+    };
+    walker.go_back_to(depth);
+    Ok(found)
 }
 
-// A check of the branch that the path of the valuation leads to.
-fn open_check(alloc: Global, question: Question, valuation: &Valuation) -> Result<Check, Memory>
-    requires posed { IsPosed question }
-    requires branch { IsBranch question.formulas.now.atoms valuation.now.literals }
-    requires open { IsOpen (lists_of question) (pair_of question) valuation.now.literals }
-    ensures { IfOk result (ShowsNone (lists_of question.entry) (pair_of question.entry)) }
+// Denies each open name that is asked for.
+fn deny_all(asked: Asked, walker: &mut Walker)
+    requires asked { IsAsked asked walker.old.atoms }
+    requires branch { IsBranch walker.old.atoms (asked_atoms asked.question) walker.old.literals }
+    requires room { length walker.old.atoms ≤ walker.old.room }
+    ensures kept { at_root walker.new ≡ at_root walker.old }
+    ensures longer { take (length walker.old.literals) walker.new.literals ≡ walker.old.literals }
+    ensures branch { IsBranch walker.new.atoms (asked_atoms asked.entry.question) walker.new.literals }
+    ensures known { All (λ name. decided walker.new.literals (atom_in walker.new.atoms name) ≢ None)
+        asked.entry.names.now }
+{
+    for name in asked.names {
+        if walker.branch().known(*name).is_none() {
+            walker.take(*name, false);
+        }
+    }
+}
+
+// A check of a branch where nothing that is asked for is open, and no leaf may stand.
+pub(crate) fn open_check(alloc: Global, asked: Asked, walker: &Walker) -> Result<Check, Memory>
+    requires asked { IsAsked asked walker.now.atoms }
+    requires branch { IsBranch walker.now.atoms (asked_atoms asked.question) walker.now.literals }
+    requires known { All (λ name. decided walker.now.literals (atom_in walker.now.atoms name) ≢ None)
+        asked.names.now }
+    requires no_leaf { HasNoLeaf (lists_of asked.question) (pair_of asked.question) walker.now.literals }
+    ensures { IfOk result
+        (ShowsNone (lists_of asked.entry.question) (pair_of asked.entry.question)) }
 {
     a_formula_is_what_the_policy_allows();
+    an_answer_speaks_of_its_names();
+    literals_that_decide_each_atom_decide_a_sentence();
     the_atoms_of_a_formula_are_of_its_shape();
-    each_token_has_one_source();
-    a_list_names_few_ports();
-    let cell = cell_of(alloc, question.shape, valuation.path())?;
-    representative(alloc, &cell, cell.shape(), question.vocabulary)
+    let cell = cell_of(alloc, asked.question.shape, walker)?;
+    representative(alloc, &cell, cell.shape(), asked.question.vocabulary)
 }
 
-// The same, by the literals in the order of their atoms.
-pub(crate) fn check_of_branch<'a>(
-    alloc: Global,
-    question: Question<'a>,
-    valuation: &mut Valuation<'a>,
-) -> Result<Check, Memory>
-    requires posed { IsPosed question }
-    requires atoms { valuation.old.atoms ≡ question.formulas.now.atoms }
-    requires room { length valuation.old.atoms ≤ valuation.old.room }
-    requires branch { IsBranch question.formulas.now.atoms valuation.old.literals }
-    requires open { IsOpen (lists_of question) (pair_of question) valuation.old.literals }
-    ensures check { IfOk result (ShowsNone (lists_of question.entry) (pair_of question.entry)) }
-    ensures atoms { valuation.new.atoms ≡ valuation.old.atoms }
-    ensures room { valuation.new.room ≡ valuation.old.room }
+// The cell of the checks of a shape of which the literals that lead to a branch are true.
+fn cell_of(alloc: Global, shape: Shape, walker: &Walker) -> Result<Cell, Memory>
+    requires fresh { IsFresh [] walker.now.literals }
+    requires belongs { All (λ (literal : LiteralValue). BelongsTo (looks_at shape) literal.atom)
+        walker.now.literals }
+    ensures { IfOk result (IsCellOf shape walker.now.literals) }
 {
-    order_branch(alloc, question, valuation)?;
-    open_check(alloc, question, valuation)
+    let names = walker.branch().names();
+    names.are_in_order();
+    let atoms = names.atoms();
+    let mut cell = Cell::new(alloc, shape);
+    for change in walker.changes() {
+        let step = change.step;
+        cell = cell.narrow(&atoms[step.name], step.positive)?;
+    }
+    Ok(cell)
 }

@@ -1,119 +1,192 @@
 //! A look for a check on one branch, or on two.
-ghost use Rattle.std.specs.Prelude.{◌≡◌, ◌≤◌, IfOk, IfSome, IsTrue, MatchOption, length, slice_get};
-ghost use Rattle.csp_atom.specs.Vocabulary.{vocabulary_hashes};
-ghost use Rattle.csp_model.specs.Policies.{IsReadable};
-ghost use Rattle.csp_model.specs.Verdict.{is_enforce};
-ghost use Rattle.csp_model.specs.declared.policy.Policy.{Policy as PolicyValue};
+ghost use Rattle.std.specs.Prelude.{◌≡◌, ◌≤◌, [], IfOk, IfSome, OnOk, length};
+ghost use Rattle.csp_branch.specs.Walks.{at_root};
 ghost use Rattle.csp_search.specs.Answers.{ShowsNone};
-ghost use Rattle.csp_search.specs.Questions.{IsPosed, lists_of, pair_of};
-ghost use Rattle.csp_shape.specs.Shapes.{is_shape};
-ghost use Rattle.csp_table.specs.Tables.{AreAt};
+ghost use Rattle.csp_search.specs.Asking.{IsAsked};
+ghost use Rattle.csp_search.specs.Branches.{IsBranch};
+ghost use Rattle.csp_search.specs.Questions.{IsPosed, asked_atoms, lists_of, pair_of};
 
-use crate::hints::Hints;
-use crate::leaf::{Step, next_step, second_formula};
-use crate::open::check_of_branch;
+use crate::asked::{Asked, asked_names, first_answer, second_answer};
+use crate::open::refute;
 use crate::searching::Question;
+use crate::step::is_open;
+use csp_answer::{Answer, Conjunction};
 use csp_atom::Atom;
-use csp_model::{Check, Memory, Scheme};
+use csp_branch::{Branch, Walker};
+use csp_model::{Check, Memory};
 use csp_shape::Shape;
-use csp_valuation::{Taken, Valuation};
 use std::alloc::Global;
 
-/// A valid check of the shape that the first list allows and the policy doesn't, if there is one on the
-/// branch where nothing holds that the policy waits on, and then everything that the first list waits on.
-/// Elsewhere there may be one that a search finds.
+/// A valid check of the shape that the first list allows and the policy doesn't, if there is one on a branch
+/// where nothing holds that the policy asks for, and of what each policy of the first list asks for the first
+/// that can still hold. Elsewhere there may be one that a search finds.
 ///
-/// Where the formulas speak of the default port of the shape's scheme, that port holds at a first look, since
-/// a person would think of it, and doesn't hold at a second one. Integrity metadata that nothing names holds
-/// at neither.
-pub fn probe<'a>(
+/// Where the names have the default port of the shape's scheme, that port holds at a first look, since a
+/// person would think of it, and doesn't have to at a second one. The walker stands at the root before and
+/// after.
+pub fn probe(
     alloc: Global,
-    question: Question<'a>,
-    valuation: &mut Valuation<'a>,
+    question: Question,
+    walker: &mut Walker,
 ) -> Result<Option<Check>, Memory>
-    requires first { IsReadable question.first.now }
-    requires second { IsReadable question.second.now }
-    requires hashes { question.vocabulary.now.hashes
-        ≡ vocabulary_hashes question.first.now question.second.now }
-    requires listed { IsTrue (is_shape question.shape) }
-    requires formulas { AreAt question.vocabulary.now.hashes question.first.now question.second.now
-        question.shape question.formulas.now }
-    requires enforced { MatchOption (slice_get question.second.now.policies question.policy) ⊥
-        (λ (p : PolicyValue). IsTrue (is_enforce p.disposition)) }
-    requires atoms { valuation.old.atoms ≡ question.formulas.now.atoms }
-    requires room { length valuation.old.atoms ≤ valuation.old.room }
+    requires posed { IsPosed question walker.old.atoms }
+    requires root { walker.old.literals ≡ [] }
+    requires room { length walker.old.atoms ≤ walker.old.room }
     ensures found { IfOk result (λ found. IfSome found
         (ShowsNone (lists_of question.entry) (pair_of question.entry))) }
-    ensures atoms { valuation.new.atoms ≡ valuation.old.atoms }
-    ensures room { valuation.new.room ≡ valuation.old.room }
+    ensures walker { OnOk result (walker.new ≡ walker.old) }
 {
-    let port = default_port(question.shape);
-    let atoms = question.formulas.atoms.as_slice();
-    if atoms.iter().any(|atom| is_port(atom, port))
-        && let Some(check) = probe_branch(alloc, question, valuation, port)?
+    let names = asked_names(alloc, question)?;
+    let asked = Asked {
+        question,
+        names: &names,
+    };
+    let port = port_name(question.shape, walker.branch());
+    if port.is_some()
+        && let Some(check) = probe_at(alloc, asked, walker, port)?
     {
         return Ok(Some(check));
     }
-    probe_branch(alloc, question, valuation, None)
+    probe_at(alloc, asked, walker, None)
 }
 
-// The default port of the scheme of a shape's URLs.
-fn default_port(shape: Shape) -> Option<u16> {
-    match shape {
+// The name of the default port of the scheme of a shape's URLs.
+fn port_name(shape: Shape, branch: &Branch) -> Option<usize> {
+    let scheme = match shape {
         Shape::Fetch { scheme, .. }
         | Shape::Form { scheme, .. }
         | Shape::Base { scheme }
-        | Shape::Ancestor { scheme } => Some(scheme?.default_port()),
-        _ => None,
+        | Shape::Ancestor { scheme } => scheme?,
+        _ => return None,
+    };
+    let port = Atom::PortIs(scheme.default_port());
+    branch.names().find(&port)
+}
+
+// A check that one look finds, where this port holds if there is one.
+fn probe_at(
+    alloc: Global,
+    asked: Asked,
+    walker: &mut Walker,
+    port: Option<usize>,
+) -> Result<Option<Check>, Memory>
+    requires asked { IsAsked asked walker.old.atoms }
+    requires root { walker.old.literals ≡ [] }
+    requires room { length walker.old.atoms ≤ walker.old.room }
+    ensures found { IfOk result (λ found. IfSome found
+        (ShowsNone (lists_of asked.entry.question) (pair_of asked.entry.question))) }
+    ensures walker { OnOk result (walker.new ≡ walker.old) }
+{
+    if let Some(port) = port {
+        take_open(asked, walker, port, true);
+    }
+    refuse_second(asked, walker);
+    allow_firsts(asked, walker);
+    let found = refute(alloc, asked, walker)?;
+    walker.go_to_root();
+    Ok(found)
+}
+
+// Takes a literal if its name is asked for and open.
+fn take_open(asked: Asked, walker: &mut Walker, name: usize, positive: bool)
+    requires asked { IsAsked asked walker.old.atoms }
+    requires branch { IsBranch walker.old.atoms (asked_atoms asked.question) walker.old.literals }
+    requires room { length walker.old.atoms ≤ walker.old.room }
+    ensures kept { at_root walker.new ≡ at_root walker.old }
+    ensures branch { IsBranch walker.new.atoms (asked_atoms asked.entry.question) walker.new.literals }
+{
+    if is_open(asked, walker.branch(), name) {
+        walker.take(name, positive);
     }
 }
 
-// Whether an atom says that the port is this one.
-fn is_port(atom: &Atom, port: Option<u16>) -> bool {
-    matches!(atom, Atom::PortIs(number) if Some(*number) == port)
-}
-
-// The same on one branch, where this port holds.
-fn probe_branch<'a>(
-    alloc: Global,
-    question: Question<'a>,
-    valuation: &mut Valuation<'a>,
-    port: Option<u16>,
-) -> Result<Option<Check>, Memory>
-    requires posed { IsPosed question }
-    requires atoms { valuation.old.atoms ≡ question.formulas.now.atoms }
-    requires room { length valuation.old.atoms ≤ valuation.old.room }
-    ensures found { IfOk result (λ found. IfSome found
-        (ShowsNone (lists_of question.entry) (pair_of question.entry))) }
-    ensures atoms { valuation.new.atoms ≡ valuation.old.atoms }
-    ensures room { valuation.new.room ≡ valuation.old.room }
+// Has nothing hold that makes the policy of the second list allow a check.
+fn refuse_second(asked: Asked, walker: &mut Walker)
+    requires asked { IsAsked asked walker.old.atoms }
+    requires branch { IsBranch walker.old.atoms (asked_atoms asked.question) walker.old.literals }
+    requires room { length walker.old.atoms ≤ walker.old.room }
+    ensures kept { at_root walker.new ≡ at_root walker.old }
+    ensures branch { IsBranch walker.new.atoms (asked_atoms asked.entry.question) walker.new.literals }
 {
-    let atoms = question.formulas.atoms.as_slice();
-    let mut hints = Hints::new(alloc, second_formula(question), question.overview)?;
-    valuation.clear();
-    for _ in 0..=atoms.len() {
-        match next_step(question, valuation, &mut hints)? {
-            Step::Close { .. } => return Ok(None),
-            Step::Leave => return Ok(Some(check_of_branch(alloc, question, valuation)?)),
-            Step::Split { place } => {
-                let atom = &atoms[place];
-                let positive = lets_hold(&hints, valuation, atom, port);
-                hints.split(place)?;
-                valuation.take(Taken { atom, positive });
-                if !positive {
-                    hints.turn(valuation)?;
-                }
-            }
+    let Some(answer) = second_answer(asked.question) else {
+        return;
+    };
+    for conjunction in answer.conjunctions() {
+        refuse(asked, walker, *conjunction);
+    }
+    if let Some(rule) = answer.integrity() {
+        for pair in &rule.own {
+            take_open(asked, walker, *pair, false);
         }
     }
-    Ok(None)
 }
 
-// Whether an atom holds on the branch: this port always, integrity metadata that nothing names never, and
-// each other atom once the policy of the second list refuses all checks that are left.
-fn lets_hold(hints: &Hints, valuation: &Valuation, atom: &Atom, port: Option<u16>) -> bool {
-    match atom {
-        Atom::IntegrityOutside => false,
-        _ => hints.is_refused(valuation) || is_port(atom, port),
+// Denies an open name of a conjunction, unless one of its names is denied already.
+fn refuse(asked: Asked, walker: &mut Walker, conjunction: Conjunction)
+    requires asked { IsAsked asked walker.old.atoms }
+    requires branch { IsBranch walker.old.atoms (asked_atoms asked.question) walker.old.literals }
+    requires room { length walker.old.atoms ≤ walker.old.room }
+    ensures kept { at_root walker.new ≡ at_root walker.old }
+    ensures branch { IsBranch walker.new.atoms (asked_atoms asked.entry.question) walker.new.literals }
+{
+    if !may_hold(walker.branch(), conjunction) {
+        return;
     }
+    for name in names_of(conjunction).into_iter().flatten() {
+        if is_open(asked, walker.branch(), name) {
+            walker.take(name, false);
+            return;
+        }
+    }
+}
+
+// Has something hold for each policy of the first list, so that it allows a check.
+fn allow_firsts(asked: Asked, walker: &mut Walker)
+    requires asked { IsAsked asked walker.old.atoms }
+    requires branch { IsBranch walker.old.atoms (asked_atoms asked.question) walker.old.literals }
+    requires room { length walker.old.atoms ≤ walker.old.room }
+    ensures kept { at_root walker.new ≡ at_root walker.old }
+    ensures branch { IsBranch walker.new.atoms (asked_atoms asked.entry.question) walker.new.literals }
+{
+    for place in 0..asked.question.first.policies.len() {
+        if let Some(answer) = first_answer(asked.question, place) {
+            allow(asked, walker, answer);
+        }
+    }
+}
+
+// Has the first conjunction of some names hold that can, or else a pair of integrity metadata. Where the
+// policy allows everything without either, nothing has to hold.
+fn allow(asked: Asked, walker: &mut Walker, answer: &Answer)
+    requires asked { IsAsked asked walker.old.atoms }
+    requires branch { IsBranch walker.old.atoms (asked_atoms asked.question) walker.old.literals }
+    requires room { length walker.old.atoms ≤ walker.old.room }
+    ensures kept { at_root walker.new ≡ at_root walker.old }
+    ensures branch { IsBranch walker.new.atoms (asked_atoms asked.entry.question) walker.new.literals }
+{
+    let conjunctions = answer.conjunctions();
+    let can_hold = |one: &&Conjunction| one.lead.is_some() && may_hold(walker.branch(), **one);
+    if let Some(found) = conjunctions.iter().find(can_hold) {
+        for name in names_of(*found).into_iter().flatten() {
+            take_open(asked, walker, name, true);
+        }
+    } else if conjunctions.first() != Some(&Conjunction::always())
+        && let Some(rule) = answer.integrity()
+        && let Some(pair) = rule.own.first()
+    {
+        take_open(asked, walker, *pair, true);
+    }
+}
+
+// Whether no name of a conjunction is denied.
+fn may_hold(branch: &Branch, conjunction: Conjunction) -> bool {
+    let count = branch.names().atoms().len();
+    names_of(conjunction)
+        .into_iter()
+        .flatten()
+        .all(|name| name < count && branch.known(name) != Some(false))
+}
+
+fn names_of(conjunction: Conjunction) -> [Option<usize>; 3] {
+    [conjunction.lead, conjunction.path, conjunction.port]
 }

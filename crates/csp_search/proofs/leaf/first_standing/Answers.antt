@@ -1,25 +1,31 @@
-use Rattle.std.proofs.Common.{◌∙◌, ap, subst, false, Option, slice_get}
-use Rattle.csp_proof.specs.Accepts.{hashes_in}
-use Rattle.csp_valuation.specs.Standings.{value_in}
-use Rattle.csp_placed.specs.declared.placed.PlacedFormula.{PlacedFormula}
-use Rattle.csp_search.specs.Leaves.{IsDecided, IsDecidedAt, is_surely_at}
-use Rattle.csp_search.specs.Questions.{lists_of}
-use Rattle.csp_search.proofs.Saying.{decided_said, first_says, match_weaker, value_said}
+use Rattle.std.proofs.Common.{◌∙◌, ap, sym, false}
+use Rattle.csp_proof.specs.Accepts.{is_surely}
+use Rattle.csp_search.proofs.Saying.{decided_tells, first_silent, first_tells}
 use Rattle.csp_search.proofs.leaf.first_standing.Goals as goal
 
-pub returns-clause-blocked : goal.returns-clause-blocked
-returns-clause-blocked c =
-    let q = c.args.question in
-    let v = c.args.valuation.now in
-    c.standing_of_first.ensures.value ∙ ap (λ (f : Option PlacedFormula). is_surely_at v.literals v.atoms false f) c.first_formula.ensures
-    ∙ value_said (hashes_in (lists_of q)) q.shape v.literals v.atoms false q.first.now.policies q.formulas.now.first c.args.policy (first_says q v.atoms c.requires.posed c.requires.atoms)
+pub decided-requires : goal.decided-requires
+decided-requires c =
+    let b = c.args.branch.now in
+    (first_tells c.args.question b.atoms b.literals c.requires c.args.place c.in-Some.answer.now c.in-Some.ensures).named
 
-pub returns-clause-waits : goal.returns-clause-waits
-returns-clause-waits c =
-    let q = c.args.question in
-    let v = c.args.valuation.now in
-    let hashes = hashes_in (lists_of q) in
-    let policies = q.first.now.policies in
-    match_weaker _ (IsDecided hashes q.shape v.literals (slice_get policies c.args.policy)) (value_in c.standing_of_first.result)
-    (λ known. decided_said hashes q.shape v.literals v.atoms policies q.formulas.now.first c.args.policy (first_says q v.atoms c.requires.posed c.requires.atoms)
-    (subst (λ (f : Option PlacedFormula). IsDecidedAt v.literals v.atoms f) c.first_formula.ensures known)) c.standing_of_first.ensures.waits
+pub returns-in-Some-clause-blocks : goal.returns-in-Some-clause-blocks
+returns-in-Some-clause-blocks c =
+    let b = c.args.branch.now in
+    ap (is_surely false) c.decided.ensures
+    ∙ (first_tells c.args.question b.atoms b.literals c.requires c.args.place c.in-Some.answer.now c.in-Some.ensures).value false
+
+pub returns-in-Some-clause-known : goal.returns-in-Some-clause-known
+returns-in-Some-clause-known c =
+    let b = c.args.branch.now in
+    let tells = first_tells c.args.question b.atoms b.literals c.requires c.args.place c.in-Some.answer.now c.in-Some.ensures in
+    decided_tells c.decided.result _ c.decided.ensures tells.decided
+
+pub returns-in-None-clause-blocks : goal.returns-in-None-clause-blocks
+returns-in-None-clause-blocks c =
+    let b = c.args.branch.now in
+    sym ((first_silent c.args.question b.atoms b.literals c.requires c.args.place c.in-None.ensures).value false)
+
+pub returns-in-None-clause-known : goal.returns-in-None-clause-known
+returns-in-None-clause-known c =
+    let b = c.args.branch.now in
+    (first_silent c.args.question b.atoms b.literals c.requires c.args.place c.in-None.ensures).decided

@@ -1,25 +1,31 @@
-use Rattle.std.proofs.Common.{◌∙◌, ap, subst, true, Option, slice_get}
-use Rattle.csp_proof.specs.Accepts.{hashes_in}
-use Rattle.csp_valuation.specs.Standings.{value_in}
-use Rattle.csp_placed.specs.declared.placed.PlacedFormula.{PlacedFormula}
-use Rattle.csp_search.specs.Leaves.{IsDecided, IsDecidedAt, is_surely_at}
-use Rattle.csp_search.specs.Questions.{lists_of}
-use Rattle.csp_search.proofs.Saying.{decided_said, second_says, match_weaker, value_said}
+use Rattle.std.proofs.Common.{◌∙◌, ap, sym, true}
+use Rattle.csp_proof.specs.Accepts.{is_surely}
+use Rattle.csp_search.proofs.Saying.{decided_tells, second_silent, second_tells}
 use Rattle.csp_search.proofs.leaf.second_standing.Goals as goal
 
-pub returns-clause-meets : goal.returns-clause-meets
-returns-clause-meets c =
-    let q = c.args.question in
-    let v = c.args.valuation.now in
-    c.standing_of_second.ensures.value ∙ ap (λ (f : Option PlacedFormula). is_surely_at v.literals v.atoms true f) c.second_formula.ensures
-    ∙ value_said (hashes_in (lists_of q)) q.shape v.literals v.atoms true q.second.now.policies q.formulas.now.second q.policy (second_says q v.atoms c.requires.posed c.requires.atoms)
+pub decided-requires : goal.decided-requires
+decided-requires c =
+    let b = c.args.branch.now in
+    (second_tells c.args.question b.atoms b.literals c.requires c.in-Some.answer.now c.in-Some.ensures).named
 
-pub returns-clause-waits : goal.returns-clause-waits
-returns-clause-waits c =
-    let q = c.args.question in
-    let v = c.args.valuation.now in
-    let hashes = hashes_in (lists_of q) in
-    let policies = q.second.now.policies in
-    match_weaker _ (IsDecided hashes q.shape v.literals (slice_get policies q.policy)) (value_in c.standing_of_second.result)
-    (λ known. decided_said hashes q.shape v.literals v.atoms policies q.formulas.now.second q.policy (second_says q v.atoms c.requires.posed c.requires.atoms)
-    (subst (λ (f : Option PlacedFormula). IsDecidedAt v.literals v.atoms f) c.second_formula.ensures known)) c.standing_of_second.ensures.waits
+pub returns-in-Some-clause-meets : goal.returns-in-Some-clause-meets
+returns-in-Some-clause-meets c =
+    let b = c.args.branch.now in
+    ap (is_surely true) c.decided.ensures
+    ∙ (second_tells c.args.question b.atoms b.literals c.requires c.in-Some.answer.now c.in-Some.ensures).value true
+
+pub returns-in-Some-clause-known : goal.returns-in-Some-clause-known
+returns-in-Some-clause-known c =
+    let b = c.args.branch.now in
+    let tells = second_tells c.args.question b.atoms b.literals c.requires c.in-Some.answer.now c.in-Some.ensures in
+    decided_tells c.decided.result _ c.decided.ensures tells.decided
+
+pub returns-in-None-clause-meets : goal.returns-in-None-clause-meets
+returns-in-None-clause-meets c =
+    let b = c.args.branch.now in
+    sym ((second_silent c.args.question b.atoms b.literals c.requires c.in-None.ensures).value true)
+
+pub returns-in-None-clause-known : goal.returns-in-None-clause-known
+returns-in-None-clause-known c =
+    let b = c.args.branch.now in
+    (second_silent c.args.question b.atoms b.literals c.requires c.in-None.ensures).decided

@@ -1,0 +1,24 @@
+use Rattle.std.proofs.Common.{ap, sym, subst, false}
+use Rattle.csp_branch.specs.Paths.{Path}
+use Rattle.csp_branch.specs.Walks.{Position, at_root}
+use Rattle.csp_search.specs.Asking.{IsOpenName}
+use Rattle.csp_search.specs.Branches.{IsBranch}
+use Rattle.csp_search.specs.Questions.{asked_atoms}
+use Rattle.csp_search.proofs.Going.{goes_on, room_left}
+use Rattle.csp_search.proofs.probing.refuse.Goals as goal
+
+pub take-requires-clause-room : goal.take-requires-clause-room
+take-requires-clause-room c =
+    let q = c.args.asked.question in
+    let same = c.loop-name.invariant.same in
+    let branch = subst (λ (p : Position). IsBranch p.atoms (asked_atoms q) p.literals) (sym same) c.requires.branch in
+    let is_open = subst (λ (p : Path). IsOpenName q p.atoms p.literals c.in-Some.name) c.branch-walker-in-loop-name.ensures (c.is_open.ensures c.if-is_open.true) in
+    room_left q c.args.walker.now c.loop-name.walker (ap at_root same) c.in-Some.name branch is_open c.requires.room
+
+pub returns-then-is_open-clause-branch : goal.returns-then-is_open-clause-branch
+returns-then-is_open-clause-branch c =
+    let q = c.args.asked.question in
+    let same = c.loop-name.invariant.same in
+    let branch = subst (λ (p : Position). IsBranch p.atoms (asked_atoms q) p.literals) (sym same) c.requires.branch in
+    let is_open = subst (λ (p : Path). IsOpenName q p.atoms p.literals c.in-Some.name) c.branch-walker-in-loop-name.ensures (c.is_open.ensures c.if-is_open.true) in
+    (goes_on q c.args.walker.now c.loop-name.walker (ap at_root same) c.in-Some.name branch is_open false c.take.new.self c.take.ensures).1

@@ -1,0 +1,54 @@
+//! What a policy can still hold by.
+use crate::cover::Cover;
+use crate::view::View;
+use csp_answer::{Answer, Conjunction};
+use csp_model::Memory;
+use std::alloc::Global;
+
+// A conjunction that makes a policy of the first list hold, or one of the second list's policy in its place:
+// it holds wherever the first does.
+#[derive(Clone, Copy, Debug, PartialEq, Eq, PartialOrd, Ord)]
+pub(crate) struct Goal {
+    pub(crate) conjunction: Conjunction,
+    // Whether the conjunction is one of the second list's policy.
+    pub(crate) met: bool,
+}
+
+// By which conjunctions a policy can hold on the branch, each once, in ascending order.
+pub(crate) fn goals_of(
+    alloc: Global,
+    view: View,
+    answer: &Answer,
+    second: &Cover,
+) -> Result<Vec<Goal>, Memory> {
+    let mut goals = Vec::new(alloc);
+    for some in view.left_of(alloc, answer.conjunctions())? {
+        for conjunction in some {
+            add(view, *conjunction, second, &mut goals)?;
+        }
+    }
+    if let Some(rule) = answer.integrity() {
+        for pair in &rule.own {
+            add(view, Conjunction::of(*pair), second, &mut goals)?;
+        }
+    }
+    goals.sort()?;
+    goals.dedup();
+    Ok(goals)
+}
+
+fn add(
+    view: View,
+    conjunction: Conjunction,
+    second: &Cover,
+    goals: &mut Vec<Goal>,
+) -> Result<(), Memory> {
+    if view.may_hold(conjunction) {
+        let widest = second.widest(view, conjunction);
+        goals.push(Goal {
+            conjunction: widest.unwrap_or(conjunction),
+            met: widest.is_some(),
+        })?;
+    }
+    Ok(())
+}

@@ -1,4 +1,0 @@
-pub mod Growing
-pub mod Tables
-pub mod Policies
-pub mod Sharing
