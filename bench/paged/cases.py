@@ -109,7 +109,7 @@ def random_cases(count, seed):
 def example_cases():
     """Each command over the files of each example."""
     cases = []
-    for folder in sorted((TOP / "examples").iterdir()):
+    for folder in sorted(it for it in (TOP / "examples").iterdir() if it.is_dir()):
         files = {it.name: it.read_bytes() for it in folder.iterdir() if it.suffix in (".txt", ".json")}
         texts, requests = [it for it in files if it.endswith(".txt")], [it for it in files if it.endswith(".json")]
         for text in texts:
