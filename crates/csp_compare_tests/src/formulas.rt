@@ -4,9 +4,8 @@ ghost use Rattle.csp_shape.specs.Shapes.{is_shape};
 
 use crate::cells::cell_of;
 use crate::values::{literals, policies};
-use csp_answer::{NamedAnswers, answers_of};
+use csp_answer::answers_of;
 use csp_atom::{Atom, Literal, Vocabulary, holds, vocabulary_of};
-use csp_branch::Branch;
 use csp_cell::Cell;
 use csp_compare::residual;
 use csp_formula::{Formula, compile, surely};
@@ -144,38 +143,6 @@ fn what_is_left_of_a_formula(rt: HostRuntime) -> Result<(), Fail> {
             "under {known}"
         );
         assert_eq!(rt; surely(&left, &[]), value, "under {known}");
-    }
-    Ok(())
-}
-
-// What these literals, taken one after the other, decide of the answer of the first policy at a shape.
-fn decided_along(
-    alloc: Global,
-    list: &PolicyList,
-    number: u8,
-    known: &[Literal],
-) -> Result<Option<bool>, Fail> {
-    let vocabulary = vocabulary_of(alloc, list, list)?;
-    let atoms: Vec<&Atom> = known.iter().map(|literal| &literal.atom).collect(alloc)?;
-    let NamedAnswers { names, table } = answers_of(alloc, list, list, &vocabulary, &atoms)?;
-    let mut branch = Branch::new(alloc, names)?;
-    for literal in known {
-        let name = branch.names().find(&literal.atom).ok_or("no name")?;
-        branch.take(name, literal.positive);
-    }
-    let answers = table.first.get(0).ok_or("no policy")?;
-    let answer = answers.at(usize::from(number)).ok_or("no shape")?;
-    Ok(csp_answer::decided(&branch, answer))
-}
-
-#[test]
-fn what_a_branch_decides(rt: HostRuntime) -> Result<(), Fail> {
-    for &(policy, number, known, wanted) in &DECIDED {
-        let block = format!(in rt.alloc(); "Content-Security-Policy: {policy}")?;
-        let list = policies(&rt, block.as_str())?;
-        let literals = literals(rt.alloc(), known)?;
-        let found = decided_along(rt.alloc(), &list, number, literals.as_slice())?;
-        assert_eq!(rt; found, wanted, "{policy} at {number} under {known}");
     }
     Ok(())
 }
