@@ -8,7 +8,7 @@ or_false (Some true) = refl
 or_false (Some false) = refl
 or_false None = refl
 
-or_swapped : (x y : Option Bool) → maybe_or x y ≡ maybe_or y x
+pub or_swapped : (x y : Option Bool) → maybe_or x y ≡ maybe_or y x
 or_swapped (Some true) (Some true) = refl
 or_swapped (Some true) (Some false) = refl
 or_swapped (Some true) None = refl

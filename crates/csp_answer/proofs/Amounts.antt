@@ -10,25 +10,10 @@ use Rattle.csp_formula.proofs.Maybe.{maybe_or_assoc}
 use Rattle.csp_answer.specs.Answers.{AreThere, IsAmong, SaysTheSame, conjunction_in, disjunction_in}
 use Rattle.csp_answer.specs.Asking.{AmountTo}
 use Rattle.csp_answer.specs.declared.conjunction.Conjunction.{Conjunction}
+use Rattle.csp_answer.proofs.Adding.{or_false}
 use Rattle.csp_answer.proofs.Among.{among_itself, among_joined, among_same, both_among, ended_among, first_among, joined_among, known_among}
 
 -- The connectives in three values
-
-pub or_none : (x : Option Bool) → maybe_or x (Some false) ≡ x
-or_none (Some true) = refl
-or_none (Some false) = refl
-or_none None = refl
-
-pub or_turned : (x y : Option Bool) → maybe_or x y ≡ maybe_or y x
-or_turned (Some true) (Some true) = refl
-or_turned (Some true) (Some false) = refl
-or_turned (Some true) None = refl
-or_turned (Some false) (Some true) = refl
-or_turned (Some false) (Some false) = refl
-or_turned (Some false) None = refl
-or_turned None (Some true) = refl
-or_turned None (Some false) = refl
-or_turned None None = refl
 
 pub and_always : (x : Option Bool) → maybe_and x (Some true) ≡ x
 and_always (Some true) = refl
@@ -56,7 +41,7 @@ module _ (atoms : List Atom) where
   pub one : (c : Conjunction) (sentence : Sentence) → SaysTheSame (conjunction_in atoms c) sentence → IsAmong (conjunction_in atoms c) sentence → AreThere (length atoms) c
       → AmountTo atoms sentence (c ∷ [])
   one c sentence says among there = record {
-    says = λ ls. or_none (surely ls (conjunction_in atoms c)) ∙ says ls;
+    says = λ ls. or_false (surely ls (conjunction_in atoms c)) ∙ says ls;
     among = ended_among (conjunction_in atoms c) sentence false among;
     there = All-cons (AreThere (length atoms)) c [] there (All-nil (AreThere (length atoms)));
   }
@@ -91,5 +76,5 @@ module _ (atoms : List Atom) where
       → AmountTo atoms (any_of (xs ++ x ∷ [])) (cs ++ ds)
   one_more xs x cs ds of_cs of_ds =
       turned_to (Either (any_of xs) x) (any_of (xs ++ x ∷ [])) (cs ++ ds) (joined (any_of xs) x cs ds of_cs of_ds)
-      (λ ls. sym (any_joined ls xs (x ∷ []) ∙ ap (maybe_or (surely ls (any_of xs))) (or_none (surely ls x))))
+      (λ ls. sym (any_joined ls xs (x ∷ []) ∙ ap (maybe_or (surely ls (any_of xs))) (or_false (surely ls x))))
       (λ atom has. among_joined xs (x ∷ []) atom (both_among (any_of xs) x (any_of xs) (any_of (x ∷ [])) (among_itself (any_of xs)) (first_among x (Known false)) atom has))

@@ -14,7 +14,8 @@ use Rattle.csp_answer.specs.declared.answer.Answer.{Answer}
 use Rattle.csp_answer.specs.declared.answer.Integrity.{Integrity}
 use Rattle.csp_answer.specs.declared.conjunction.Conjunction.{Conjunction}
 use Rattle.csp_answer.proofs.Among.{among_itself, among_same, both_among, either_among, ended_among, first_among, last_among}
-use Rattle.csp_answer.proofs.Amounts.{joined, or_none, or_turned, turned_to}
+use Rattle.csp_answer.proofs.Adding.{or_false, or_swapped}
+use Rattle.csp_answer.proofs.Amounts.{joined, turned_to}
 
 module _ (atoms : List Atom) where
   -- an answer without the rule on integrity metadata
@@ -23,7 +24,7 @@ module _ (atoms : List Atom) where
       → (All (AreThere (length atoms)) conjunctions → IfSome {T = Integrity} None (IsIntegrityThere (length atoms)) → IsAnswer (length atoms) made)
       → Answers atoms sentence made
   plain sentence conjunctions made amount says among is = record {
-    said = λ ls. says ls ∙ or_none (surely ls (disjunction_in atoms conjunctions)) ∙ amount.says ls;
+    said = λ ls. says ls ∙ or_false (surely ls (disjunction_in atoms conjunctions)) ∙ amount.says ls;
     among = λ atom has. ended_among (disjunction_in atoms conjunctions) sentence false amount.among atom (among atom has);
     answer = is amount.there tt;
   }
@@ -34,12 +35,12 @@ module _ (atoms : List Atom) where
   together x y ones others both of_ones of_others is =
       subst (AmountTo atoms (any_of (x ∷ y ∷ []))) (sym is)
       (turned_to atoms (Either x y) (any_of (x ∷ y ∷ [])) (ones ++ others) (joined atoms x y ones others of_ones of_others)
-      (λ ls. ap (maybe_or (surely ls x)) (sym (or_none (surely ls y))))
+      (λ ls. ap (maybe_or (surely ls x)) (sym (or_false (surely ls y))))
       (both_among x y x (any_of (y ∷ [])) (among_itself x) (first_among y (Known false))))
 
   -- the rule on integrity metadata stands before the last of three
   last_but_one : (x y z : Option Bool) → maybe_or (maybe_or x y) z ≡ maybe_or x (maybe_or z (maybe_or y (Some false)))
-  last_but_one x y z = maybe_or_assoc x y z ∙ ap (maybe_or x) (or_turned y z ∙ ap (maybe_or z) (sym (or_none y)))
+  last_but_one x y z = maybe_or_assoc x y z ∙ ap (maybe_or x) (or_swapped y z ∙ ap (maybe_or z) (sym (or_false y)))
 
   among_three : (x y z : Sentence) → IsAmong (Either (Either x y) z) (any_of (x ∷ z ∷ y ∷ []))
   among_three x y z =

@@ -22,6 +22,6 @@ mod Collected
 mod Renamed
 mod SoFar
 mod SameAnswer
-mod SameQuestions
+pub mod SameQuestions
 mod AskedBefore
 mod SameKinds

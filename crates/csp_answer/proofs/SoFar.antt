@@ -93,14 +93,8 @@ module _ {X : Type 0} (P : Shape → X → Type 0) where
   pub none : SoFar [] [] 0
   none = record { count = refl; each = λ kind listed below. absurd (omega arith) }
 
--- Whether there is a shape of a number
-
 abbrev HasNumber : ℕ → Option Shape → Type 0
 HasNumber n o = MatchOption o (shape_count ≤ n) (λ s. IsTrue (is_shape s) × (number s ≡ n))
-
-pub shape_there : (n : ℕ) (o : Option Shape) → HasNumber n o → is_some o ≡ true → (s : Shape) × (IsTrue (is_shape s) × (number s ≡ n))
-shape_there n None has e = absurd (false≢true e)
-shape_there n (Some s) has e = (s, has)
 
 pub none_there : (n : ℕ) (o : Option Shape) → HasNumber n o → is_some o ≡ false → shape_count ≤ n
 none_there n None has e = has

@@ -1,8 +1,6 @@
 //! What the literals of a branch decide of an answer.
-ghost use Rattle.std.specs.Prelude.{◌≡◌, ◌⊎◌, ◌+◌, ◌<◌, ◌≤◌, ℕ, nat_le, true, All, Contains, Some, length, map};
+ghost use Rattle.std.specs.Prelude.{◌≡◌, ◌⊎◌, ◌+◌, ◌<◌, ◌≤◌, ℕ, nat_le, true, All, Some, length, map};
 ghost use Rattle.std.specs.List.{slice_index_or};
-ghost use Rattle.csp_atom.specs.Atoms.{part_of};
-ghost use Rattle.csp_branch.specs.Groups.{atom_in};
 ghost use Rattle.csp_formula.specs.Sentences.{all_of as all_sentences, any_of as any_sentence};
 ghost use Rattle.csp_formula.specs.Surely.{maybe_and, maybe_not, maybe_or, surely};
 ghost use Rattle.csp_names.specs.Numbers.{around_in};
@@ -13,21 +11,7 @@ ghost use Rattle.csp_answer.specs.declared.conjunction.Conjunction.{Conjunction 
 use crate::answer::{Answer, Integrity};
 use crate::conjunction::Conjunction;
 use csp_branch::Branch;
-use csp_model::{Algorithm, CheckPart};
 use csp_names::{Names, part_number};
-
-/// The parts of a check.
-pub const PARTS: [CheckPart; 9] = [
-    CheckPart::Host,
-    CheckPart::Path,
-    CheckPart::Port,
-    CheckPart::PlainScheme,
-    CheckPart::Nonce,
-    CheckPart::Integrity,
-    CheckPart::Digest(Algorithm::Sha256),
-    CheckPart::Digest(Algorithm::Sha384),
-    CheckPart::Digest(Algorithm::Sha512),
-];
 
 /// What the literals of a branch decide of an answer. On a part where the branch has a place it looks only at
 /// the conjunctions led by a name around the place or under it.
@@ -45,6 +29,35 @@ pub fn decided(branch: &Branch, answer: &Answer) -> Option<bool>
     }
 }
 
+/// What of an answer can make it hold.
+#[derive(Clone, Copy, Debug)]
+pub enum Ground {
+    /// The conjunction at this place among its conjunctions, counted from 0.
+    Conjunction { place: usize },
+    /// The rule on integrity metadata.
+    Integrity,
+}
+
+/// Whether the literals of a branch make this much of an answer true, and so the answer. It looks at nothing
+/// else of the answer.
+pub fn holds_by(branch: &Branch, answer: &Answer, ground: Ground) -> bool
+    requires { spec.IsAnswer (length branch.now.atoms) answer.now }
+    ensures { result ≡ true → surely branch.now.literals
+        (spec.sentence_in branch.now.atoms answer.now) ≡ Some true }
+{
+    let known = match ground {
+        Ground::Conjunction { place } => match answer.conjunctions().get(place) {
+            Some(conjunction) => all_of(branch, conjunction),
+            None => None,
+        },
+        Ground::Integrity => match answer.integrity() {
+            Some(integrity) => integrity_rule(branch, integrity),
+            None => None,
+        },
+    };
+    known == Some(true)
+}
+
 // What is decided of the disjunction.
 fn disjunction(branch: &Branch, conjunctions: &[Conjunction]) -> Option<bool>
     requires there { All (spec.AreThere (length branch.now.atoms)) conjunctions.now }
@@ -56,53 +69,42 @@ fn disjunction(branch: &Branch, conjunctions: &[Conjunction]) -> Option<bool>
     if known == Some(true) {
         return known;
     }
-    or(known, led_on(branch, conjunctions, &PARTS))
+    or(known, led_from(branch, conjunctions, 0))
 }
 
-// What is found of the conjunctions led by names on these parts. Those on parts with a place are looked at
-// first, since one that is true is found soonest there.
-fn led_on(branch: &Branch, conjunctions: &[Conjunction], parts: &[CheckPart]) -> Option<bool>
+// What is found of the conjunctions led by this name or a later one, one part after another. Those on parts
+// with a place are looked at first, since one that is true is found soonest there.
+fn led_from(branch: &Branch, conjunctions: &[Conjunction], from: usize) -> Option<bool>
     requires there { All (spec.AreThere (length branch.now.atoms)) conjunctions.now }
     requires rise { spec.Rise conjunctions.now }
-    ensures { Finds branch.now conjunctions.now
-        (λ name. Contains parts.now (part_of (atom_in branch.now.atoms name))) result }
+    ensures { Finds branch.now conjunctions.now (λ name. from ≤ name) result }
 {
-    let Some((part, others)) = parts.split_first() else {
+    let Some(first) = conjunctions.get(led_below(conjunctions, from)) else {
         return Some(false);
     };
-    match branch.place(*part) {
+    let Some(lead) = first.lead else {
+        unreachable!()
+    };
+    let names = branch.names();
+    names.are_in_order();
+    let part = names.atoms()[lead].part();
+    let end = names.start(part_number(part) + 1);
+    match branch.place(part) {
         Some(place) => {
             let known = led_about(branch, conjunctions, place);
             if known == Some(true) {
                 return known;
             }
-            or(known, led_on(branch, conjunctions, others))
+            or(known, led_from(branch, conjunctions, end))
         }
         None => {
-            let known = led_on(branch, conjunctions, others);
+            let known = led_from(branch, conjunctions, end);
             if known == Some(true) {
                 return known;
             }
-            or(known, led_on_part(branch, conjunctions, *part))
+            or(known, led_by(branch, conjunctions, lead, end))
         }
     }
-}
-
-// What is found of the conjunctions led by a name on this part.
-fn led_on_part(branch: &Branch, conjunctions: &[Conjunction], part: CheckPart) -> Option<bool>
-    requires there { All (spec.AreThere (length branch.now.atoms)) conjunctions.now }
-    requires rise { spec.Rise conjunctions.now }
-    ensures { Finds branch.now conjunctions.now
-        (λ name. part_of (atom_in branch.now.atoms name) ≡ part) result }
-{
-    let names = branch.names();
-    let number = part_number(part);
-    led_by(
-        branch,
-        conjunctions,
-        names.start(number),
-        names.start(number + 1),
-    )
 }
 
 // What is found of the conjunctions led by a name around this place or under it.
@@ -213,13 +215,15 @@ fn all_of(branch: &Branch, conjunction: &Conjunction) -> Option<bool>
     requires { spec.AreThere (length branch.now.atoms) conjunction.now }
     ensures { result ≡ surely branch.now.literals (spec.conjunction_in branch.now.atoms conjunction.now) }
 {
-    let lead = known_or_true(branch, conjunction.lead);
-    if lead == Some(false) {
-        return lead;
-    }
     let port = known_or_true(branch, conjunction.port);
+    if port == Some(false) {
+        return port;
+    }
     let path = known_or_true(branch, conjunction.path);
-    and(lead, and(port, path))
+    if path == Some(false) {
+        return path;
+    }
+    and(known_or_true(branch, conjunction.lead), and(port, path))
 }
 
 // What is decided of the atom of a name. Where no name is asked for nothing has to hold.

@@ -43,7 +43,8 @@ impl Model for Walker {
 }
 
 impl Walker {
-    /// A walker at a root, for trees by these names in which no path has more literals than there is room for.
+    /// A walker at a root, for trees by these names in which no path has more literals than there is room
+    /// for.
     pub fn new(alloc: Global, names: Names, room: usize) -> Result<Walker, Memory>
         ensures { IfOk result (λ made. made ≡ record { atoms = names; literals = []; room = room }) }
     {

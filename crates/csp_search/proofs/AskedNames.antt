@@ -21,8 +21,9 @@ use Rattle.csp_answer.specs.Answers.{IsAnswer, names_of, sentence_in}
 use Rattle.csp_answer.specs.Tables.{AreAnswers, answer_of}
 use Rattle.csp_answer.specs.declared.answer.Answer.{Answer}
 use Rattle.csp_answer.specs.declared.policy.PolicyAnswers.{PolicyAnswers}
-use Rattle.csp_search.specs.Asking.{AreAsked, IsName, enforced_answer, first_answer, names_where, second_answer, where_enforced}
+use Rattle.csp_search.specs.Asking.{AreAsked, IsAsked, IsName, enforced_answer, first_answer, names_where, second_answer, where_enforced}
 use Rattle.csp_search.specs.Questions.{IsPosed, asked_atoms, atoms_of}
+use Rattle.csp_search.specs.declared.asked.Asked.{Asked}
 use Rattle.csp_search.specs.declared.searching.Question.{Question}
 use Rattle.csp_search.proofs.Saying.{found_says, has_answer}
 
@@ -154,3 +155,11 @@ are_asked speak there q atoms given sorted kept all moved is posed =
       first = λ place. among (first_answer q place) (each_among q place);
       second = among (second_answer q) (second_among q);
     }
+
+-- a question that is posed, with such names
+pub is_asked : (asked : Asked) (made : List ℕ) (atoms : List Atom) → asked.names.now ≡ made → ((xs : List Atom) → IsPosed asked.question xs → AreAsked asked.question xs made) → IsPosed asked.question atoms
+    → IsAsked asked atoms
+is_asked asked made atoms same each posed = record {
+  posed = posed;
+  names = subst (AreAsked asked.question atoms) (sym same) (each atoms posed);
+}

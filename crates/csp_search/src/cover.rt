@@ -1,6 +1,6 @@
 //! The widest conjunctions of a policy.
 use crate::view::View;
-use csp_answer::{Answer, Conjunction};
+use csp_answer::{Answer, Conjunction, Ground};
 use csp_model::{CheckPart, Memory};
 use csp_names::Names;
 use std::alloc::Global;
@@ -38,6 +38,14 @@ impl<'c> Cover<'c> {
 
     pub(crate) fn answer(&self) -> &'c Answer {
         self.answer
+    }
+
+    // What the policy holds by where this does, one of its conjunctions or a pair of integrity metadata.
+    pub(crate) fn ground(&self, conjunction: Conjunction) -> Ground {
+        match self.answer.conjunctions().binary_search(&conjunction) {
+            Ok(place) => Ground::Conjunction { place },
+            Err(_) => Ground::Integrity,
+        }
     }
 
     // The widest of the conjunctions that hold on the branch wherever this one does.

@@ -37,6 +37,18 @@ pub(crate) fn goals_of(
     Ok(goals)
 }
 
+// Whether a policy can hold on the branch.
+pub(crate) fn can_hold(alloc: Global, view: View, answer: &Answer) -> Result<bool, Memory> {
+    let left = view.left_of(alloc, answer.conjunctions())?;
+    let mut conjunctions = left.iter().copied().flatten();
+    if conjunctions.any(|one| view.may_hold(*one)) {
+        return Ok(true);
+    }
+    let pairs = answer.integrity().map(|rule| rule.own.as_slice());
+    let mut pairs = pairs.into_iter().flatten();
+    Ok(pairs.any(|pair| view.may_hold(Conjunction::of(*pair))))
+}
+
 fn add(
     view: View,
     conjunction: Conjunction,

@@ -1,9 +1,22 @@
 //! The part of a check that a branch is split on.
 use crate::goals::Goal;
 use crate::view::{View, names_in};
-use csp_answer::{Answer, PARTS};
-use csp_model::{CheckPart, Memory};
+use csp_answer::Answer;
+use csp_model::{Algorithm, CheckPart, Memory};
 use std::alloc::Global;
+
+// The parts of a check.
+const PARTS: [CheckPart; 9] = [
+    CheckPart::Host,
+    CheckPart::Path,
+    CheckPart::Port,
+    CheckPart::PlainScheme,
+    CheckPart::Nonce,
+    CheckPart::Integrity,
+    CheckPart::Digest(Algorithm::Sha256),
+    CheckPart::Digest(Algorithm::Sha384),
+    CheckPart::Digest(Algorithm::Sha512),
+];
 
 // The part whose splits leave the fewest goals in sum, if a goal has an open name.
 pub(crate) fn part_for(

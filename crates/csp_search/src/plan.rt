@@ -4,10 +4,12 @@ ghost use Rattle.csp_search.specs.Questions.{IsPosed};
 
 use crate::asked::{first_answer, second_answer};
 use crate::cover::Cover;
-use crate::goals::{Goal, goals_of};
+use crate::goals::{Goal, can_hold, goals_of};
+use crate::leaf::is_met;
 use crate::parts::part_for;
 use crate::searching::Question;
 use crate::view::View;
+use csp_answer::Ground;
 use csp_branch::Branch;
 use csp_model::{CheckPart, Memory};
 use std::alloc::Global;
@@ -18,8 +20,8 @@ const MOST_TASKS: usize = 1000;
 // What a plan wishes for next.
 #[derive(Clone, Copy, Debug)]
 pub(crate) enum Wish {
-    // To end the branch by the policy of the second list.
-    Met,
+    // To end the branch by the policy of the second list, where this is known by this of its answer.
+    Met { ground: Option<Ground> },
     // To end it by this policy of the first list.
     Block { policy: u32 },
     // To split it by this name.
@@ -159,38 +161,42 @@ impl<'p> Plan<'p> {
     fn solve(&mut self, view: View, firsts: Vec<usize>) -> Result<Done, Memory>
         requires { IsPosed view.question view.branch.now.atoms }
     {
-        if view.second() == Some(true) {
-            return Ok((Some(Wish::Met), None));
+        if is_met(view.question, view.branch) {
+            return Ok((Some(Wish::Met { ground: None }), None));
         }
-        let mut others = Vec::new(self.alloc);
-        for first in firsts {
-            match standing(view, first) {
-                Some(true) => {}
-                Some(false) => return Ok((Some(block(first)), None)),
-                None => others.push(first)?,
-            }
+        if let Some(first) = refusing(self.alloc, view, &firsts)? {
+            return Ok((Some(block(first)), None));
         }
-        match self.guide_among(view, others)? {
+        match self.guide_among(view, firsts)? {
             Some(following) => Ok((None, Some(Task::Follow(following)))),
             None => Ok((Some(Wish::Refute), None)),
         }
     }
 
-    // The policy that is followed, if there is one.
-    fn guide_among(&self, view: View, mut others: Vec<usize>) -> Result<Option<Following>, Memory> {
+    // The policy that is followed, if there is one among these that doesn't hold yet. One that answers as the
+    // second list's policy does is met by all that it can hold by.
+    fn guide_among(&self, view: View, mut firsts: Vec<usize>) -> Result<Option<Following>, Memory> {
         let Some(cover) = &self.cover else {
             return Ok(None);
         };
+        let answers_alike = |first: &usize| first_answer(view.question, *first)
+            == Some(cover.answer());
+        if let Some(place) = firsts.iter().position(answers_alike) {
+            firsts.swap(0, place);
+        }
         let mut best: Option<((usize, usize), usize, Vec<Goal>)> = None;
-        for other in &others {
-            let Some(answer) = first_answer(view.question, *other) else {
+        for first in &firsts {
+            let Some(answer) = first_answer(view.question, *first) else {
                 continue;
             };
             let goals = goals_of(self.alloc, view, answer, cover)?;
+            if goals.iter().any(|goal| view.all_hold(goal.conjunction)) {
+                continue;
+            }
             let unmet = goals.iter().filter(|goal| !goal.met).count();
             let score = (unmet, goals.len());
             if best.as_ref().is_none_or(|least| score < least.0) {
-                best = Some((score, *other, goals));
+                best = Some((score, *first, goals));
             }
             if unmet == 0 {
                 break;
@@ -199,30 +205,33 @@ impl<'p> Plan<'p> {
         let Some((_, guide, goals)) = best else {
             return Ok(None);
         };
-        others.retain(|other| *other != guide);
+        firsts.retain(|first| *first != guide);
         Ok(Some(Following {
             guide,
             goals,
-            others,
+            others: firsts,
         }))
     }
 
     // Ends the branch where a goal holds or none is left, or else splits it on the part that leaves the
     // fewest goals.
     fn follow(&mut self, view: View, following: Following) -> Result<Done, Memory> {
+        let Some(cover) = &self.cover else {
+            return Ok((None, None));
+        };
         let goals = following.goals.iter();
         let holding = goals.filter(|goal| view.all_hold(goal.conjunction));
-        match holding.map(|goal| goal.met).max() {
-            Some(true) => return Ok((Some(Wish::Met), None)),
-            Some(false) => {
+        match holding.max_by_key(|goal| goal.met) {
+            Some(goal) if goal.met => {
+                let ground = Some(cover.ground(goal.conjunction));
+                return Ok((Some(Wish::Met { ground }), None));
+            }
+            Some(_) => {
                 let firsts = following.others;
                 return Ok((None, Some(Task::Solve { firsts })));
             }
             None => {}
         }
-        let Some(cover) = &self.cover else {
-            return Ok((None, None));
-        };
         let Some(part) = part_for(self.alloc, view, &following.goals, cover.answer())? else {
             return Ok((Some(block(following.guide)), None));
         };
@@ -251,9 +260,7 @@ impl<'p> Plan<'p> {
     }
 
     // Goes on where the name holds: with the goals at the names around it, or with one of them that holds.
-    fn enter(&mut self, view: View, name: usize) -> Result<Done, Memory>
-        requires { IsPosed view.question view.branch.now.atoms }
-    {
+    fn enter(&mut self, view: View, name: usize) -> Result<Done, Memory> {
         let Some(frame) = self.frames.last() else {
             return Ok((None, None));
         };
@@ -267,11 +274,8 @@ impl<'p> Plan<'p> {
         let goals = goals_inside(self.alloc, view, frame, name)?;
         let is_decided = goals.is_empty()
             || goals.iter().any(|goal| view.all_hold(goal.conjunction));
-        if !is_decided {
-            let refuses = |other: &&usize| standing(view, **other) == Some(false);
-            if let Some(other) = frame.rest.others.iter().find(refuses) {
-                return Ok((Some(block(*other)), None));
-            }
+        if !is_decided && let Some(other) = refusing(self.alloc, view, &frame.rest.others)? {
+            return Ok((Some(block(other)), None));
         }
         let following = Following {
             guide: frame.rest.guide,
@@ -282,16 +286,16 @@ impl<'p> Plan<'p> {
     }
 }
 
-// What is decided of a policy of the first list. One pair of integrity metadata that it accepts is taken for
-// enough.
-fn standing(view: View, first: usize) -> Option<bool>
-    requires { IsPosed view.question view.branch.now.atoms }
-{
-    let rule = first_answer(view.question, first).and_then(|answer| answer.integrity());
-    match (view.pair, rule) {
-        (Some(pair), Some(rule)) if rule.own.contains(&pair) => Some(true),
-        _ => view.first(first),
+// One of these policies of the first list that can't hold any more.
+fn refusing(alloc: Global, view: View, firsts: &[usize]) -> Result<Option<usize>, Memory> {
+    for first in firsts {
+        if let Some(answer) = first_answer(view.question, *first)
+            && !can_hold(alloc, view, answer)?
+        {
+            return Ok(Some(*first));
+        }
     }
+    Ok(None)
 }
 
 // The wish that a policy of the first list ends the branch.

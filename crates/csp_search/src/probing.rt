@@ -10,6 +10,7 @@ use crate::asked::{Asked, asked_names, first_answer, second_answer};
 use crate::open::refute;
 use crate::searching::Question;
 use crate::step::is_open;
+use crate::view::{View, names_in};
 use csp_answer::{Answer, Conjunction};
 use csp_atom::Atom;
 use csp_branch::{Branch, Walker};
@@ -87,6 +88,15 @@ fn probe_at(
     Ok(found)
 }
 
+// What the branch tells, where no pair of integrity metadata is said to hold.
+fn view_of<'v>(asked: Asked<'v>, walker: &'v Walker) -> View<'v> {
+    View {
+        question: asked.question,
+        branch: walker.branch(),
+        pair: None,
+    }
+}
+
 // Takes a literal if its name is asked for and open.
 fn take_open(asked: Asked, walker: &mut Walker, name: usize, positive: bool)
     requires asked { IsAsked asked walker.old.atoms }
@@ -129,10 +139,10 @@ fn refuse(asked: Asked, walker: &mut Walker, conjunction: Conjunction)
     ensures kept { at_root walker.new ≡ at_root walker.old }
     ensures branch { IsBranch walker.new.atoms (asked_atoms asked.entry.question) walker.new.literals }
 {
-    if !may_hold(walker.branch(), conjunction) {
+    if !view_of(asked, walker).may_hold(conjunction) {
         return;
     }
-    for name in names_of(conjunction).into_iter().flatten() {
+    for name in names_in(conjunction).into_iter().flatten() {
         if is_open(asked, walker.branch(), name) {
             walker.take(name, false);
             return;
@@ -165,9 +175,10 @@ fn allow(asked: Asked, walker: &mut Walker, answer: &Answer)
     ensures branch { IsBranch walker.new.atoms (asked_atoms asked.entry.question) walker.new.literals }
 {
     let conjunctions = answer.conjunctions();
-    let can_hold = |one: &&Conjunction| one.lead.is_some() && may_hold(walker.branch(), **one);
+    let view = view_of(asked, walker);
+    let can_hold = |one: &&Conjunction| one.lead.is_some() && view.may_hold(**one);
     if let Some(found) = conjunctions.iter().find(can_hold) {
-        for name in names_of(*found).into_iter().flatten() {
+        for name in names_in(*found).into_iter().flatten() {
             take_open(asked, walker, name, true);
         }
     } else if conjunctions.first() != Some(&Conjunction::always())
@@ -176,17 +187,4 @@ fn allow(asked: Asked, walker: &mut Walker, answer: &Answer)
     {
         take_open(asked, walker, *pair, true);
     }
-}
-
-// Whether no name of a conjunction is denied.
-fn may_hold(branch: &Branch, conjunction: Conjunction) -> bool {
-    let count = branch.names().atoms().len();
-    names_of(conjunction)
-        .into_iter()
-        .flatten()
-        .all(|name| name < count && branch.known(name) != Some(false))
-}
-
-fn names_of(conjunction: Conjunction) -> [Option<usize>; 3] {
-    [conjunction.lead, conjunction.path, conjunction.port]
 }

@@ -8,7 +8,7 @@ ghost use Rattle.csp_search.specs.Leaves as spec;
 ghost use Rattle.csp_search.specs.Questions.{asked_atoms};
 
 use crate::asked::Asked;
-use crate::leaf::{is_blocked, is_met, leaf_of};
+use crate::leaf::{is_blocked, is_met_by, leaf_of};
 use crate::open::{open_check, refute};
 use crate::plan::{Plan, Wish};
 use csp_branch::{Branch, Walker};
@@ -69,7 +69,7 @@ fn granted(
         Wish::Split { name } if is_open(asked, walker.branch(), name) => {
             Ok(Some(Step::Split { name }))
         }
-        Wish::Met if is_met(asked.question, walker.branch()) => {
+        Wish::Met { ground } if is_met_by(asked.question, walker.branch(), ground) => {
             Ok(Some(Step::Close { leaf: Node::Met }))
         }
         Wish::Block { policy } if is_blocked(asked.question, walker.branch(), policy as usize) => {

@@ -1,10 +1,8 @@
 //! What a branch tells a plan.
 ghost use Rattle.std.specs.Prelude.{◌<◌, IfSome};
-ghost use Rattle.csp_search.specs.Questions.{IsPosed};
 
-use crate::leaf::{first_standing, second_standing};
 use crate::searching::Question;
-use csp_answer::{Conjunction, PARTS};
+use csp_answer::Conjunction;
 use csp_branch::Branch;
 use csp_model::{CheckPart, Memory};
 use csp_names::part_number;
@@ -20,20 +18,6 @@ pub(crate) struct View<'v> {
 }
 
 impl<'v> View<'v> {
-    // What is decided of the policy of the second list.
-    pub(crate) fn second(self) -> Option<bool>
-        requires { IsPosed self.question self.branch.now.atoms }
-    {
-        second_standing(self.question, self.branch)
-    }
-
-    // What is decided of a policy of the first list.
-    pub(crate) fn first(self, place: usize) -> Option<bool>
-        requires { IsPosed self.question self.branch.now.atoms }
-    {
-        first_standing(self.question, self.branch, place)
-    }
-
     pub(crate) fn part(self, name: usize) -> Option<CheckPart> {
         Some(self.branch.names().atoms().get(name)?.part())
     }
@@ -81,7 +65,10 @@ impl<'v> View<'v> {
         names_in(conjunction)
             .into_iter()
             .flatten()
-            .all(|name| self.holds(name) || self.is_open(name))
+            .all(|name| match (self.part(name), self.pair) {
+                (Some(CheckPart::Integrity), Some(pair)) => pair == name,
+                _ => self.known(name) != Some(false),
+            })
     }
 
     // The innermost of the names around a name, but for itself.
@@ -122,43 +109,49 @@ impl<'v> View<'v> {
         conjunctions: &'c [Conjunction],
     ) -> Result<Vec<&'c [Conjunction]>, Memory> {
         let names = self.branch.names();
-        let mut left = vec![in alloc; led_from(conjunctions, None, Some(0))]?;
-        for part in PARTS {
+        let (unled, mut rest) = parted(conjunctions, Some(0));
+        let mut left = vec![in alloc; unled]?;
+        while let Some(part) = rest.first().and_then(|first| self.part(first.lead?)) {
+            let (on_part, others) = parted(rest, Some(names.start(part_number(part) + 1)));
             match self.place(part) {
-                Some(place) => {
-                    let end = self.end(place);
-                    left.push(led_from(conjunctions, Some(place), Some(end)))?;
-                    let mut next = self.outer(place);
-                    while let Some(name) = next {
-                        left.push(led_by(conjunctions, name))?;
-                        next = self.outer(name);
-                    }
-                }
-                None => {
-                    let number = part_number(part);
-                    let (from, to) = (names.start(number), names.start(number + 1));
-                    left.push(led_from(conjunctions, Some(from), Some(to)))?;
-                }
+                Some(place) => self.add_about(place, on_part, &mut left)?,
+                None => left.push(on_part)?,
             }
+            // It never does, since they are sorted.
+            if others.len() >= rest.len() {
+                break;
+            }
+            rest = others;
         }
         Ok(left)
+    }
+
+    // Adds those led by a name around a place or under it.
+    fn add_about<'c>(
+        self,
+        place: usize,
+        conjunctions: &'c [Conjunction],
+        left: &mut Vec<&'c [Conjunction]>,
+    ) -> Result<(), Memory> {
+        let (outside, rest) = parted(conjunctions, Some(place));
+        left.push(parted(rest, Some(self.end(place))).0)?;
+        let mut next = self.outer(place);
+        while let Some(name) = next {
+            left.push(led_by(outside, name))?;
+            next = self.outer(name);
+        }
+        Ok(())
     }
 }
 
 // The names of a conjunction.
 pub(crate) fn names_in(conjunction: Conjunction) -> [Option<usize>; 3] {
-    [conjunction.lead, conjunction.port, conjunction.path]
+    [conjunction.lead, conjunction.path, conjunction.port]
 }
 
-// The conjunctions led by a name from this one on and below that one. None is before all names.
-fn led_from(
-    conjunctions: &[Conjunction],
-    from: Option<usize>,
-    to: Option<usize>,
-) -> &[Conjunction] {
-    let start = conjunctions.partition_point(|one| one.lead < from);
-    let end = conjunctions.partition_point(|one| one.lead < to);
-    conjunctions.get(start..end).unwrap_or(&[])
+// The conjunctions led by no name or by one before this one, and the others.
+fn parted(conjunctions: &[Conjunction], name: Option<usize>) -> (&[Conjunction], &[Conjunction]) {
+    conjunctions.split_at(conjunctions.partition_point(|one| one.lead < name))
 }
 
 // Those led by this name.

@@ -11,5 +11,5 @@ returns-then-eq c =
 pub returns : goal.returns
 returns c =
     c.or.ensures
-    ∙ ap (λ o. maybe_or o c.led_on.result) c.some_of-known.ensures
-    ∙ finds_all c.args.branch.now c.args.conjunctions.now c.led_below.result c.led_below.ensures.inside c.led_below.ensures.from c.led_on.result c.led_on.ensures
+    ∙ ap (λ o. maybe_or o c.led_from.result) c.some_of-known.ensures
+    ∙ finds_all c.args.branch.now c.args.conjunctions.now c.led_below.result c.led_below.ensures.inside c.led_below.ensures.from c.led_from.result c.led_from.ensures

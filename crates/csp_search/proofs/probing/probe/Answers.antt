@@ -1,18 +1,10 @@
-use Rattle.std.proofs.Common.{◌≡◌, ◌∙◌, sym, subst, List, ℕ}
-use Rattle.csp_atom.specs.declared.atom.Atom.{Atom}
+use Rattle.std.proofs.Common.{◌∙◌, sym, subst}
 use Rattle.csp_branch.specs.Walks.{Position}
-use Rattle.csp_search.specs.Asking.{AreAsked, IsAsked}
-use Rattle.csp_search.specs.Questions.{IsPosed}
+use Rattle.csp_search.specs.Asking.{IsAsked}
 use Rattle.csp_search.specs.declared.asked.Asked.{Asked}
+use Rattle.csp_search.proofs.AskedNames.{is_asked}
 use Rattle.csp_search.proofs.probing.probe.Goals.{else-is_some-via-else-is_some, else-is_some-via-then-is_some+in_ok-check+in-None-1}
 use Rattle.csp_search.proofs.probing.probe.Goals as goal
-
-is_asked : (asked : Asked) (made : List ℕ) (atoms : List Atom) → asked.names.now ≡ made → ((xs : List Atom) → IsPosed asked.question xs → AreAsked asked.question xs made) → IsPosed asked.question atoms
-    → IsAsked asked atoms
-is_asked asked made atoms same each posed = record {
-  posed = posed;
-  names = subst (AreAsked asked.question atoms) (sym same) (each atoms posed);
-}
 
 pub probe_at-requires-clause-asked : goal.probe_at-requires-clause-asked
 probe_at-requires-clause-asked c =

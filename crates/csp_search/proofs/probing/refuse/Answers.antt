@@ -12,7 +12,7 @@ take-requires-clause-room c =
     let q = c.args.asked.question in
     let same = c.loop-name.invariant.same in
     let branch = subst (λ (p : Position). IsBranch p.atoms (asked_atoms q) p.literals) (sym same) c.requires.branch in
-    let is_open = subst (λ (p : Path). IsOpenName q p.atoms p.literals c.in-Some.name) c.branch-walker-in-loop-name.ensures (c.is_open.ensures c.if-is_open.true) in
+    let is_open = subst (λ (p : Path). IsOpenName q p.atoms p.literals c.in-Some.name) c.branch-walker.ensures (c.is_open.ensures c.if-is_open.true) in
     room_left q c.args.walker.now c.loop-name.walker (ap at_root same) c.in-Some.name branch is_open c.requires.room
 
 pub returns-then-is_open-clause-branch : goal.returns-then-is_open-clause-branch
@@ -20,5 +20,5 @@ returns-then-is_open-clause-branch c =
     let q = c.args.asked.question in
     let same = c.loop-name.invariant.same in
     let branch = subst (λ (p : Position). IsBranch p.atoms (asked_atoms q) p.literals) (sym same) c.requires.branch in
-    let is_open = subst (λ (p : Path). IsOpenName q p.atoms p.literals c.in-Some.name) c.branch-walker-in-loop-name.ensures (c.is_open.ensures c.if-is_open.true) in
+    let is_open = subst (λ (p : Path). IsOpenName q p.atoms p.literals c.in-Some.name) c.branch-walker.ensures (c.is_open.ensures c.if-is_open.true) in
     (goes_on q c.args.walker.now c.loop-name.walker (ap at_root same) c.in-Some.name branch is_open false c.take.new.self c.take.ensures).1

@@ -1,11 +1,6 @@
-use Rattle.std.proofs.Common.{sym, subst}
-use Rattle.csp_search.specs.Asking.{AreAsked}
+use Rattle.csp_search.proofs.AskedNames.{is_asked}
 use Rattle.csp_search.proofs.searching.search.Goals as goal
 
 pub find_tree-requires-clause-asked : goal.find_tree-requires-clause-asked
 find_tree-requires-clause-asked c =
-    let atoms = c.args.walker.now.atoms in
-    record {
-      posed = c.requires.posed;
-      names = subst (AreAsked c.args.question atoms) (sym c.deref.ensures.value) (c.in_ok-names.ensures atoms c.requires.posed);
-    }
+    is_asked (record { question = c.args.question; names = c.deref.result }) _ c.args.walker.now.atoms c.deref.ensures.value c.in_ok-names.ensures c.requires.posed

@@ -1,5 +1,5 @@
-use Rattle.csp_names.proofs.Forest.{steps_left}
+use Rattle.std.proofs.Common.{length}
 use Rattle.csp_search.proofs.view.View.left_of.Given as goal
 
-abbrev pub decreases-loop-next : goal.decreases-loop-next
-decreases-loop-next l = steps_left l.next
+abbrev pub decreases-loop-part : goal.decreases-loop-part
+decreases-loop-part l = length l.rest
