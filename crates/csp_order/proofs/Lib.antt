@@ -4,5 +4,4 @@ pub mod Narrowing
 pub mod PairsApart
 pub mod PairsListed
 pub mod ReasonsGiven
-pub mod SameQuestions
 pub mod WaysFound

@@ -68,7 +68,7 @@ fn is_within_at_each(one: &Policy, other: &Policy) -> bool
 }
 
 // The same at one shape.
-#[tactic(auto, using(crate::proofs::SameQuestions::same_decides))]
+#[tactic(auto, using(csp_answer::proofs::SameQuestions::same_decides))]
 fn is_within_at(one: &Policy, other: &Policy, shape: Shape) -> bool
     requires one { IsReadablePolicy one.now }
     requires other { IsReadablePolicy other.now }
