@@ -65,15 +65,6 @@ on_its_part atoms lead end name order before here (low, high) =
     let least = parts_ascend atoms order.rise lead name HostDomain low here in
     same_part (part_of (atom_in atoms name)) (part_of (atom_in atoms lead)) (omega (arith, most, least))
 
--- the names of the next part begin behind a name
-pub ends_behind : (atoms : List Atom) (lead end : ℕ) → lead < length atoms
-    → ((k : ℕ) (d : Atom) → end ≤ k → k < length atoms → number_of (atom_in atoms lead) + 1 ≤ number_of (get_or atoms k d)) → lead < end
-ends_behind atoms lead end here from = by (nat_lt lead end) refl
-  where
-    by : (t : Bool) → nat_lt lead end ≡ t → lead < end
-    by true e = grind (arith, nat_tests)
-    by false e = let more = from lead HostDomain (grind (arith, nat_tests)) here in absurd (omega (arith, more))
-
 module _ (path : Path) (cs : List Conjunction) where
   -- a look about the place of a part serves for names on it: what is apart from the place is false
   pub finds_placed : (p : CheckPart) (place lead end : ℕ) (found : Option Bool) → All (AreThere (length path.atoms)) cs → IsPlace path p place

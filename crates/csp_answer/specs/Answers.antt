@@ -30,10 +30,13 @@ abbrev pub denial_in : List Atom → ℕ → Sentence
 denial_in atoms name = Not (name_in atoms name)
 
 -- no pair but own ones, and one of these
+abbrev pub rule_in : List Atom → Integrity → List ℕ → Sentence
+rule_in atoms i own = all_of (denial_in atoms i.outside
+    ∷ (map (denial_in atoms) i.others.items ++ any_of (map (name_in atoms) own) ∷ []))
+
 abbrev pub integrity_in : List Atom → Option Integrity → Sentence
 integrity_in atoms None = Known false
-integrity_in atoms (Some i) = all_of (denial_in atoms i.outside
-    ∷ (map (denial_in atoms) i.others.items ++ any_of (map (name_in atoms) i.own.items) ∷ []))
+integrity_in atoms (Some i) = rule_in atoms i i.own.items
 
 abbrev pub answer_in : List Atom → List Conjunction → Option Integrity → Sentence
 answer_in atoms conjunctions integrity =

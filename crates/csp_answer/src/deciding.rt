@@ -5,7 +5,7 @@ ghost use Rattle.csp_formula.specs.Sentences.{all_of as all_sentences, any_of as
 ghost use Rattle.csp_formula.specs.Surely.{maybe_and, maybe_not, maybe_or, surely};
 ghost use Rattle.csp_names.specs.Numbers.{around_in};
 ghost use Rattle.csp_answer.specs.Answers as spec;
-ghost use Rattle.csp_answer.specs.Deciding.{Finds};
+ghost use Rattle.csp_answer.specs.Deciding.{Finds, ground_in};
 ghost use Rattle.csp_answer.specs.declared.conjunction.Conjunction.{Conjunction as ConjunctionValue};
 
 use crate::answer::{Answer, Integrity};
@@ -24,38 +24,42 @@ pub fn decided(branch: &Branch, answer: &Answer) -> Option<bool>
         return listed;
     }
     match answer.integrity() {
-        Some(integrity) => or(listed, integrity_rule(branch, integrity)),
+        Some(rule) => or(listed, integrity_rule(branch, rule, &rule.own)),
         None => listed,
     }
 }
 
-/// What of an answer can make it hold.
+/// What makes an answer true where it is true itself.
 #[derive(Clone, Copy, Debug)]
 pub enum Ground {
-    /// The conjunction at this place among its conjunctions, counted from 0.
+    /// The conjunction at this place among the answer's, counted from 0.
     Conjunction { place: usize },
-    /// The rule on integrity metadata.
-    Integrity,
+    /// The rule on integrity metadata, by its own pair at this place alone, counted from 0.
+    Pair { place: usize },
 }
 
-/// Whether the literals of a branch make this much of an answer true, and so the answer. It looks at nothing
-/// else of the answer.
-pub fn holds_by(branch: &Branch, answer: &Answer, ground: Ground) -> bool
+/// What the literals of a branch decide of this much of an answer: it is false where the answer doesn't have
+/// it. Nothing else of the answer is looked at.
+pub fn decided_by(branch: &Branch, answer: &Answer, ground: Ground) -> Option<bool>
     requires { spec.IsAnswer (length branch.now.atoms) answer.now }
-    ensures { result ≡ true → surely branch.now.literals
+    ensures ground { result
+        ≡ surely branch.now.literals (ground_in branch.now.atoms answer.now ground) }
+    ensures answer { result ≡ Some true → surely branch.now.literals
         (spec.sentence_in branch.now.atoms answer.now) ≡ Some true }
 {
-    let known = match ground {
+    match ground {
         Ground::Conjunction { place } => match answer.conjunctions().get(place) {
             Some(conjunction) => all_of(branch, conjunction),
-            None => None,
+            None => Some(false),
         },
-        Ground::Integrity => match answer.integrity() {
-            Some(integrity) => integrity_rule(branch, integrity),
-            None => None,
+        Ground::Pair { place } => match answer.integrity() {
+            Some(rule) => match rule.own.get(place) {
+                Some(pair) => integrity_rule(branch, rule, &[*pair]),
+                None => Some(false),
+            },
+            None => Some(false),
         },
-    };
-    known == Some(true)
+    }
 }
 
 // What is decided of the disjunction.
@@ -237,22 +241,21 @@ fn known_or_true(branch: &Branch, name: Option<usize>) -> Option<bool>
     }
 }
 
-// What is decided of the rule on integrity metadata.
-fn integrity_rule(branch: &Branch, integrity: &Integrity) -> Option<bool>
-    requires { spec.IsIntegrityThere (length branch.now.atoms) integrity.now }
-    ensures { result
-        ≡ surely branch.now.literals (spec.integrity_in branch.now.atoms (Some integrity.now)) }
+// What is decided of the rule on integrity metadata, where these are its own pairs.
+fn integrity_rule(branch: &Branch, rule: &Integrity, own: &[usize]) -> Option<bool>
+    requires rule { spec.IsIntegrityThere (length branch.now.atoms) rule.now }
+    requires own { All (λ name. name < length branch.now.atoms) own.now }
+    ensures { result ≡ surely branch.now.literals (spec.rule_in branch.now.atoms rule.now own.now) }
 {
-    let none_outside = not(branch.known(integrity.outside));
+    let none_outside = not(branch.known(rule.outside));
     if none_outside == Some(false) {
         return none_outside;
     }
-    let none_other = none_holds(branch, &integrity.others);
+    let none_other = none_holds(branch, &rule.others);
     if none_other == Some(false) {
         return none_other;
     }
-    let some_own = one_holds(branch, &integrity.own);
-    and(none_outside, and(none_other, some_own))
+    and(none_outside, and(none_other, one_holds(branch, own)))
 }
 
 // Whether the atom of none of the names holds, where that is decided.

@@ -19,6 +19,6 @@ mod words;
 
 pub use answer::{Answer, Integrity};
 pub use conjunction::Conjunction;
-pub use deciding::{Ground, decided, holds_by};
+pub use deciding::{Ground, decided, decided_by};
 pub use policy::PolicyAnswers;
 pub use table::{AnswerTable, NamedAnswers, answers_of};

@@ -1,6 +1,6 @@
 -- Words of private contracts, which stand here since contracts cite only specs/: the names that a question
 -- asks for.
-use Rattle.std.specs.Prelude.{◌≡◌, ℕ, ◌<◌, if◌then◌else◌, List, [], length, slice_get}
+use Rattle.std.specs.Prelude.{◌≡◌, ℕ, ◌<◌, ◌≤◌, if◌then◌else◌, List, [], length, slice_get}
 use Rattle.std.specs.Prelude.{Option, Some, None, All, IfSome, Contains}
 use Rattle.csp_model.specs.Verdict.{is_enforce}
 use Rattle.csp_model.specs.declared.policy.Policy.{Policy}
@@ -14,6 +14,8 @@ use Rattle.csp_answer.specs.Answers.{names_of}
 use Rattle.csp_answer.specs.Tables.{answer_of}
 use Rattle.csp_answer.specs.declared.answer.Answer.{Answer}
 use Rattle.csp_answer.specs.declared.policy.PolicyAnswers.{PolicyAnswers}
+use Rattle.csp_branch.specs.Walks.{Position}
+use Rattle.csp_search.specs.Branches.{IsBranch}
 use Rattle.csp_search.specs.Questions.{IsPosed, asked_atoms}
 use Rattle.csp_search.specs.declared.asked.Asked.{Asked}
 use Rattle.csp_search.specs.declared.searching.Question.{Question}
@@ -57,6 +59,12 @@ pub record AreAsked (q : Question) (names : List Atom) (asked : List ℕ) : Type
 pub record IsAsked (asked : Asked) (atoms : List Atom) : Type 0 where
   pub posed : IsPosed asked.question atoms
   pub names : AreAsked asked.question atoms asked.names.now
+
+-- the walker stands on a branch of the question, and has room for a literal on each open name
+pub record StandsOn (of : Asked) (at : Position) : Type 0 where
+  pub asked : IsAsked of at.atoms
+  pub branch : IsBranch at.atoms (asked_atoms of.question) at.literals
+  pub room : length at.atoms ≤ at.room
 
 -- the name is asked for, and the literals leave it open
 pub record IsOpenName (q : Question) (names : List Atom) (literals : List Literal) (name : ℕ) : Type 0 where

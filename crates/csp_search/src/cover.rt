@@ -11,6 +11,8 @@ use std::alloc::Global;
 pub(crate) struct Cover<'c> {
     answer: &'c Answer,
     hosted: Vec<Conjunction>,
+    // The own pairs of the rule on integrity metadata by name, each with its place among them.
+    pairs: Vec<(usize, usize)>,
 }
 
 impl<'c> Cover<'c> {
@@ -33,7 +35,17 @@ impl<'c> Cover<'c> {
                 hosted.push(conjunction)?;
             }
         }
-        Ok(Cover { answer, hosted })
+        let mut pairs = Vec::new(alloc);
+        if let Some(rule) = answer.integrity() {
+            let own = rule.own.iter().enumerate();
+            pairs.extend(own.map(|(place, pair)| (*pair, place)))?;
+        }
+        pairs.sort()?;
+        Ok(Cover {
+            answer,
+            hosted,
+            pairs,
+        })
     }
 
     pub(crate) fn answer(&self) -> &'c Answer {
@@ -41,11 +53,20 @@ impl<'c> Cover<'c> {
     }
 
     // What the policy holds by where this does, one of its conjunctions or a pair of integrity metadata.
-    pub(crate) fn ground(&self, conjunction: Conjunction) -> Ground {
+    pub(crate) fn ground(&self, conjunction: Conjunction) -> Option<Ground> {
         match self.answer.conjunctions().binary_search(&conjunction) {
-            Ok(place) => Ground::Conjunction { place },
-            Err(_) => Ground::Integrity,
+            Ok(place) => Some(Ground::Conjunction { place }),
+            Err(_) => {
+                let place = self.pair_place(conjunction.lead?)?;
+                Some(Ground::Pair { place })
+            }
         }
+    }
+
+    // The place of a pair of integrity metadata among the rule's own.
+    pub(crate) fn pair_place(&self, pair: usize) -> Option<usize> {
+        let found = self.pairs.binary_search_by_key(&pair, |own| own.0).ok()?;
+        Some(self.pairs.get(found)?.1)
     }
 
     // The widest of the conjunctions that hold on the branch wherever this one does.
@@ -70,8 +91,7 @@ impl<'c> Cover<'c> {
     // Whether the policy holds by this name alone: by a pair of integrity metadata, or by another word.
     fn has(&self, view: View, name: usize) -> bool {
         if view.part(name) == Some(CheckPart::Integrity) {
-            let rule = self.answer.integrity();
-            return rule.is_some_and(|rule| rule.own.contains(&name));
+            return self.pair_place(name).is_some();
         }
         let alone = Conjunction::of(name);
         self.answer.conjunctions().binary_search(&alone).is_ok()

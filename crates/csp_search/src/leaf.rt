@@ -8,7 +8,7 @@ ghost use Rattle.csp_search.specs.Questions.{IsPosed, lists_of, pair_of};
 
 use crate::asked::{first_answer, second_answer};
 use crate::searching::Question;
-use csp_answer::{Ground, decided, holds_by};
+use csp_answer::{Ground, decided, decided_by};
 use csp_branch::Branch;
 use csp_proof::Node;
 
@@ -51,14 +51,15 @@ pub(crate) fn is_met(question: Question, branch: &Branch) -> bool
     second_standing(question, branch) == Some(true)
 }
 
-// The same, by this of the policy's answer where it is told: nothing else is looked at.
+// Whether the policy of the second list is seen to allow all that is left by a look at this ground alone, or,
+// where none is told, at its whole answer.
 pub(crate) fn is_met_by(question: Question, branch: &Branch, ground: Option<Ground>) -> bool
     requires { IsPosed question branch.now.atoms }
     ensures { result ≡ true → rules.is_met
         (lists_of question.entry) (pair_of question.entry) branch.now.literals ≡ true }
 {
     match (ground, second_answer(question)) {
-        (Some(ground), Some(answer)) => holds_by(branch, answer, ground),
+        (Some(ground), Some(answer)) => decided_by(branch, answer, ground) == Some(true),
         _ => is_met(question, branch),
     }
 }

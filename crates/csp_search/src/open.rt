@@ -1,12 +1,12 @@
 //! A check of a branch that no leaf may end.
-ghost use Rattle.std.specs.Prelude.{◌≡◌, ◌≢◌, ◌≤◌, [], All, IfOk, IfSome, None, OnOk, length, take};
+ghost use Rattle.std.specs.Prelude.{◌≡◌, ◌≢◌, [], All, IfOk, IfSome, None, OnOk, length, take};
 ghost use Rattle.csp_atom.specs.Atoms.{BelongsTo};
 ghost use Rattle.csp_atom.specs.Follows.{decided};
 ghost use Rattle.csp_atom.specs.declared.atom.Literal.{Literal as LiteralValue};
 ghost use Rattle.csp_branch.specs.Groups.{atom_in};
 ghost use Rattle.csp_branch.specs.Walks.{at_root};
 ghost use Rattle.csp_search.specs.Answers.{ShowsNone};
-ghost use Rattle.csp_search.specs.Asking.{IsAsked};
+ghost use Rattle.csp_search.specs.Asking.{IsAsked, StandsOn};
 ghost use Rattle.csp_search.specs.Branches.{IsBranch, IsCellOf, IsFresh};
 ghost use Rattle.csp_search.specs.Leaves.{HasNoLeaf};
 ghost use Rattle.csp_search.specs.Questions.{asked_atoms, lists_of, pair_of};
@@ -33,9 +33,7 @@ pub(crate) fn refute(
     asked: Asked,
     walker: &mut Walker,
 ) -> Result<Option<Check>, Memory>
-    requires asked { IsAsked asked walker.old.atoms }
-    requires branch { IsBranch walker.old.atoms (asked_atoms asked.question) walker.old.literals }
-    requires room { length walker.old.atoms ≤ walker.old.room }
+    requires { StandsOn asked walker.old }
     ensures found { IfOk result (λ found. IfSome found
         (ShowsNone (lists_of asked.entry.question) (pair_of asked.entry.question))) }
     ensures walker { OnOk result (walker.new ≡ walker.old) }
@@ -53,12 +51,10 @@ pub(crate) fn refute(
 
 // Denies each open name that is asked for.
 fn deny_all(asked: Asked, walker: &mut Walker)
-    requires asked { IsAsked asked walker.old.atoms }
-    requires branch { IsBranch walker.old.atoms (asked_atoms asked.question) walker.old.literals }
-    requires room { length walker.old.atoms ≤ walker.old.room }
+    requires { StandsOn asked walker.old }
     ensures kept { at_root walker.new ≡ at_root walker.old }
     ensures longer { take (length walker.old.literals) walker.new.literals ≡ walker.old.literals }
-    ensures branch { IsBranch walker.new.atoms (asked_atoms asked.entry.question) walker.new.literals }
+    ensures stands { StandsOn asked.entry walker.new }
     ensures known { All (λ name. decided walker.new.literals (atom_in walker.new.atoms name) ≢ None)
         asked.entry.names.now }
 {

@@ -20,7 +20,7 @@ const MOST_TASKS: usize = 1000;
 // What a plan wishes for next.
 #[derive(Clone, Copy, Debug)]
 pub(crate) enum Wish {
-    // To end the branch by the policy of the second list, where this is known by this of its answer.
+    // To end the branch by the policy of the second list. Where a ground is told, that alone is looked at.
     Met { ground: Option<Ground> },
     // To end it by this policy of the first list.
     Block { policy: u32 },
@@ -223,7 +223,7 @@ impl<'p> Plan<'p> {
         let holding = goals.filter(|goal| view.all_hold(goal.conjunction));
         match holding.max_by_key(|goal| goal.met) {
             Some(goal) if goal.met => {
-                let ground = Some(cover.ground(goal.conjunction));
+                let ground = cover.ground(goal.conjunction);
                 return Ok((Some(Wish::Met { ground }), None));
             }
             Some(_) => {
@@ -357,7 +357,7 @@ fn names_on(
         && open.iter().any(|goal| goal.met)
         && let Some(rule) = cover.answer().integrity()
     {
-        names.retain(|name| rule.own.contains(name));
+        names.retain(|name| cover.pair_place(*name).is_some());
         let others = rule.others.iter().copied();
         names.extend(others.filter(|pair| view.is_open(*pair)))?;
         if view.is_open(rule.outside) {

@@ -2,9 +2,8 @@
 ghost use Rattle.std.specs.Prelude.{◌≡◌, ◌≤◌, [], IfOk, IfSome, OnOk, length};
 ghost use Rattle.csp_branch.specs.Walks.{at_root};
 ghost use Rattle.csp_search.specs.Answers.{ShowsNone};
-ghost use Rattle.csp_search.specs.Asking.{IsAsked};
-ghost use Rattle.csp_search.specs.Branches.{IsBranch};
-ghost use Rattle.csp_search.specs.Questions.{IsPosed, asked_atoms, lists_of, pair_of};
+ghost use Rattle.csp_search.specs.Asking.{IsAsked, StandsOn};
+ghost use Rattle.csp_search.specs.Questions.{IsPosed, lists_of, pair_of};
 
 use crate::asked::{Asked, asked_names, first_answer, second_answer};
 use crate::open::refute;
@@ -99,11 +98,9 @@ fn view_of<'v>(asked: Asked<'v>, walker: &'v Walker) -> View<'v> {
 
 // Takes a literal if its name is asked for and open.
 fn take_open(asked: Asked, walker: &mut Walker, name: usize, positive: bool)
-    requires asked { IsAsked asked walker.old.atoms }
-    requires branch { IsBranch walker.old.atoms (asked_atoms asked.question) walker.old.literals }
-    requires room { length walker.old.atoms ≤ walker.old.room }
+    requires { StandsOn asked walker.old }
     ensures kept { at_root walker.new ≡ at_root walker.old }
-    ensures branch { IsBranch walker.new.atoms (asked_atoms asked.entry.question) walker.new.literals }
+    ensures stands { StandsOn asked.entry walker.new }
 {
     if is_open(asked, walker.branch(), name) {
         walker.take(name, positive);
@@ -112,11 +109,9 @@ fn take_open(asked: Asked, walker: &mut Walker, name: usize, positive: bool)
 
 // Has nothing hold that makes the policy of the second list allow a check.
 fn refuse_second(asked: Asked, walker: &mut Walker)
-    requires asked { IsAsked asked walker.old.atoms }
-    requires branch { IsBranch walker.old.atoms (asked_atoms asked.question) walker.old.literals }
-    requires room { length walker.old.atoms ≤ walker.old.room }
+    requires { StandsOn asked walker.old }
     ensures kept { at_root walker.new ≡ at_root walker.old }
-    ensures branch { IsBranch walker.new.atoms (asked_atoms asked.entry.question) walker.new.literals }
+    ensures stands { StandsOn asked.entry walker.new }
 {
     let Some(answer) = second_answer(asked.question) else {
         return;
@@ -133,11 +128,9 @@ fn refuse_second(asked: Asked, walker: &mut Walker)
 
 // Denies an open name of a conjunction, unless one of its names is denied already.
 fn refuse(asked: Asked, walker: &mut Walker, conjunction: Conjunction)
-    requires asked { IsAsked asked walker.old.atoms }
-    requires branch { IsBranch walker.old.atoms (asked_atoms asked.question) walker.old.literals }
-    requires room { length walker.old.atoms ≤ walker.old.room }
+    requires { StandsOn asked walker.old }
     ensures kept { at_root walker.new ≡ at_root walker.old }
-    ensures branch { IsBranch walker.new.atoms (asked_atoms asked.entry.question) walker.new.literals }
+    ensures stands { StandsOn asked.entry walker.new }
 {
     if !view_of(asked, walker).may_hold(conjunction) {
         return;
@@ -152,11 +145,9 @@ fn refuse(asked: Asked, walker: &mut Walker, conjunction: Conjunction)
 
 // Has something hold for each policy of the first list, so that it allows a check.
 fn allow_firsts(asked: Asked, walker: &mut Walker)
-    requires asked { IsAsked asked walker.old.atoms }
-    requires branch { IsBranch walker.old.atoms (asked_atoms asked.question) walker.old.literals }
-    requires room { length walker.old.atoms ≤ walker.old.room }
+    requires { StandsOn asked walker.old }
     ensures kept { at_root walker.new ≡ at_root walker.old }
-    ensures branch { IsBranch walker.new.atoms (asked_atoms asked.entry.question) walker.new.literals }
+    ensures stands { StandsOn asked.entry walker.new }
 {
     for place in 0..asked.question.first.policies.len() {
         if let Some(answer) = first_answer(asked.question, place) {
@@ -168,11 +159,9 @@ fn allow_firsts(asked: Asked, walker: &mut Walker)
 // Has the first conjunction of some names hold that can, or else a pair of integrity metadata. Where the
 // policy allows everything without either, nothing has to hold.
 fn allow(asked: Asked, walker: &mut Walker, answer: &Answer)
-    requires asked { IsAsked asked walker.old.atoms }
-    requires branch { IsBranch walker.old.atoms (asked_atoms asked.question) walker.old.literals }
-    requires room { length walker.old.atoms ≤ walker.old.room }
+    requires { StandsOn asked walker.old }
     ensures kept { at_root walker.new ≡ at_root walker.old }
-    ensures branch { IsBranch walker.new.atoms (asked_atoms asked.entry.question) walker.new.literals }
+    ensures stands { StandsOn asked.entry walker.new }
 {
     let conjunctions = answer.conjunctions();
     let view = view_of(asked, walker);

@@ -1,8 +1,8 @@
 //! How a search goes on from a branch.
-ghost use Rattle.std.specs.Prelude.{◌≡◌, ◌≢◌, ◌≤◌, All, IfOk, IfSome, MatchOption, None, OnOk, length, true};
+ghost use Rattle.std.specs.Prelude.{◌≡◌, ◌≢◌, All, IfOk, IfSome, MatchOption, None, OnOk, true};
 ghost use Rattle.csp_atom.specs.Follows.{decided};
 ghost use Rattle.csp_branch.specs.Groups.{atom_in};
-ghost use Rattle.csp_search.specs.Asking.{IsAsked, IsOpenName};
+ghost use Rattle.csp_search.specs.Asking.{IsAsked, IsOpenName, StandsOn};
 ghost use Rattle.csp_search.specs.Branches.{IsBranch};
 ghost use Rattle.csp_search.specs.Leaves as spec;
 ghost use Rattle.csp_search.specs.Questions.{asked_atoms};
@@ -33,9 +33,7 @@ pub(crate) fn next_step(
     walker: &mut Walker,
     plan: &mut Plan,
 ) -> Result<Step, Memory>
-    requires asked { IsAsked asked walker.old.atoms }
-    requires branch { IsBranch walker.old.atoms (asked_atoms asked.question) walker.old.literals }
-    requires room { length walker.old.atoms ≤ walker.old.room }
+    requires { StandsOn asked walker.old }
     ensures step { IfOk result (spec.IsStep asked.entry.question walker.new.atoms walker.new.literals) }
     ensures walker { OnOk result (walker.new ≡ walker.old) }
 {
@@ -54,9 +52,7 @@ fn granted(
     walker: &mut Walker,
     wish: Wish,
 ) -> Result<Option<Step>, Memory>
-    requires asked { IsAsked asked walker.old.atoms }
-    requires branch { IsBranch walker.old.atoms (asked_atoms asked.question) walker.old.literals }
-    requires room { length walker.old.atoms ≤ walker.old.room }
+    requires { StandsOn asked walker.old }
     ensures step { IfOk result (λ found. IfSome found
         (spec.IsStep asked.entry.question walker.new.atoms walker.new.literals)) }
     ensures walker { OnOk result (walker.new ≡ walker.old) }

@@ -7,11 +7,11 @@ use Rattle.csp_answer.proofs.deciding.integrity_rule.Goals as goal
 pub returns-then-eq-2 : goal.returns-then-eq-2
 returns-then-eq-2 c =
     let off : c.none_holds-none_other.result ≡ Some false = search (rules, of_calls) in
-    off ∙ refuted_by c.args.branch.now c.args.integrity.now c.deref.result.now c.deref.ensures.value (sym c.none_holds-none_other.ensures ∙ off)
+    off ∙ refuted_by c.args.branch.now c.args.rule.now c.deref.result.now c.args.own.now c.deref.ensures.value (sym c.none_holds-none_other.ensures ∙ off)
 
 pub returns : goal.returns
 returns c =
     c.and-2.ensures
     ∙ ap₂ maybe_and (c.not-none_outside.ensures ∙ ap maybe_not (c.known.ensures HostDomain))
-    (c.and.ensures ∙ ap₂ maybe_and c.none_holds-none_other.ensures c.one_holds-some_own.ensures)
-    ∙ rule_by c.args.branch.now c.args.integrity.now c.deref.result.now c.deref-2.result.now c.deref.ensures.value c.deref-2.ensures.value
+    (c.and.ensures ∙ ap₂ maybe_and c.none_holds-none_other.ensures c.one_holds.ensures)
+    ∙ rule_by c.args.branch.now c.args.rule.now c.deref.result.now c.args.own.now c.deref.ensures.value

@@ -1,6 +1,6 @@
 use Rattle.std.proofs.Common.{rules, ◌≡◌, ◌∙◌, sym, None, get_or, ◌+◌, subst}
 use Rattle.csp_branch.specs.Walks.{Position}
-use Rattle.csp_search.proofs.Going.{Denies, all_known, denies_known, denies_open, known_there, open_name, room_left, some_known}
+use Rattle.csp_search.proofs.Going.{Denies, all_known, denies_known, denies_open, known_there, open_name, room_left, some_known, stands_there}
 use Rattle.csp_search.proofs.open.deny_all.Goals.{then-is_none, else-is_none}
 use Rattle.csp_search.proofs.open.deny_all.Goals as goal
 
@@ -39,3 +39,8 @@ loop-name-preserved c =
 
 pub returns-clause-known : goal.returns-clause-known
 returns-clause-known c = all_known c.args.asked.question c.args.asked.names.now c.args.walker.now c.loop-name.walker c.loop-name.name-index c.loop-name.invariant c.loop-name-test.false
+
+pub returns-clause-stands : goal.returns-clause-stands
+returns-clause-stands c =
+    let denies = c.loop-name.invariant in
+    stands_there c.args.asked c.args.walker.now c.loop-name.walker c.requires denies.kept denies.branch
