@@ -1,7 +1,8 @@
 //! Runs on files that fail, that end early, or of which a line is changed.
 use crate::runs::{CHECK, done, files, written};
-use crate::values::{FIRST, SECOND, deep, in_the_first_format, with_line};
+use crate::values::{FIRST, SECOND, deep, in_the_first_format, in_the_second_format, with_line};
 use csp_run::Status;
+use std::alloc::Global;
 use std::test::Fail;
 
 const FAULTS: [&str; 3] = [
@@ -33,7 +34,10 @@ fn each_call_of_the_inputs_fails(rt: HostRuntime) -> Result<(), Fail> {
 }
 
 // A line of the proof, another text for it, and what is answered.
-const CHANGED: [(usize, &str, Status, &str); 9] = [
+type Change = (usize, &'static str, Status, &'static str);
+
+const CHANGED: [Change; 11] = [
+    (1, "csp-proof 3", Status::BadProof, "bad proof: line 1\n"),
     (
         79,
         "split host-is A.example",
@@ -53,6 +57,7 @@ const CHANGED: [(usize, &str, Status, &str); 9] = [
         Status::Found,
         "rejected 81\n",
     ),
+    (81, "blocked 0", Status::Found, "rejected 81\n"),
     (82, "blocked 1", Status::Found, "rejected 82\n"),
     (82, "blocked 2", Status::Found, "rejected 82\n"),
     (82, "blocked 64", Status::BadProof, "bad proof: line 82\n"),
@@ -65,16 +70,36 @@ const CHANGED: [(usize, &str, Status, &str); 9] = [
     ),
 ];
 
+// The same in the second format, where a tree is that of an earlier shape.
+const CHANGED_WHERE_SHARED: [Change; 7] = [
+    (1, "csp-proof 3", Status::BadProof, "bad proof: line 1\n"),
+    (1, "csp-proof 1", Status::BadProof, "bad proof: line 5\n"),
+    (85, "same 37", Status::BadProof, "bad proof: line 85\n"),
+    (85, "same 39", Status::BadProof, "bad proof: line 85\n"),
+    (85, "same 40", Status::BadProof, "bad proof: line 85\n"),
+    (85, "same 36", Status::Found, "rejected 85\n"),
+    (85, "same 0", Status::Found, "rejected 85\n"),
+];
+
+// What is answered where one line of a proof is another.
+fn answered(alloc: Global, proof: &str, changes: &[Change]) -> Result<bool, Fail> {
+    for &(number, line, status, text) in changes {
+        let changed = with_line(alloc, proof, number, line)?;
+        let contents = [FIRST.as_bytes(), SECOND.as_bytes(), changed.as_bytes()];
+        let (found, answer) = written(alloc, &CHECK, &contents)?;
+        if found != status || answer.as_slice() != text.as_bytes() {
+            return Err(Fail::new(line));
+        }
+    }
+    Ok(true)
+}
+
 #[test]
 fn changed_lines(rt: HostRuntime) -> Result<(), Fail> {
-    let proof = in_the_first_format(rt.alloc())?;
-    for &(number, line, status, text) in &CHANGED {
-        let changed = with_line(rt.alloc(), proof.as_str(), number, line)?;
-        let contents = [FIRST.as_bytes(), SECOND.as_bytes(), changed.as_bytes()];
-        let (found, answer) = written(rt.alloc(), &CHECK, &contents)?;
-        assert_eq!(rt; found, status, "{line}");
-        assert_eq!(rt; answer.as_slice(), text.as_bytes(), "{line}");
-    }
+    let first = in_the_first_format(rt.alloc())?;
+    assert!(rt; answered(rt.alloc(), first.as_str(), &CHANGED)?);
+    let second = in_the_second_format(rt.alloc())?;
+    assert!(rt; answered(rt.alloc(), second.as_str(), &CHANGED_WHERE_SHARED)?);
     Ok(())
 }
 

@@ -1,11 +1,8 @@
-//! Tests of what an embedder requires of a response, and of what `embed` prints.
-use crate::values::{policies, proof};
-use csp_checker::Checker;
+//! Tests of what an embedder requires of a response.
+use crate::values::policies;
 use csp_embed::{allow_from, required_policy};
 use csp_model::{Host, Origin, Scheme, Text};
-use csp_output::{Built, Response, Status, embed};
 use csp_url::read_origin;
-use std::process::Abort;
 use std::test::Fail;
 
 const EMBEDDER: &str = "https://e.example";
@@ -94,122 +91,5 @@ fn lists_that_require(rt: HostRuntime) -> Result<(), Fail> {
         let list_read = policies(&rt, list)?;
         assert_eq!(rt; required_policy(list_read).is_some(), expected, "{list}");
     }
-    Ok(())
-}
-
-const REQUIRED: &str = "Content-Security-Policy: img-src https:";
-
-// What `embed` prints for the embedder, the policy that the block `REQUIRED` has, and this response.
-fn embedded(rt: &(impl Abort + AllocGlobal), response: &str) -> Result<Built, Fail> {
-    let embedder = read_origin(rt.alloc(), EMBEDDER)?;
-    let list = policies(rt, REQUIRED)?;
-    let Some(required) = required_policy(list) else {
-        return Err(Fail::new("no policy is required"));
-    };
-    let list = policies(rt, response)?;
-    let response = Response {
-        block: response.as_bytes(),
-        list: &list,
-    };
-    Ok(embed(rt.alloc(), &embedder, &required, response)?)
-}
-
-// Responses, and what is printed of them in full.
-const PRINTED: [(&str, Status, &str); 4] = [
-    (
-        "Allow-CSP-From: https://e.example:443",
-        Status::Clean,
-        "added\nimg-src https:\n",
-    ),
-    (
-        "Allow-CSP-From: *\nContent-Security-Policy: img-src *",
-        Status::Clean,
-        "added\nimg-src https:\n",
-    ),
-    (
-        "Content-Security-Policy: img-src http://b.example",
-        Status::Found,
-        "refused\n\
-         not subsumed\n\
-         {\"destination\":\"image\",\"integrity\":\"\",\"kind\":\"fetch\",\"nonce\":\"\",\"parser-inserted\":false,\"redirects\":0,\"url\":{\"host\":\"b.example\",\"path\":\"/\",\"port\":null,\"scheme\":\"http\"}}\n\
-         url http://b.example/\n\
-         second blocked 0:enforce:img-src/img-src\n",
-    ),
-    (
-        "Allow-CSP-From: *\nAllow-CSP-From: *\nContent-Security-Policy: img-src http://b.example",
-        Status::Found,
-        "refused\n\
-         not subsumed\n\
-         {\"destination\":\"image\",\"integrity\":\"\",\"kind\":\"fetch\",\"nonce\":\"\",\"parser-inserted\":false,\"redirects\":0,\"url\":{\"host\":\"b.example\",\"path\":\"/\",\"port\":null,\"scheme\":\"http\"}}\n\
-         url http://b.example/\n\
-         second blocked 0:enforce:img-src/img-src\n",
-    ),
-];
-
-#[test]
-fn responses_that_are_printed(rt: HostRuntime) -> Result<(), Fail> {
-    for &(response, status, text) in &PRINTED {
-        let built = embedded(&rt, response)?;
-        assert_eq!(rt; built.status, status, "{response}");
-        assert_eq!(rt; built.text.as_slice(), text.as_bytes(), "{response}");
-    }
-    Ok(())
-}
-
-// Responses, and how the answer on them begins.
-const BEGUN: [(&str, Status, &str); 5] = [
-    (
-        "Content-Security-Policy: img-src 'none'",
-        Status::Clean,
-        "served\ncsp-proof 2\n",
-    ),
-    (
-        "Content-Security-Policy: img-src https://a.example",
-        Status::Clean,
-        "served\ncsp-proof 2\n",
-    ),
-    (
-        "",
-        Status::Found,
-        "refused\nnot subsumed\n{\"destination\":\"image\"",
-    ),
-    (
-        "Allow-CSP-From: *\nAllow-CSP-From: *",
-        Status::Found,
-        "refused\nnot subsumed\n{\"destination\":\"image\"",
-    ),
-    (
-        "Content-Security-Policy-Report-Only: img-src 'none'",
-        Status::Found,
-        "refused\nnot subsumed\n{\"destination\":\"image\"",
-    ),
-];
-
-#[test]
-fn responses_by_their_first_lines(rt: HostRuntime) -> Result<(), Fail> {
-    for &(response, status, beginning) in &BEGUN {
-        let built = embedded(&rt, response)?;
-        assert_eq!(rt; built.status, status, "{response}");
-        assert!(rt;
-            built.text.as_slice().starts_with(beginning.as_bytes()),
-            "{response}"
-        );
-    }
-    Ok(())
-}
-
-// The proof behind `served` is accepted for the response's policies and the required one.
-#[test]
-fn a_proof_that_is_served(rt: HostRuntime) -> Result<(), Fail> {
-    let response = "Content-Security-Policy: img-src 'none'";
-    let built = embedded(&rt, response)?;
-    let text = str::from_utf8(built.text.as_slice()).unwrap_or("");
-    let Some(spelled) = text.strip_prefix("served\n") else {
-        return Err(Fail::new("nothing is served"));
-    };
-    let read = proof(&rt, spelled)?;
-    let (first, second) = (policies(&rt, response)?, policies(&rt, REQUIRED)?);
-    let mut checker = Checker::new(rt.alloc(), &first, &second, &read)?;
-    assert!(rt; checker.accepts().is_ok());
     Ok(())
 }

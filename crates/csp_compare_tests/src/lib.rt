@@ -9,8 +9,6 @@ mod broken;
 #[cfg(test)]
 mod cells;
 #[cfg(test)]
-mod checks;
-#[cfg(test)]
 mod comparing;
 #[cfg(test)]
 mod differ;
@@ -28,7 +26,5 @@ mod natural;
 mod proofs;
 #[cfg(test)]
 mod runs;
-#[cfg(test)]
-mod tidying;
 #[cfg(test)]
 mod values;

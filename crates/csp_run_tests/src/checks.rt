@@ -156,7 +156,7 @@ fn many_requests_under_many_sources(rt: HostRuntime) -> Result<(), Fail> {
     let others = format!(in rt.alloc(); ",{image}")?.repeat(rt.alloc(), 9_999)?;
     let requests = format!(in rt.alloc(); "[{image}{others}]")?;
     let words = texts(rt.alloc(), &["judge", "https://a.example", "p", "r"])?;
-    let mut files = inputs(rt.alloc(), policy.as_str(), requests.as_str(), &[])?;
+    let mut files = inputs(rt.alloc(), policy.as_str(), requests.as_str())?;
     let mut out = MemorySink::new(rt.alloc(), 1_000_000, 4096, List::new(rt.alloc()))?;
     let mut desk = Vec::new(rt.alloc());
     let status = run(rt.alloc(), &words, &mut files, &mut out, &mut desk);

@@ -10,34 +10,16 @@ mod checks;
 #[cfg(test)]
 mod descriptions;
 #[cfg(test)]
-mod embedding;
-#[cfg(test)]
-mod explaining;
-#[cfg(test)]
 mod faults;
 #[cfg(test)]
 mod inputs;
 #[cfg(test)]
-mod kinds;
-#[cfg(test)]
 mod learning;
 #[cfg(test)]
 mod limited;
-#[cfg(test)]
-mod missing;
-#[cfg(test)]
-mod ordering;
-#[cfg(test)]
-mod policies;
 #[cfg(test)]
 mod reports;
 #[cfg(test)]
 mod runs;
 #[cfg(test)]
 mod sinks;
-#[cfg(test)]
-mod tidying;
-#[cfg(test)]
-mod urls;
-#[cfg(test)]
-mod words;

@@ -1,5 +1,5 @@
 //! A program that uses the library as any other would: it reads header blocks, judges requests under one,
-//! compares two of them, and checks the proof that it gets. Then it runs the commands of the examples.
+//! compares two of them, and checks the proof that it gets. Then it does the stored runs.
 #![tactic(auto)]
 
 ghost use Rattle.std.specs.Prelude.{◌≤◌, length};
@@ -15,7 +15,7 @@ use csp_url::read_origin;
 use csp_verdict::CompiledList;
 use std::alloc::Global;
 
-mod commands;
+mod stored;
 
 // What a server sends today, and what it is to send instead.
 const OLD: &[u8] = b"content-security-policy: default-src 'self'; img-src 'self' https:\n";
@@ -38,7 +38,7 @@ fn main(rt: HostRuntime) -> anyhow::Result<()> {
     judge(&rt, alloc, &new)?;
     compare_lists(&rt, alloc, &new, &old)?;
     compare_lists(&rt, alloc, &old, &new)?;
-    commands::run_all(&rt, alloc)
+    stored::run_all(&rt, alloc)
 }
 
 // Prints which requests a list blocks, and which directives decided.

@@ -1,0 +1,204 @@
+//! Stored runs: each row of the files `data/*.runs` is a call of `run`, and what the calls write is compared with
+//! the file `stdout`, whose texts were written by hand.
+//!
+//! A row is a line `=== WORDS`, lines that say what fails and what is shown, and the files in memory, each behind a
+//! line `--- NAME`. Where a row has no such line, the files are those of `data/`. In a file `<<3 x text>>` stands for
+//! so many copies of the text. A line of the head that begins with `#` is a comment.
+
+use anyhow::Context;
+use csp_desk::{Lines, Reporter, Tally};
+use csp_io::{FileInputs, MemoryInputs, MemorySink};
+use csp_model::{Bytes, List, Memory, Text};
+use csp_run::{Status, exit_code, run};
+use std::alloc::Global;
+use std::fs;
+
+const FILES: [&str; 15] = [
+    "examples.runs",
+    "words.runs",
+    "policies.runs",
+    "urls.runs",
+    "kinds.runs",
+    "descriptions.runs",
+    "explaining.runs",
+    "reporting.runs",
+    "comparing.runs",
+    "checking.runs",
+    "embedding.runs",
+    "tidying.runs",
+    "learning.runs",
+    "ordering.runs",
+    "failing.runs",
+];
+
+// How much a read gives; a write takes one byte.
+const PIECE: usize = 64;
+
+// What of a text is shown.
+#[derive(Drop)]
+enum Shown {
+    All,
+    // So many bytes at its beginning.
+    Bytes(usize),
+    // The lines that begin with a digit.
+    Numbered,
+}
+
+// What the head of a row says.
+#[derive(Drop)]
+struct Head<'a> {
+    words: &'a str,
+    failing_read: Option<u64>,
+    failing_write: Option<u64>,
+    room: usize,
+    shown: Shown,
+}
+
+impl Head<'_> {
+    fn read(text: &str) -> anyhow::Result<Head<'_>> {
+        let mut lines = text.split('\n');
+        let mut head = Head {
+            words: lines.next().unwrap_or(""),
+            failing_read: None,
+            failing_write: None,
+            room: 2_000_000,
+            shown: Shown::All,
+        };
+        for line in lines {
+            if let Some(call) = line.strip_prefix("reads fail at ") {
+                head.failing_read = Some(call.parse()?);
+            } else if let Some(call) = line.strip_prefix("writes fail at ") {
+                head.failing_write = Some(call.parse()?);
+            } else if let Some(room) = line.strip_prefix("room for bytes: ") {
+                head.room = room.parse()?;
+            } else if let Some(count) = line.strip_prefix("shown bytes: ") {
+                head.shown = Shown::Bytes(count.parse()?);
+            } else if line == "shown lines begin with a number" {
+                head.shown = Shown::Numbered;
+            }
+        }
+        Ok(head)
+    }
+}
+
+// Does what each row says, and prints what comes of it.
+pub(crate) fn run_all(rt: &HostRuntime, alloc: Global) -> anyhow::Result<()> {
+    for name in FILES {
+        println!(rt; "{name}")?;
+        let text = fs::read_to_string(rt, name)?;
+        let rows = text.as_str().strip_suffix('\n').unwrap_or("");
+        for row in rows.split("\n=== ").skip(1) {
+            run_row(rt, alloc, row)?;
+        }
+    }
+    Ok(())
+}
+
+fn run_row(rt: &HostRuntime, alloc: Global, row: &str) -> anyhow::Result<()> {
+    let (head, files) = match row.split_once("\n--- ") {
+        Some((head, files)) => (head, Some(files)),
+        None => (row, None),
+    };
+    let head = Head::read(head)?;
+    let failing = numbers(alloc, head.failing_write)?;
+    let mut out = MemorySink::new(alloc, head.room, 1, failing)?;
+    let status = match files {
+        None => run_over_files(rt, alloc, head.words, &mut out)?,
+        Some(files) => run_in_memory(alloc, &head, files, &mut out)?,
+    };
+    println!(rt; "=== {}\nexit code {}", head.words, exit_code(status))?;
+    show(rt, str::from_utf8(out.taken())?, &head.shown)
+}
+
+fn run_over_files(
+    rt: &HostRuntime,
+    alloc: Global,
+    words: &str,
+    out: &mut MemorySink,
+) -> Result<Status, Memory> {
+    let words = texts(alloc, words)?;
+    let mut desk = desk(alloc)?;
+    let mut inputs = FileInputs::new(rt, alloc);
+    Ok(run(alloc, &words, &mut inputs, out, &mut desk))
+}
+
+fn run_in_memory(
+    alloc: Global,
+    head: &Head<'_>,
+    files: &str,
+    out: &mut MemorySink,
+) -> anyhow::Result<Status> {
+    let mut held = List::new(alloc);
+    for file in files.split("\n--- ") {
+        let (name, content) = file.split_once('\n').context("a file has no line")?;
+        let bytes = Bytes::new(alloc, spelled(alloc, content)?.as_bytes())?;
+        held.push((Text::new(alloc, name)?, bytes))?;
+    }
+    let words = texts(alloc, head.words)?;
+    let mut desk = desk(alloc)?;
+    let mut inputs = MemoryInputs::new(held, PIECE, numbers(alloc, head.failing_read)?);
+    Ok(run(alloc, &words, &mut inputs, out, &mut desk))
+}
+
+// One reporter of lines and one of counts, as the program has.
+fn desk(alloc: Global) -> Result<Vec<Box<dyn Reporter>>, Memory> {
+    let mut desk: Vec<Box<dyn Reporter>> = Vec::new(alloc);
+    desk.push(Box::new(alloc, Lines::new(alloc))?)?;
+    desk.push(Box::new(alloc, Tally::new(alloc))?)?;
+    Ok(desk)
+}
+
+fn numbers(alloc: Global, number: Option<u64>) -> Result<List<u64>, Memory> {
+    let mut made = List::new(alloc);
+    for number in number {
+        made.push(number)?;
+    }
+    Ok(made)
+}
+
+// The words of a line, with one space between two; an empty line has none.
+fn texts(alloc: Global, line: &str) -> Result<List<Text>, Memory> {
+    let mut words = List::new(alloc);
+    if !line.is_empty() {
+        for word in line.split(' ') {
+            words.push(Text::new(alloc, word)?)?;
+        }
+    }
+    Ok(words)
+}
+
+// The text with the copies that it asks for.
+fn spelled(alloc: Global, text: &str) -> anyhow::Result<String> {
+    let mut pieces = text.split("<<");
+    let mut made = String::from_str(alloc, pieces.next().unwrap_or(""))?;
+    for piece in pieces {
+        let (copies, rest) = piece.split_once(">>").context("copies have no end")?;
+        let (count, text) = copies.split_once(" x ").context("copies have no number")?;
+        made.push_str(text.repeat(alloc, count.parse()?)?.as_str())?;
+        made.push_str(rest)?;
+    }
+    Ok(made)
+}
+
+fn show(rt: &impl Print, text: &str, shown: &Shown) -> anyhow::Result<()> {
+    match shown {
+        Shown::All => show_whole(rt, text),
+        Shown::Bytes(count) => show_whole(rt, text.get(..*count).unwrap_or(text)),
+        Shown::Numbered => {
+            for line in text.split_inclusive('\n') {
+                if matches!(line.as_bytes().first(), Some(b'0'..=b'9')) {
+                    print!(rt; "{line}")?;
+                }
+            }
+            Ok(())
+        }
+    }
+}
+
+fn show_whole(rt: &impl Print, text: &str) -> anyhow::Result<()> {
+    print!(rt; "{text}")?;
+    if !text.is_empty() && !text.ends_with('\n') {
+        println!(rt; "\n(no end of line)")?;
+    }
+    Ok(())
+}
