@@ -247,12 +247,12 @@ def needs(program):
 
 
 NEEDS = {"Chromium": needs("chromium"), "Firefox": needs("firefox-esr")}
-PAGE = Path(os.environ.get("PAGE") or Path(__file__).resolve().parents[2] / "page/dist/guidecerise.html").resolve()
+PAGE = Path(os.environ.get("PAGE") or Path(__file__).resolve().parents[2] / "dist/guidecerise.html").resolve()
 
 
 def opened(kind, page=None):
     """A browser with the page, all of whose examples are answered, and how long that took."""
-    page or os.environ.get("PAGE_URL") or PAGE.exists() or sys.exit(f"bench/page: there is no {PAGE}: page/build makes it")
+    page or os.environ.get("PAGE_URL") or PAGE.exists() or sys.exit(f"bench/page: there is no {PAGE}: packaging/ship makes it")
     browser = kind()
     browser.look(1100, False)
     browser.open(page or os.environ.get("PAGE_URL") or PAGE.as_uri())

@@ -1,20 +1,13 @@
-"""Whether the file is what the sources build: each source has the checksum that stands beside the file."""
+"""Whether the page's file is what the sources build, by the checksums in dist/built-of."""
 
-import hashlib
 import subprocess
-import sys
 
 from recorded.trial import TOP, point
 
 
 def points():
-    file = TOP / "page/dist/built-of"
-    file.exists() or sys.exit("bench/page: page/dist isn't built: page/build builds it")
-    lines = file.read_text().splitlines()
-    commit, kit, sums = lines[0], lines[1], [it.split("  ", 1) for it in lines[2:]]
-    changed = [name for told, name in sums
-               if not (TOP / name).exists() or hashlib.sha256((TOP / name).read_bytes()).hexdigest() != told]
-    print(f"{commit}\n{kit}")
-    point("each source is as it was when the file was built", [], changed)
-    now = subprocess.run(["rt", "version"], capture_output=True, text=True).stdout.strip()
-    point("the kit is the one that built it", kit.removeprefix("kit "), now)
+    print((TOP / "dist/built-of").read_text().split("csp ", 1)[0], end="")
+    told = subprocess.run([TOP / "packaging/shipped"], capture_output=True, text=True).stdout.splitlines()
+    for line in told:
+        name, found = line.split(": ", 1)
+        point(name, "of these sources", found)

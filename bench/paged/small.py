@@ -27,7 +27,7 @@ console.log(JSON.stringify(seen));
 
 
 def points(module=None):
-    module or sys.exit("bench/page small MODULE: make one by MEMORY=4194304 KEEP=FOLDER page/build")
+    module or sys.exit("bench/page small MODULE: make one by MEMORY=4194304 page/build MODULE")
     with tempfile.TemporaryDirectory() as room:
         Path(room, "run.cjs").write_text(SCRIPT)
         words = ["node", f"{room}/run.cjs", str(TOP / "page/engine.js"), module]

@@ -9,7 +9,8 @@ from pathlib import Path
 
 TOP = Path(__file__).resolve().parents[2]
 TOOLS = TOP / "tools"
-PROGRAM = os.environ.get("CSP") or shutil.which("csp") or str(TOP / ".csp/csp_app")
+PROGRAM = os.environ.get("CSP") or shutil.which("csp") or subprocess.run(
+    [TOP / "csp", "--program"], stdout=subprocess.PIPE, text=True).stdout.strip()
 ORIGIN = "https://a.example"
 ENVIRONMENT = {**os.environ, "CSP": PROGRAM}
 counts = {"passed": 0, "failed": 0}
