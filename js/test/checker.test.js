@@ -80,8 +80,8 @@ test('each atom has one spelling', () => {
     'host-is \xe9', 'host-is 1.2.3', 'host-is 1.2.3.04', 'host-is 1.2.3.256', 'host-is a.1.', 'host-is a.0x',
     'host-is [::G]', 'host-under 1.2.3.4', 'host-under [::1]', 'host-domain ', 'host-domain a',
     'port-is 080', 'port-is 65536', 'path-is', 'path-is a', 'path-is /%2f', 'path-is /%41', 'path-is /!',
-    'path-is /.', 'path-under /a/..', 'scheme-is Data', 'scheme-is https', 'scheme-is ftp', 'scheme-is 1', 'nonce-is a===',
-    'nonce-is =', 'integrity-has sha1 a', 'integrity-has SHA256 a', 'integrity-outside a',
+    'path-is /.', 'path-under /a/..', 'scheme-is Data', 'scheme-is https', 'scheme-is ftp', 'scheme-is 1',
+    'nonce-is a===', 'nonce-is =', 'integrity-has sha1 a', 'integrity-has SHA256 a', 'integrity-outside a',
     `digest-is sha256 ${digit.slice(1)}`, `digest-is sha384 ${digit}`,
     `digest-is sha256 ${digit.toUpperCase()}`,
   ]) assert.deepEqual(checkProof({ ...LISTS, proof: changed(79, 1, `split ${atom}`) }), { bad: 79 }, atom);
