@@ -7,7 +7,7 @@
  * @typedef {{ enforced: boolean, directives: Directive[] }} Policy
  * @typedef {{ name: string, sources: Source[] } & Record<'words' | 'nonces' | 'hashes', string[]>} Directive
  * @typedef {{ kind: string, value: string, scheme?: string, port?: string, path?: string }} Source
- * @typedef {{ scheme: string, host: string, port: string } | null} Page its origin; null is an opaque one
+ * @typedef {{ scheme: string, host: string, port: string } | null} Page where a default port is empty
  * @typedef {{ effective: string, rule: 'url' | 'script' | 'style' | 'inline' | 'words', scheme?: string,
  *   redirected?: boolean, inserted?: boolean, element?: boolean, needs?: string[][] }} Shape
  * @typedef {boolean | string | { all: Sentence[] } | { any: Sentence[] } | { not: Sentence }} Sentence
@@ -23,6 +23,7 @@ const MOST = { bytes: 8_388_608, proof: 67_108_864, policies: 64, sources: 1024,
 /**
  * Says of a proof what `csp check ORIGIN NEW OLD PROOF` says: that it is accepted, the first line that is
  * rejected, or the first line that makes it no proof. The first line of an error is that command's message.
+ * The platform reads the origin, so that an `xn--` label that isn't Punycode makes it a bad one here.
  * @param {{ origin: string } & Record<'new' | 'old' | 'proof', string | Uint8Array>} question
  * @returns {{ accepted: true } | { rejected: number } | { bad: number }}
  */
@@ -38,7 +39,7 @@ export function checkProof(question) {
 
 // RULES.md, "URLs, hosts and origins" and "Policies and header blocks"
 
-/** @param {string} origin @returns {Page} whose port is empty where it is the default */
+/** @param {string} origin @returns {Page} null for an opaque one */
 function pageOf(origin) {
   if (origin === 'null') return null;
   try {
@@ -133,7 +134,6 @@ const spelled = (path) => path.replace(/%[0-9A-Fa-f]{2}|[^/]/g, (part) => {
   const letter = String.fromCharCode(code);
   return /[A-Za-z0-9._~-]/.test(letter) ? letter : `%${code.toString(16).toUpperCase().padStart(2, '0')}`;
 });
-
 /** @param {string} path */
 const hasDots = (path) => path.split('/').some((piece) => piece === '.' || piece === '..');
 /** @param {string} text @param {number} most */
@@ -274,8 +274,8 @@ function sentenceOf(policy, shape, page, vocabulary) {
   const { name, words, sources, nonces, hashes } = governing;
   const listed = sources.map((source) => urlSentence(source, shape, page));
   const reached = words.includes("'strict-dynamic'") ? [!shape.inserted] : listed;
-  const others = vocabulary.filter((it) => !hashes.includes(it)).map((it) => ({ not: `integrity-has ${it}` }));
-  const integrity = { all: [{ not: 'integrity-outside' }, ...others,
+  const rest = vocabulary.filter((it) => !hashes.includes(it)).map((it) => ({ not: `integrity-has ${it}` }));
+  const integrity = { all: [{ not: 'integrity-outside' }, ...rest,
     { any: hashes.map((it) => `integrity-has ${it}`) }] };
   switch (shape.effective === 'worker-src' && name === 'script-src' ? 'script' : shape.rule) {
     case 'script': return { any: [...nonces, integrity, ...reached] };
