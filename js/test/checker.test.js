@@ -132,6 +132,7 @@ test('what a policy says of a shape without atoms', () => {
     ["default-src 'none'", [144, 156, 162, 168, 176], [0, 12, 24, 48, 60, 72, 84, 96, 108, 120, 132, 175]],
     ["child-src 'none'", [0, 36, 96], [24, 120]],
     ["frame-src *; child-src 'none'", [24], [120]],
+    ["child-src *; script-src 'none'", [120], [96]],
     ["script-src 'none'", [0, 84, 171], [96, 120, 169, 170, 173, 174, 175]],
     ["script-src-elem 'none'", [120, 170, 174], [96, 108, 169, 173]],
     ["style-src 'none'", [96, 169], [84, 171, 172]],
