@@ -97,7 +97,7 @@ function directivesOf(policy, dropped) {
     const [first = '', ...tokens] = piece.split(/[\t ]+/).filter((it) => it !== '');
     const name = first.toLowerCase();
     if (name === '' || dropped.includes(name) || directives.has(name)) continue;
-    const sources = tokens.map(sourceOf);
+    const sources = tokens.map((it) => sourceOf(it.length > MOST.token ? '' : it)); // that is refused later
     const nonces = sources.filter((it) => it.kind === 'nonce').map((it) => `nonce-is ${it.value}`);
     const hashes = sources.filter((it) => it.kind.startsWith('sha')).map((it) => `${it.kind} ${it.value}`);
     directives.set(name, { name, words: tokens.map((it) => it.toLowerCase()), sources, nonces, hashes });
@@ -128,6 +128,8 @@ function sourceOf(token) {
   return { kind: 'host', value: host.toLowerCase(), ...rest };
 }
 
+/** What no path of a proof has: other characters, other escapes, and escapes of those that need none. */
+const MISSPELLED = /[^A-Za-z0-9._~%\/-]|%(?![0-9A-F]{2})|%(2[DE]|3\d|[46][1-9A-F]|5[0-9AF]|7[0-9AE])/;
 /** @param {string} path @returns {string} its one spelling in a proof */
 const spelled = (path) => path.replace(/%[0-9A-Fa-f]{2}|[^/]/g, (part) => {
   const code = part.length === 3 ? parseInt(part.slice(1), 16) : part.charCodeAt(0);
@@ -135,19 +137,17 @@ const spelled = (path) => path.replace(/%[0-9A-Fa-f]{2}|[^/]/g, (part) => {
   return /[A-Za-z0-9._~-]/.test(letter) ? letter : `%${code.toString(16).toUpperCase().padStart(2, '0')}`;
 });
 /** @param {string} path */
-const hasDots = (path) => path.split('/').some((piece) => piece === '.' || piece === '..');
+const hasDots = (path) => /\/\.\.?(\/|$)/.test(path);
 /** @param {string} text @param {number} most */
 const isNumber = (text, most) => /^(0|[1-9]\d*)$/.test(text) && Number(text) <= most;
 
 /** @param {string} host */
-function isDomain(host) {
-  const last = host.replace(/\.$/, '').split('.').at(-1) ?? '';
-  return /^[!"$&-.0-9;=_`a-z{}~]+$/.test(host) && !/^(\d+|0x[0-9a-f]*)$/.test(last);
-}
+const isDomain = (host) => /^[!"$&-.0-9;=_`a-z{}~]+$/.test(host)
+  && !/(^|\.)(\d+|0x[0-9a-f]*)\.?$/.test(host);
 
 /** @param {string} host */
 const isHost = (host) => isDomain(host) || /^\[[0-9a-f:]+\]$/.test(host)
-  || (host.split('.').length === 4 && host.split('.').every((number) => isNumber(number, 255)));
+  || (host.split('.', 5).length === 4 && host.split('.').every((number) => isNumber(number, 255)));
 
 /** @param {string} hash @returns {string[]} the atom of the digest that it stands for, if it does */
 function digestsOf(hash) {
@@ -212,7 +212,7 @@ function isAtom(atom) {
     case 'host-under': return isDomain(value);
     case 'port-is': return isNumber(value, 65535);
     case 'path-is': case 'path-under':
-      return value.startsWith('/') && spelled(value) === value && !hasDots(value);
+      return value.startsWith('/') && !MISSPELLED.test(value) && !hasDots(value);
     case 'scheme-is': return new RegExp(`^${SCHEME}$`).test(value) && !PORTS.has(value);
     case 'nonce-is': return new RegExp(`^${VALUE}$`).test(value);
     case 'integrity-has': return new RegExp(`^sha(256|384|512) ${VALUE}$`).test(value);

@@ -80,6 +80,7 @@ test('each atom has one spelling', () => {
     'host-is \xe9', 'host-is 1.2.3', 'host-is 1.2.3.04', 'host-is 1.2.3.256', 'host-is a.1.', 'host-is a.0x',
     'host-is [::G]', 'host-under 1.2.3.4', 'host-under [::1]', 'host-domain ', 'host-domain a',
     'port-is 080', 'port-is 65536', 'path-is', 'path-is a', 'path-is /%2f', 'path-is /%41', 'path-is /!',
+    'path-is /%7E', 'path-is /a/%5F', 'path-is /%', 'path-is /%2G',
     'path-is /.', 'path-under /a/..', 'scheme-is Data', 'scheme-is https', 'scheme-is ftp', 'scheme-is 1',
     'nonce-is a===', 'nonce-is =', 'integrity-has sha1 a', 'integrity-has SHA256 a', 'integrity-outside a',
     `digest-is sha256 ${digit.slice(1)}`, `digest-is sha384 ${digit}`,
@@ -293,6 +294,7 @@ test('an error has the message of the command', () => {
     [{ old: header('a,'.repeat(65)) }, 'too large: second policies'],
     [{ new: header(`a${' b'.repeat(1025)}`) }, 'too large: first sources'],
     [{ new: header(`a ${'b'.repeat(4097)}`) }, 'too large: first token'],
+    [{ new: header(`a ${'b.'.repeat(4_000_000)}`) }, 'too large: first token'],
     [{ proof: ' '.repeat(67_108_865) }, 'too large: proof bytes'],
   ]) {
     const isTold = (error) => error.message.split('\n')[0] === message;
