@@ -184,7 +184,8 @@ test('what a policy says of a shape with atoms', () => {
   wants('base-uri ftp://a.example/b', 160, ['host-is a.example', 'port-is 21', 'path-is /b']);
   wants('img-src data:', 46, ['scheme-is data']);
   wants("img-src 'Self'", 38, ['host-is a.example', 'port-is 443']);
-  wants("img-src 'self'", 42, ['host-is [::1]', 'port-is 8443'], 'http://[::1]:8443');
+  wants("img-src 'self'", 42, ['host-is [::1]', 'port-is 8443'], 'https://[::1]:8443');
+  wants("img-src 'self'", 38, ['host-is a.example', 'port-is 443'], 'http://a.example');
   wants("img-src 'self'", 36, ['host-is a.example', 'port-is 80'], 'http://a.example/');
   wants("style-src 'nonce-a'", 84, ['nonce-is a']);
   wants("style-src 'Nonce-aB='", 171, ['nonce-is aB=']);
