@@ -90,11 +90,11 @@ test('each atom has one spelling', () => {
 
 const NOTHING = "default-src 'none'; form-action 'none'; base-uri 'none'; frame-ancestors 'none'; sandbox";
 
-/** Which of these nodes fails first. The first list has the policies NOTHING and that of the second list. */
-function failing(policy, shape, nodes, origin = ORIGIN) {
+/** Which of these nodes fails first. The first list has the policies NOTHING and `other`. */
+function failing(policy, shape, nodes, origin = ORIGIN, other = policy) {
   const before = Array.from({ length: shape }, (_, number) => [`tree ${number} 0`, 'blocked 0']).flat();
   const proof = written(['csp-proof 1', ...before, `tree ${shape} 0`, ...nodes, 'end']);
-  const said = checkProof({ origin, new: header(NOTHING) + header(policy), old: header(policy), proof });
+  const said = checkProof({ origin, new: header(NOTHING) + header(other), old: header(policy), proof });
   const place = said.rejected - before.length - 3;
   return said.accepted || place === nodes.length ? undefined : place;
 }
@@ -203,6 +203,11 @@ test('what a policy says of a shape with atoms', () => {
   assert.equal(failing("script-src 'sha256-a'; x-none 'sha512-b'", 120, pairs), undefined);
   assert.equal(failing("script-src 'sha256-a'; x-none 'sha512-b'", 96, pairs.toSpliced(2, 2)), 3);
   assert.equal(failing("script-src 'sha256-a'", 96, pairs.slice(4)), 1);
+  const lists = ["script-src 'sha256-a'; x-none 'sha512-b'", "script-src 'sha256-a'"];
+  for (const [first, second] of [lists, lists.toReversed()]) { // the vocabulary is that of both lists
+    assert.equal(failing(second, 96, pairs.toSpliced(2, 2), ORIGIN, first), 3);
+    assert.equal(failing(second, 96, pairs, ORIGIN, first), undefined);
+  }
 });
 
 const onHost = (host) => [`img-src https://${host}:*`, 38];
@@ -225,6 +230,7 @@ const LITERALS = [
   ['path-is /ab', onPath('/a/'), false], ['path-under /a', onPath('/a/'), true, false],
   ['path-under /a/b', onPath('/a/'), true], ['path-under /a', onPath('/a/b/'), undefined, false],
   ['path-under /c', onPath('/a/'), false], ['path-under /a', onPath('/a'), false],
+  ['path-under /ab', onPath('/a/'), false], ['path-under /a', onPath('/ab/'), false],
   ['path-under /a', onPath('/ab'), false], ['path-under /a', onPath('/a/b'), undefined, false],
   ['port-is 8', ['img-src https://*:8', 38], true, false], ['port-is 8', ['img-src https://*:9', 38], false],
   ['scheme-is data', ['img-src data:', 46], true, false], ['scheme-is data', ['img-src blob:', 46], false],
@@ -285,6 +291,7 @@ test('header blocks are read by the rules', () => {
 
 test('an error has the message of the command', () => {
   const given = { origin: ORIGIN, new: '', old: '', proof: 'csp-proof 1\nend\n' };
+  assert.deepEqual(checkProof({ ...given, new: header(`a${' b'.repeat(1024)}`) }), { accepted: true });
   for (const [question, message] of [
     ...['a.example', 'https://a/b', 'https://a?', 'https://a#', 'https://u@a', 'ftp://a', 'NULL', ''].map(
       (origin) => [{ origin, new: 'x' }, 'bad origin']),
