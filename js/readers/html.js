@@ -1,0 +1,412 @@
+// What a page's HTML loads, runs and does, as requests for the engine, each under the `meta` policies that stand
+// before it. One walk serves the trees of parse5 (parse5.js) and of a browser (dom.js).
+import { isHandler } from './handlers.js';
+import { ReadingError } from './error.js';
+import { fetchesOf } from './elements.js';
+import { urlOf } from './urls.js';
+import { asciiLower } from './words.js';
+
+/**
+ * @typedef {{startLine: number, startCol: number}} At
+ * @typedef {object} Told what a tree tells of an element; the line and the column are counted from 1
+ * @property {string} tag
+ * @property {string} namespace
+ * @property {[string, string][]} attributes
+ * @property {boolean} isDoubled whether an attribute stands in it twice
+ * @property {number} [line]
+ * @property {number} [column]
+ * @property {(name: string) => At | undefined} at where an attribute stands
+ * @typedef {object} Tree
+ * @property {any} root
+ * @property {(node: any) => boolean} isElement
+ * @property {(node: any) => any[]} children
+ * @property {(node: any) => any} content what a template holds
+ * @property {(node: any) => string} text the text nodes of an element
+ * @property {(node: any) => Told} told
+ * @typedef {(text: string) => Tree} Parse
+ * @typedef {Told & {get: (name: string) => string | undefined, text: () => string, parent: Element | null}} Element
+ *
+ * @typedef {Record<string, any> & {kind: string}} Request a request in the engine's form
+ * @typedef {object} Piece
+ * @property {Request} request
+ * @property {string[]} meta the header lines of the meta policies that it is under
+ * @property {string} said what it is, in a person's words
+ * @property {number} [line]
+ * @property {number} [column]
+ * @property {boolean} [possible] whether a browser may do without it, as with the candidates of `srcset`
+ * @typedef {{line?: number, said: string}} Said
+ * @typedef {object} Page
+ * @property {string} url
+ * @property {string} origin
+ * @property {string[]} lines header lines of the response
+ * @property {Piece[]} pieces
+ * @property {Said[]} taken
+ * @property {Said[]} left what stands in the page and isn't among the pieces, or is known only in part
+ * @property {string[]} unseen what was not looked at
+ */
+
+const HTML = 'http://www.w3.org/1999/xhtml', SVG = 'http://www.w3.org/2000/svg';
+const JAVASCRIPT = /^(?:(?:application|text)\/(?:x-)?(?:ecma|java)script|text\/(?:javascript1\.[0-5]|jscript|livescript))$/;
+const POLICY = 'content-security-policy';
+
+/**
+ * The elements of a tree in the order of the text. What stands in `noscript` and in templates is left out, but for
+ * templates that become a shadow tree.
+ * @param {Tree} tree
+ * @returns {Generator<Element>}
+ */
+function* elements(tree) {
+  const waiting = /** @type {{node: any, parent: Element | null}[]} */ ([{ node: tree.root, parent: null }]);
+  while (waiting.length > 0) {
+    const { node, parent } = /** @type {{node: any, parent: Element | null}} */ (waiting.pop());
+    let inner = node, element = parent;
+    if (tree.isElement(node)) {
+      element = elementOf(tree, node, parent);
+      yield element;
+      if (element.tag === 'noscript') continue;
+      if (element.tag === 'template' && element.namespace === HTML) {
+        if (!/^(?:open|closed)$/i.test(element.get('shadowrootmode') ?? '')) continue;
+        inner = tree.content(node);
+      }
+    }
+    for (const child of tree.children(inner).reverse()) waiting.push({ node: child, parent: element });
+  }
+}
+
+/**
+ * @param {Tree} tree
+ * @param {any} node
+ * @param {Element | null} parent
+ * @returns {Element}
+ */
+const elementOf = (tree, node, parent) => {
+  const told = tree.told(node), values = new Map([...told.attributes].reverse());
+  return { ...told, parent, get: name => values.get(name), text: () => tree.text(node) };
+};
+
+/**
+ * What a `meta` element does for the policies of a page (HTML, "Content security policy state"), or nothing where
+ * it names none.
+ * @param {Element} element
+ * @returns {{counts: boolean, text: string, said: string, line?: number} | undefined}
+ */
+const metaOf = element => {
+  if (element.tag !== 'meta' || element.namespace !== HTML) return undefined;
+  const name = asciiLower(element.get('http-equiv') ?? ''), value = element.get('content') ?? '', { line } = element;
+  if (!name.startsWith(POLICY)) return undefined;
+  const text = `Meta-Content-Security-Policy: ${value.replace(/\s+/g, ' ').trim()}`;
+  const no = (/** @type {string} */ why) => ({ counts: false, text, line, said: `a meta element without effect: ${why}` });
+  if (name !== POLICY) return no(`no meta element carries ${element.get('http-equiv')}`);
+  if (element.parent?.tag !== 'head') return no('it stands outside of head');
+  if (value === '') return no('its content is empty');
+  if (/[\0-\x08\x0e-\x1f\x7f]/.test(value)) return no('a character stands in it that no policy file can hold');
+  return { counts: true, text, line, said: 'read as a meta element' };
+};
+
+/**
+ * The policies of a page's `meta` elements, those without effect too.
+ * @param {Tree} tree
+ */
+export const metaPolicies = tree => [...elements(tree)].flatMap(it => metaOf(it) ?? []);
+
+/**
+ * What a script element would run (HTML, "prepare the script element"): its type, or nothing where it runs nothing.
+ * @param {Element} element
+ * @returns {'classic' | 'module' | 'importmap' | 'speculationrules' | undefined}
+ */
+export const scriptType = element => {
+  const type = element.get('type'), language = element.get('language');
+  const isBare = type === '' || type === undefined && (language === undefined || language === '');
+  const word = isBare ? 'text/javascript' : asciiLower(type?.replace(/^[\t\n\f\r ]+|[\t\n\f\r ]+$/g, '') ?? `text/${language}`);
+  if (word === 'module' || word === 'importmap' || word === 'speculationrules') return word;
+  if (!JAVASCRIPT.test(word) || element.get('nomodule') !== undefined) return undefined;
+  const target = element.get('for')?.trim(), event = element.get('event')?.trim();
+  const isOld = target !== undefined && event !== undefined;
+  return isOld && !(/^window$/i.test(target) && /^onload(?:\(\))?$/i.test(event)) ? undefined : 'classic';
+};
+
+/** The walk through one page, and through the `srcdoc` of its frames, which take the policies of the page with them. */
+class Walk {
+  /**
+   * @param {string} url
+   * @param {Parse} parse
+   */
+  constructor(url, parse) {
+    this.url = url;
+    this.base = url;
+    this.parse = parse;
+    this.runsScripts = true;
+    this.isBased = false;
+    this.meta = /** @type {string[]} */ ([]);
+    this.inside = '';
+    this.page = /** @type {Pick<Page, 'pieces' | 'taken' | 'left'>} */ ({ pieces: [], taken: [], left: [] });
+    this.late = /** @type {(() => void)[]} */ ([]);
+    this.hidden = { noscript: 0, template: 0, sheets: 0 };
+    this.needs = /** @type {Set<string>} */ (new Set());
+  }
+
+  /** @param {Tree} tree */
+  walk(tree) {
+    for (const element of elements(tree)) this.visit(element);
+    for (const step of this.late) step();
+  }
+
+  /** What a sandbox must not take away, once the walk is done. */
+  capabilities() {
+    for (const name of this.needs) this.add({ kind: 'capability', name }, `the page needs ${name}`, {});
+  }
+
+  /**
+   * @param {Request} request
+   * @param {string} said
+   * @param {{line?: number, column?: number, possible?: boolean}} of
+   */
+  add(request, said, { line, column, possible }) {
+    const all = `${this.inside}${said}`, note = line === undefined ? all : `line ${line}: ${all}`;
+    const place = line === undefined ? {} : { line, column };
+    const rest = possible ? { possible } : {};
+    this.page.pieces.push({ request: { ...request, note }, meta: this.meta, said: all, ...place, ...rest });
+  }
+
+  /** @param {Element} element */
+  visit(element) {
+    const { tag, namespace } = element, isSvg = namespace === SVG;
+    this.attributes(element);
+    const policy = metaOf(element);
+    if (policy?.counts) this.meta = [...this.meta, policy.text];
+    if (policy) this.page[policy.counts ? 'taken' : 'left'].push({ line: policy.line, said: policy.said });
+    if (tag === 'noscript' || tag === 'template' && namespace === HTML) this.hidden[tag] += 1;
+    if (tag === 'base' && namespace === HTML) this.baseElement(element);
+    else if (tag === 'script' && (isSvg || namespace === HTML)) this.script(element);
+    else if (tag === 'style' && (isSvg || namespace === HTML)) this.style(element);
+    else if (tag === 'form' && namespace === HTML) this.late.push(() => this.form(element, 'action'));
+    if (element.get('formaction') !== undefined && namespace === HTML) {
+      this.late.push(() => this.form(element, 'formaction'));
+    }
+    if (tag === 'iframe' && element.get('srcdoc') !== undefined) this.srcdoc(element);
+    else for (const it of fetchesOf(element, this.page.left)) this.reference(element, it);
+    if (['a', 'area'].includes(tag)) this.link(element);
+  }
+
+  /** @param {Element} element */
+  attributes(element) {
+    const { tag } = element;
+    for (const [name, source] of element.attributes) {
+      const at = element.at(name), line = at?.startLine ?? element.line, column = at?.startCol ?? element.column;
+      if (name === 'style') {
+        this.add({ kind: 'inline', type: 'style-attribute', source }, `style of <${tag}>`, { line, column });
+        this.sheet(source);
+      } else if (isHandler(name, tag)) {
+        if (this.mayRun(`${name} of <${tag}>`, line)) {
+          this.add({ kind: 'inline', type: 'script-attribute', source }, `${name} of <${tag}>`, { line, column });
+        }
+      } else if (/^on[a-z]/.test(name)) {
+        this.page.left.push({ line, said: `${name} of <${tag}> is no event handler that browsers have: left out` });
+      }
+    }
+  }
+
+  /**
+   * Whether scripts run here, which a frame's sandbox can forbid.
+   * @param {string} said
+   * @param {number} [line]
+   */
+  mayRun(said, line) {
+    if (this.runsScripts) this.needs.add('scripts');
+    else this.page.left.push({ line, said: `${this.inside}${said}: left out, since the frame's sandbox lets no script run` });
+    return this.runsScripts;
+  }
+
+  /**
+   * The members of an inline request that tell of its element.
+   * @param {Element} element
+   */
+  static elementMember({ tag, attributes, isDoubled }) {
+    return { element: { tag, attributes, ...isDoubled ? { 'duplicate-attribute': true } : {} } };
+  }
+
+  /** @param {Element} element */
+  script(element) {
+    const type = scriptType(element), { line, namespace } = element, isData = type === 'importmap' || type === 'speculationrules';
+    if (type === undefined || !this.mayRun('<script>', line)) return;
+    const source = namespace === SVG ? element.get('href') ?? element.get('xlink:href') : element.get('src');
+    if (element.isDoubled && element.get('nonce') !== undefined) {
+      this.page.left.push({ line, said: 'an attribute of <script> stands twice: Chromium passes over its nonce' });
+    }
+    if (source !== undefined) {
+      const integrity = element.get('integrity'), nonce = element.get('nonce');
+      if (isData) this.page.left.push({ line, said: `<script type=${type}> with a URL: browsers don't load it` });
+      else this.reference(element, { destination: 'script', url: source, said: '<script src>', nonce, integrity, isParsed: true });
+      return;
+    }
+    const text = element.text();
+    if (text === '') return;
+    const said = type === 'classic' ? '<script>' : `<script type=${type}>`;
+    if (type === 'speculationrules') {
+      this.page.left.push({ line, said: "'inline-speculation-rules' isn't looked at for speculation rules" });
+    }
+    this.add({ kind: 'inline', type: 'script', source: text, ...Walk.elementMember(element) }, said, element);
+  }
+
+  /** @param {Element} element */
+  style(element) {
+    if (!/^(?:text\/css)?$/i.test(element.get('type') ?? '')) return;
+    const source = element.text();
+    this.add({ kind: 'inline', type: 'style', source, ...Walk.elementMember(element) }, '<style>', element);
+    this.sheet(source);
+  }
+
+  /** @param {string} text style that may name URLs */
+  sheet(text) {
+    if (/url\(|@import|image-set\(/i.test(text)) this.hidden.sheets += 1;
+  }
+
+  /** @param {Element} element */
+  baseElement(element) {
+    const href = element.get('href');
+    if (href === undefined || this.isBased) return;
+    const url = this.resolved(href, element.line, this.url);
+    if (url === undefined) return;
+    this.isBased = true;
+    if (/^(?:data|javascript):$/.test(url.protocol)) {
+      this.page.left.push({ line: element.line, said: `<base href> of ${url.protocol} has no effect` });
+      return;
+    }
+    this.add({ kind: 'base', url: url.href }, '<base href>', element);
+    this.base = url.href;
+    this.page.left.push({ line: element.line, said: 'relative URLs below <base> are taken to begin there, as they do where base-uri allows it' });
+  }
+
+  /**
+   * @param {string} text
+   * @param {number} [line]
+   * @param {string} [base]
+   */
+  resolved(text, line, base = this.base) {
+    const url = urlOf(text, base);
+    if (url === undefined) this.page.left.push({ line, said: `this is no URL, and is left out: "${text}"` });
+    return url;
+  }
+
+  /**
+   * Something that an element names by its URL.
+   * @param {Element} element
+   * @param {import('./elements.js').Fetch} fetch
+   */
+  reference(element, { destination, url: text, said, nonce, integrity, isParsed, possible, attribute }) {
+    const at = attribute === undefined ? undefined : element.at(attribute);
+    const line = at?.startLine ?? element.line, column = at?.startCol ?? element.column;
+    const url = text.trim() === '' ? undefined : this.resolved(text, line);
+    if (url === undefined || url.protocol === 'about:') return;
+    if (url.protocol === 'javascript:') {
+      const isFrame = ['iframe', 'frame', 'object', 'embed'].includes(destination);
+      if (isFrame) this.navigation(url, `javascript: URL of <${element.tag}>`, { line, column });
+      return;
+    }
+    const also = { ...nonce ? { nonce } : {}, ...integrity ? { integrity } : {}, ...isParsed ? { 'parser-inserted': true } : {} };
+    const asked = this.upgraded(url, destination, line);
+    this.add({ kind: 'fetch', destination, url: asked, ...also }, said, { line, column, possible });
+  }
+
+  /**
+   * The URL that a browser asks for: on a page of https it loads images, sound and video by https, and no rule looks
+   * at what a data URL holds.
+   * @param {URL} url
+   * @param {string} destination
+   * @param {number} [line]
+   */
+  upgraded(url, destination, line) {
+    if (url.protocol === 'data:') return 'data:,';
+    const isMixed = url.protocol === 'http:' && this.url.startsWith('https:');
+    const isAddress = /^[\d.]+$|^\[/.test(url.hostname);
+    if (!isMixed || isAddress || !['image', 'audio', 'video'].includes(destination)) return url.href;
+    this.page.left.push({ line, said: `${url.href} is taken for https, as browsers load it; a report-only policy sees http` });
+    return url.href.replace(/^http:/, 'https:');
+  }
+
+  /**
+   * @param {URL} url
+   * @param {string} said
+   * @param {{line?: number, column?: number}} place
+   */
+  navigation(url, said, place) {
+    if (this.mayRun(said, place.line)) this.add({ kind: 'inline', type: 'navigation', source: url.href }, said, place);
+  }
+
+  /** @param {Element} element */
+  link(element) {
+    const href = element.get('href') ?? element.get('xlink:href'), { tag, line, column } = element;
+    if (element.get('target') === '_blank') this.needs.add('popups');
+    if (element.get('download') !== undefined) this.needs.add('downloads');
+    this.late.push(() => {
+      const url = href === undefined ? undefined : this.resolved(href, line);
+      if (url?.protocol === 'javascript:') this.navigation(url, `javascript: URL of <${tag}>`, { line, column });
+      for (const ping of (element.get('ping') ?? '').split(/\s+/).filter(it => it !== '')) {
+        this.reference(element, { destination: '', url: ping, said: `ping of <${tag}>`, possible: true });
+      }
+    });
+  }
+
+  /**
+   * @param {Element} element
+   * @param {'action' | 'formaction'} name
+   */
+  form(element, name) {
+    if (/^dialog$/i.test(element.get(name === 'action' ? 'method' : 'formmethod') ?? '')) return;
+    const { tag, line, column } = element, said = `${name} of <${tag}>`, action = element.get(name) ?? '';
+    const url = action.trim() === '' ? new URL(this.url) : this.resolved(action, line);
+    if (url === undefined) return;
+    this.needs.add('forms');
+    if (url.protocol === 'javascript:') this.navigation(url, `javascript: URL of <${tag}>`, { line, column });
+    else this.add({ kind: 'form', url: url.href }, said, element);
+  }
+
+  /** @param {Element} element a frame whose page stands in its attribute */
+  srcdoc(element) {
+    const inner = new Walk(this.url, this.parse), sandbox = element.get('sandbox'), { line } = element;
+    inner.base = this.base;
+    inner.meta = this.meta;
+    inner.inside = `${this.inside}in srcdoc of <iframe>: `;
+    inner.needs = this.needs;
+    inner.runsScripts = this.runsScripts && (sandbox === undefined || /(?:^|\s)allow-scripts(?:\s|$)/i.test(sandbox));
+    inner.walk(this.parse(element.get('srcdoc') ?? ''));
+    const { pieces, taken, left } = inner.page, place = { line, column: element.column };
+    for (const it of pieces) {
+      this.page.pieces.push({ ...it, ...place, request: { ...it.request, note: `line ${line}: ${it.said}` } });
+    }
+    this.page.taken.push(...taken.map(({ said }) => ({ line, said: `${inner.inside}${said}` })));
+    this.page.left.push(...left.map(({ said }) => ({ line, said })));
+    for (const name of /** @type {const} */ (['noscript', 'template', 'sheets'])) this.hidden[name] += inner.hidden[name];
+  }
+}
+
+/**
+ * What was not looked at in a page.
+ * @param {Walk['hidden']} hidden
+ */
+const unseenOf = ({ noscript, template, sheets }) => [
+  'what scripts do as they run (calls, sockets, workers, code and elements that they insert, eval, WebAssembly): not looked at',
+  'what style sheets, frames and modules load in their turn: not looked at',
+  'who frames the page: not looked at',
+  ...noscript > 0 ? [`what stands in <noscript>, of which there are ${noscript}: not looked at`] : [],
+  ...template > 0 ? [`what stands in <template>, of which there are ${template}: not looked at`] : [],
+  ...sheets > 0 ? [`what styles in the page load by url() or @import, of which ${sheets} do: not looked at`] : [],
+];
+
+/**
+ * Reads a page's HTML.
+ * @param {string} text
+ * @param {{url: string, parse: Parse, lines?: string[]}} options the address of the page, what makes a tree of HTML,
+ * and header lines of the response
+ * @returns {Page}
+ */
+export const readHtml = (text, { url, parse, lines = [] }) => {
+  const address = urlOf(url);
+  if (address === undefined) {
+    throw new ReadingError({ said: 'this is no address of a page', found: url, write: 'Write one as https://www.example/' });
+  }
+  const walk = new Walk(url, parse);
+  walk.walk(parse(text.replace(/^\uFEFF/, '')));
+  walk.capabilities();
+  return { url, origin: address.origin, lines, ...walk.page, unseen: unseenOf(walk.hidden) };
+};

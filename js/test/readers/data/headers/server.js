@@ -1,0 +1,1 @@
+response.setHeader('Content-Security-Policy', "default-src 'self'");
