@@ -50,6 +50,14 @@ const JAVASCRIPT = /^(?:(?:application|text)\/(?:x-)?(?:ecma|java)script|text\/(
 const POLICY = 'content-security-policy';
 
 /**
+ * Whether a browser that runs scripts does nothing with what stands in an element, which is then not looked at. Some
+ * templates become a shadow tree.
+ * @param {Told & {get: (name: string) => string | undefined}} element
+ */
+const hides = ({ tag, namespace, get }) => tag === 'noscript'
+  || tag === 'template' && namespace === HTML && !/^(?:open|closed)$/i.test(get('shadowrootmode') ?? '');
+
+/**
  * The elements of a tree in the order of the text. What stands in `noscript` and in templates is left out, but for
  * templates that become a shadow tree.
  * @param {Tree} tree
@@ -63,11 +71,8 @@ function* elements(tree) {
     if (tree.isElement(node)) {
       element = elementOf(tree, node, parent);
       yield element;
-      if (element.tag === 'noscript') continue;
-      if (element.tag === 'template' && element.namespace === HTML) {
-        if (!/^(?:open|closed)$/i.test(element.get('shadowrootmode') ?? '')) continue;
-        inner = tree.content(node);
-      }
+      if (hides(element)) continue;
+      if (element.tag === 'template' && element.namespace === HTML) inner = tree.content(node);
     }
     for (const child of tree.children(inner).reverse()) waiting.push({ node: child, parent: element });
   }
@@ -175,7 +180,7 @@ class Walk {
     const policy = metaOf(element);
     if (policy?.counts) this.meta = [...this.meta, policy.text];
     if (policy) this.page[policy.counts ? 'taken' : 'left'].push({ line: policy.line, said: policy.said });
-    if (tag === 'noscript' || tag === 'template' && namespace === HTML) this.hidden[tag] += 1;
+    if (hides(element)) this.hidden[tag === 'noscript' ? tag : 'template'] += 1;
     if (tag === 'base' && namespace === HTML) this.baseElement(element);
     else if (tag === 'script' && (isSvg || namespace === HTML)) this.script(element);
     else if (tag === 'style' && (isSvg || namespace === HTML)) this.style(element);
@@ -227,25 +232,42 @@ class Walk {
 
   /** @param {Element} element */
   script(element) {
-    const type = scriptType(element), { line, namespace } = element, isData = type === 'importmap' || type === 'speculationrules';
+    const type = scriptType(element), { line } = element, nonce = element.get('nonce');
     if (type === undefined || !this.mayRun('<script>', line)) return;
-    const source = namespace === SVG ? element.get('href') ?? element.get('xlink:href') : element.get('src');
-    if (element.isDoubled && element.get('nonce') !== undefined) {
+    if (element.isDoubled && nonce !== undefined) {
       this.page.left.push({ line, said: 'an attribute of <script> stands twice: Chromium passes over its nonce' });
     }
-    if (source !== undefined) {
-      const integrity = element.get('integrity'), nonce = element.get('nonce');
-      if (isData) this.page.left.push({ line, said: `<script type=${type}> with a URL: browsers don't load it` });
-      else this.reference(element, { destination: 'script', url: source, said: '<script src>', nonce, integrity, isParsed: true });
-      return;
+    const attribute = (element.namespace === SVG ? ['href', 'xlink:href'] : ['src']).find(it => element.get(it) !== undefined);
+    if (attribute !== undefined) this.scriptFile(element, type, attribute);
+    else this.scriptText(element, type);
+  }
+
+  /**
+   * @param {Element} element
+   * @param {string} type
+   * @param {string} attribute
+   */
+  scriptFile(element, type, attribute) {
+    const integrity = element.get('integrity'), nonce = element.get('nonce'), url = element.get(attribute) ?? '';
+    if (type === 'classic' || type === 'module') {
+      const said = `${attribute} of <script>`;
+      this.reference(element, { destination: 'script', url, attribute, said, nonce, integrity, isParsed: true });
+    } else {
+      this.page.left.push({ line: element.line, said: `<script type=${type}> with a URL: browsers don't load it` });
     }
-    const text = element.text();
-    if (text === '') return;
-    const said = type === 'classic' ? '<script>' : `<script type=${type}>`;
+  }
+
+  /**
+   * @param {Element} element
+   * @param {string} type
+   */
+  scriptText(element, type) {
+    const source = element.text(), said = type === 'classic' ? '<script>' : `<script type=${type}>`;
+    if (source === '') return;
     if (type === 'speculationrules') {
-      this.page.left.push({ line, said: "'inline-speculation-rules' isn't looked at for speculation rules" });
+      this.page.left.push({ line: element.line, said: "'inline-speculation-rules' isn't looked at for speculation rules" });
     }
-    this.add({ kind: 'inline', type: 'script', source: text, ...Walk.elementMember(element) }, said, element);
+    this.add({ kind: 'inline', type: 'script', source, ...Walk.elementMember(element) }, said, element);
   }
 
   /** @param {Element} element */

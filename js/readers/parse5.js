@@ -12,7 +12,7 @@ export const parseHtml = text => {
     onParseError: ({ code, startOffset }) => code === 'duplicate-attribute' && doubled.push(startOffset),
   });
   const told = (/** @type {any} */ element) => {
-    const tag = element.sourceCodeLocation?.startTag ?? element.sourceCodeLocation;
+    const tag = element.sourceCodeLocation?.startTag ?? element.sourceCodeLocation ?? undefined;
     return {
       tag: element.tagName,
       namespace: element.namespaceURI,
