@@ -39,6 +39,7 @@ import { asciiLower } from './words.js';
  * @property {string} url
  * @property {string} origin
  * @property {string[]} lines header lines of the response
+ * @property {string[]} meta header lines of the policies of its meta elements
  * @property {Piece[]} pieces
  * @property {Said[]} taken
  * @property {Said[]} left what stands in the page and isn't among the pieces, or is known only in part
@@ -402,33 +403,41 @@ class Walk {
   }
 }
 
-/**
- * What was not looked at in a page.
- * @param {Walk['hidden']} hidden
- */
-const unseenOf = ({ noscript, template, sheets }) => [
-  'what scripts do as they run (calls, sockets, workers, code and elements that they insert, eval, WebAssembly): not looked at',
+const UNSEEN = [
+  'what scripts do as they run (calls, sockets, workers, code and elements that they insert, eval, WebAssembly): '
+    + 'not looked at',
   'what style sheets, frames and modules load in their turn: not looked at',
   'who frames the page: not looked at',
+];
+
+/**
+ * What was not looked at of what stands in a page.
+ * @param {Walk['hidden']} hidden
+ * @param {boolean} isRecorded whether a recording tells what style sheets loaded
+ */
+const hiddenSaid = ({ noscript, template, sheets }, isRecorded) => [
   ...noscript > 0 ? [`what stands in <noscript>, of which there are ${noscript}: not looked at`] : [],
   ...template > 0 ? [`what stands in <template>, of which there are ${template}: not looked at`] : [],
-  ...sheets > 0 ? [`what styles in the page load by url() or @import, of which ${sheets} do: not looked at`] : [],
+  ...sheets > 0 && !isRecorded
+    ? [`what styles in the page load by url() or @import, of which ${sheets} do: not looked at`] : [],
 ];
 
 /**
  * Reads a page's HTML.
  * @param {string} text
- * @param {{url: string, parse: Parse, lines?: string[]}} options the address of the page, what makes a tree of HTML,
- * and header lines of the response
+ * @param {{url: string, parse: Parse, lines?: string[], isRecorded?: boolean}} options the address of the page, what
+ * makes a tree of HTML, header lines of the response, and whether a recording tells what the page loaded
  * @returns {Page}
  */
-export const readHtml = (text, { url, parse, lines = [] }) => {
+export const readHtml = (text, { url, parse, lines = [], isRecorded = false }) => {
   const address = urlOf(url);
   if (address === undefined) {
-    throw new ReadingError({ said: 'this is no address of a page', found: url, write: 'Write one as https://www.example/' });
+    const write = 'Write one as https://www.example/';
+    throw new ReadingError({ said: 'this is no address of a page', found: url, write });
   }
   const walk = new Walk(url, parse);
   walk.walk(parse(text.replace(/^\uFEFF/, '')));
   walk.capabilities();
-  return { url, origin: address.origin, lines, ...walk.page, unseen: unseenOf(walk.hidden) };
+  const unseen = [...isRecorded ? [] : UNSEEN, ...hiddenSaid(walk.hidden, isRecorded)];
+  return { url, origin: address.origin, lines, meta: walk.meta, ...walk.page, unseen };
 };

@@ -28,8 +28,11 @@ export const policiesOf = lines => lines.flatMap(line => {
   return texts.map((text, n) => ({ from, isFirst: n === 0, directives: piecesOf(text) }));
 });
 
-/** @param {string} text */
-const piecesOf = text => text.split(';').map(it => it.trim()).filter(it => it !== '').map(it => {
+/**
+ * The directives of a policy.
+ * @param {string} text
+ */
+export const piecesOf = text => text.split(';').map(it => it.trim()).filter(it => it !== '').map(it => {
   const [name, ...values] = it.split(/\s+/);
   return { name: asciiLower(name), values, text: it };
 });
