@@ -101,7 +101,7 @@ export const blockedBy = violation => {
   if (URL_TEXT.test(blocked) && directive === 'base-uri') return { request: { kind: 'base', url: blocked, note } };
   if (URL_TEXT.test(blocked) && directive === 'form-action') return { request: { kind: 'form', url: blocked, note } };
   const destination = DESTINATIONS[directive];
-  if (destination === undefined) return { leftOut: "its directive doesn't tell what was blocked" };
+  if (destination === undefined || blocked === 'inline') return { leftOut: "its directive doesn't tell what was blocked" };
   const scheme = /^(data|blob|filesystem)(?::|$)/.exec(blocked)?.[1];
   if (scheme === undefined && !URL_TEXT.test(blocked)) return { leftOut: "its blocked URI isn't what a page fetches" };
   const request = { kind: 'fetch', destination, url: scheme === undefined ? blocked : { scheme }, note };
