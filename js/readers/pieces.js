@@ -101,8 +101,9 @@ export class Pieces {
 
   /** @param {number} to passes over the text to a place */
   move(to) {
-    for (let at = this.text.indexOf('\n', this.at); at >= 0 && at < to; at = this.text.indexOf('\n', at + 1)) {
+    for (let end = this.lineEnd(); end >= 0 && end <= to; end = this.lineEnd()) {
       this.line += 1;
+      this.at = end;
     }
     this.isLineStart = this.text.charCodeAt(to - 1) === LINE;
     this.at = to;

@@ -186,7 +186,7 @@ export class Tally {
   add(violation) {
     const { directive, blocked, disposition, policy, file, line, column, sample, page } = violation;
     const isInline = !blocked.includes(':'), place = isInline && file === '' ? page : file;
-    const name = JSON.stringify([directive, blocked, disposition, policy, place, line, column, sample]);
+    const name = [directive, blocked, disposition, policy, place, line, column, sample].join('\0');
     const group = this.groups.get(name) ?? { violation, count: 0, pages: new Set() };
     if (group.count === 0 && this.groups.size === this.most) {
       this.beyond += 1;
