@@ -1,5 +1,5 @@
-// HTML for the readers in a browser: its own parser makes the tree, without running or loading anything. It tells
-// neither lines nor attributes that stand twice.
+// HTML for the readers in a browser: its own parser makes the tree, without running or loading anything.
+// It tells neither lines nor attributes that stand twice.
 
 /**
  * A tree of a browser as the walk of html.js sees it.

@@ -1,4 +1,5 @@
-// Which attributes of which elements name something that a browser loads, and for what (HTML; Fetch, "destination").
+// Which attributes of which elements name something that a browser loads, and for what (HTML; Fetch,
+// "destination").
 
 /**
  * @typedef {object} Fetch
@@ -15,9 +16,11 @@
 
 const SVG = 'http://www.w3.org/2000/svg';
 const BACKGROUNDS = ['body', 'table', 'thead', 'tbody', 'tfoot', 'tr', 'td', 'th'];
-// What a link that preloads may say in `as`, and what stands for it (HTML, "translate a preload destination").
+// What a link that preloads may say in `as`, and what stands for it (HTML, "translate a preload
+// destination").
 const PRELOADS = new Map([
-  ['fetch', ''], ['font', 'font'], ['image', 'image'], ['script', 'script'], ['style', 'style'], ['track', 'track'],
+  ['fetch', ''], ['font', 'font'], ['image', 'image'], ['script', 'script'], ['style', 'style'],
+  ['track', 'track'],
 ]);
 const MODULES = ['script', 'audioworklet', 'paintworklet', 'serviceworker', 'sharedworker', 'worker'];
 const HINTS = ['prefetch', 'preconnect', 'dns-prefetch', 'prerender'];
@@ -47,8 +50,8 @@ export const srcsetUrls = text => {
  * @returns {Fetch[]}
  */
 const one = (element, attribute, destination, possible) => {
-  const url = element.get(attribute);
-  return url === undefined ? [] : [{ destination, url, attribute, said: `${attribute} of <${element.tag}>`, possible }];
+  const url = element.get(attribute), said = `${attribute} of <${element.tag}>`;
+  return url === undefined ? [] : [{ destination, url, attribute, said, possible }];
 };
 
 /**
@@ -66,19 +69,20 @@ const candidates = (element, attribute) => srcsetUrls(element.get(attribute) ?? 
  */
 const ofLink = (element, left) => {
   const rels = new Set((element.get('rel') ?? '').toLowerCase().split(/[\t\n\f\r ]+/));
-  const as = element.get('as')?.toLowerCase(), nonce = element.get('nonce'), integrity = element.get('integrity');
-  const { line } = element, href = element.get('href') ?? '';
+  const { line } = element, href = element.get('href') ?? '', as = element.get('as')?.toLowerCase();
+  const nonce = element.get('nonce'), integrity = element.get('integrity'), type = element.get('type') ?? '';
   const by = (/** @type {string} */ rel, /** @type {string} */ destination, possible = false) =>
     ({ destination, url: href, attribute: 'href', said: `<link rel=${rel}>`, nonce, integrity, possible });
   const found = /** @type {Fetch[]} */ ([]);
-  if (rels.has('stylesheet') && element.get('disabled') === undefined
-    && /^(?:text\/css)?(?:;.*)?$/i.test(element.get('type')?.trim() ?? '')) found.push(by('stylesheet', 'style'));
+  const isStyle = element.get('disabled') === undefined && /^\s*(?:text\/css)?\s*(?:;.*)?$/i.test(type);
+  if (rels.has('stylesheet') && isStyle) found.push(by('stylesheet', 'style'));
   if (rels.has('icon') || rels.has('apple-touch-icon')) found.push(by('icon', 'image', true));
   if (rels.has('manifest')) found.push(by('manifest', 'manifest'));
   if (rels.has('preload')) {
-    const destination = PRELOADS.get(as ?? '');
-    if (destination === undefined) left.push({ line, said: `<link rel=preload as=${as ?? ''}> isn't judged: left out` });
-    else found.push(by(`preload as=${as}`, destination, as === 'image' && element.get('imagesrcset') !== undefined));
+    const destination = PRELOADS.get(as ?? ''), name = `preload as=${as ?? ''}`;
+    const isChosen = as === 'image' && element.get('imagesrcset') !== undefined;
+    if (destination === undefined) left.push({ line, said: `<link rel=${name}> isn't judged: left out` });
+    else found.push(by(name, destination, isChosen));
     if (as === 'image') found.push(...candidates(element, 'imagesrcset'));
   }
   if (rels.has('modulepreload')) {

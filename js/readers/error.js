@@ -14,7 +14,8 @@ export class ReadingError extends Error {
    */
   constructor(told) {
     const { said, found, write, line, file } = told;
-    const place = [...file === undefined ? [] : [file], ...line === undefined ? [] : [`line ${line}`]].join(', ');
+    const at = line === undefined ? [] : [`line ${line}`];
+    const place = [...file === undefined ? [] : [file], ...at].join(', ');
     const stood = found === undefined ? '' : `: "${short(found)}"`;
     super(`${place === '' ? '' : `${place}: `}${said}${stood}. ${write}.`);
     this.name = 'ReadingError';

@@ -1,5 +1,5 @@
-// What a browser says itself of a page that a person has open: the events of violations, copied by a snippet, and
-// lines of its console, in the words of Chromium and Firefox.
+// What a browser says itself of a page that a person has open: the events of violations, copied by a
+// snippet, and lines of its console, in the words of Chromium and Firefox.
 import { ReadingError } from './error.js';
 import { isBody, violationOf } from './violations.js';
 
@@ -11,14 +11,14 @@ import { isBody, violationOf } from './violations.js';
 
 /** For the console: opens the page once more, and keeps all violations of that copy from its begin. */
 export const SNIPPET = `(() => {
-  const names = ['documentURI', 'blockedURI', 'effectiveDirective', 'originalPolicy', 'disposition', 'sourceFile',
-    'lineNumber', 'columnNumber', 'sample'];
+  const names = ['documentURI', 'blockedURI', 'effectiveDirective', 'originalPolicy', 'disposition',
+    'sourceFile', 'lineNumber', 'columnNumber', 'sample'];
   const seen = [], copy = open(location.href);
   (copy ?? window).addEventListener('securitypolicyviolation', event =>
     seen.push(Object.fromEntries(names.map(it => [it, event[it]]))));
   window.policyViolations = () => JSON.stringify(seen, null, 1);
-  return (copy ? 'Use the page that has opened, and leave it open.' : 'No page could be opened: use this one.')
-    + ' Then come back and type: copy(policyViolations())';
+  const use = copy ? 'Use the page that has opened, and leave it open.' : 'No page has opened: use this one.';
+  return use + ' Then come back and type: copy(policyViolations())';
 })();`;
 
 const UNSEEN = [
@@ -26,8 +26,8 @@ const UNSEEN = [
   'what the page does after the copy was taken, and what nobody used: not looked at',
 ];
 
-// What Chromium's console says was done, in its old words ("Refused to load ..") and its new ones ("Loading ..
-// violates .."); the directive for it, and what was blocked where no URL stands there.
+// What Chromium's console says was done, in its old words ("Refused to load ..") and its new ones
+// ("Loading .. violates .."); the directive for it, and what was blocked where no URL stands there.
 const CHROMIUM = /** @type {[RegExp, string, string?][]} */ ([
   [/\bload(?:ing)? the script '/i, 'script-src-elem'],
   [/\bload(?:ing)? the stylesheet '/i, 'style-src-elem'],
@@ -48,10 +48,17 @@ const CHROMIUM = /** @type {[RegExp, string, string?][]} */ ([
   [/\bevaluat(?:e|ing) a string as JavaScript/i, 'script-src', 'eval'],
   [/\bcompil(?:e|ing) or instantiat(?:e|ing) (?:a )?WebAssembly/i, 'script-src', 'wasm-eval'],
 ]);
-const VIOLATES = /^(.*?)(?:violates|\bin) the following (?:report-only )?Content Security policy directive(?: because [^:"]*)?:? (?:"([^"]*)"|'(.*?)'\.(?: |$))(.*)/i;
+const VIOLATES = new RegExp([
+  /^(.*?)(?:violates|\bin) the following (?:report-only )?Content Security policy directive/,
+  /(?: because [^:"]*)?:? (?:"([^"]*)"|'(.*?)'\.(?: |$))(.*)/,
+].map(it => it.source).join(''), 'i');
 
 // What Firefox's console says was blocked.
-const FIREFOX = /Content[- ]Security[- ]Policy: (\(Report-Only policy\) )?The page.s settings (?:blocked|would block) (.*?) \(([a-z-]+)\)(?: at (\S+))?(?: from being \w+)? because it violates the following directive: [“"]([^”]*)[”"](.*)/;
+const FIREFOX = new RegExp([
+  /Content[- ]Security[- ]Policy: (\(Report-Only policy\) )?The page.s settings (?:blocked|would block) /,
+  /(.*?) \(([a-z-]+)\)(?: at (\S+))?(?: from being \w+)? because it violates the following directive: /,
+  /[“"]([^”]*)[”"](.*)/,
+].map(it => it.source).join(''));
 const FIREFOX_WORDS = /** @type {[RegExp, string][]} */ ([
   [/^an inline |^an event handler/, 'inline'], [/^a JavaScript eval/, 'eval'], [/^WebAssembly/, 'wasm-eval'],
   [/^a javascript: URL/i, 'inline'],
@@ -62,9 +69,10 @@ const FIREFOX_WORDS = /** @type {[RegExp, string][]} */ ([
  * @param {string} text
  */
 const placeOf = text => {
-  const [, file = '', line, column] = /((?:https?:\/\/\S+?|\(index\)|[\w.-]+\.\w+)):(\d+)(?::(\d+))?\b/.exec(text) ?? [];
-  if (line === undefined) return { file: '', line: undefined, column: undefined };
-  return { file: /^https?:/.test(file) ? file : '', line: Number(line), column: column === undefined ? undefined : Number(column) };
+  const found = /((?:https?:\/\/\S+?|\(index\)|[\w.-]+\.\w+)):(\d+)(?::(\d+))?\b/.exec(text);
+  if (found === null) return { file: '', line: undefined, column: undefined };
+  const [, name, line, column] = found, file = /^https?:/.test(name) ? name : '';
+  return { file, line: Number(line), column: column === undefined ? undefined : Number(column) };
 };
 
 /**
@@ -84,7 +92,8 @@ const ofChromium = text => {
   return {
     directive: policy.startsWith('frame-ancestors') ? 'frame-ancestors' : directiveOf(directive, rest),
     blocked: word ?? did.slice(end, did.lastIndexOf("'")), policy, page: '', sample: '',
-    disposition: /report[- ]only/i.test(all.replace(policy, '')) ? 'report' : 'enforce', ...placeOf(did.slice(0, at)),
+    disposition: /report[- ]only/i.test(all.replace(policy, '')) ? 'report' : 'enforce',
+    ...placeOf(did.slice(0, at)),
   };
 };
 
@@ -95,7 +104,8 @@ const ofChromium = text => {
  */
 const directiveOf = (directive, rest) => {
   if (directive !== 'style-src' || !rest.includes('required to enable inline execution')) return directive;
-  return rest.includes('hashes do not apply to event handlers, style attributes') ? 'style-src-attr' : 'style-src-elem';
+  const isAttribute = rest.includes('hashes do not apply to event handlers, style attributes');
+  return isAttribute ? 'style-src-attr' : 'style-src-elem';
 };
 
 /**
@@ -108,7 +118,8 @@ const ofFirefox = text => {
   const [, report, what, directive, url, policy, rest] = found;
   const word = FIREFOX_WORDS.find(([pattern]) => pattern.test(what))?.[1];
   return {
-    directive, blocked: word ?? url ?? '', policy, page: '', sample: /Source: (.*?)(?: \S+:\d+:\d+)?$/.exec(rest)?.[1] ?? '',
+    directive, blocked: word ?? url ?? '', policy, page: '',
+    sample: /Source: (.*?)(?: \S+:\d+:\d+)?$/.exec(rest)?.[1] ?? '',
     disposition: report === undefined ? 'enforce' : 'report', ...placeOf(rest),
   };
 };
@@ -117,7 +128,8 @@ const ofFirefox = text => {
  * The lines of a console, a message in each: Chromium writes some in two lines.
  * @param {string} text
  */
-const messages = text => text.replace(/\n\s*(The (?:policy is report-only|action has been blocked)[^\n]*)/g, ' $1\n').split('\n');
+const messages = text =>
+  text.replace(/\n\s*(The (?:policy is report-only|action has been blocked)[^\n]*)/g, ' $1\n').split('\n');
 
 /**
  * Lines of a console. A line that tells of no violation is passed over.
@@ -150,8 +162,8 @@ export const readEvents = given => {
   if (read.rows.length > 0 || read.left.length > 0 || isJson) return read;
   throw new ReadingError({
     said: 'no violation stands in this', found: text.trim().split('\n')[0],
-    write: 'Give what the snippet copied, or lines of the console that begin with "Refused to", "Content-Security-Policy" '
-      + 'or say "violates the following Content Security Policy directive"',
+    write: 'Give what the snippet copied, or lines of the console that begin with "Refused to" or '
+      + '"Content-Security-Policy", or say "violates the following Content Security Policy directive"',
   });
 };
 
@@ -171,8 +183,7 @@ const ofSnippet = text => {
       write: 'Copy all that copy(policyViolations()) gave',
     });
   }
-  return {
-    rows: list.map((/** @type {Record<string, any>} */ it, /** @type {number} */ n) => ({ violation: violationOf(it), line: n + 1 })),
-    left: [], unseen: UNSEEN,
-  };
+  const rows = list.map((/** @type {Record<string, any>} */ it, /** @type {number} */ n) =>
+    ({ violation: violationOf(it), line: n + 1 }));
+  return { rows, left: [], unseen: UNSEEN };
 };

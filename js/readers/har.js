@@ -1,5 +1,5 @@
-// A recording of a browser (HAR) as pages: each page and each frame in it with its own headers, its own HTML and
-// the requests that it made.
+// A recording of a browser (HAR) as pages: each page and each frame in it with its own headers, its own
+// HTML and the requests that it made.
 import { ReadingError } from './error.js';
 import { readHtml } from './html.js';
 import { keyOf, requestsOf } from './hops.js';
@@ -25,8 +25,8 @@ import { urlOf } from './urls.js';
 const FRAMES = ['frame', 'iframe', 'object', 'embed'], WORKERS = ['worker', 'sharedworker', 'serviceworker'];
 const POLICY = /^content-security-policy(?:-report-only)?$/i;
 
-export const ENFORCED = 'this was recorded while a policy was enforced: browsers leave out of a recording what it '
-  + 'blocked, and what that would have loaded in its turn';
+export const ENFORCED = 'this was recorded while a policy was enforced: browsers leave out of a recording '
+  + 'what it blocked, and what that would have loaded in its turn';
 
 /** How to record a page without its policy, in steps, by browser. */
 export const WITHOUT_POLICY = {
@@ -40,7 +40,7 @@ export const WITHOUT_POLICY = {
   ],
   firefox: [
     'Open about:config in a profile that is used for nothing else.',
-    'Set security.csp.enable to false. If there is no such setting, let the server send the policy as report-only.',
+    'Set security.csp.enable to false. Where that does nothing, let the server send a report-only policy.',
     'Open the developer tools, choose the panel Network, and reload the page.',
     'Use the page for a while, and choose "Save All As HAR".',
     'Set security.csp.enable to true again.',
@@ -102,8 +102,8 @@ class Contexts {
   }
 
   /**
-   * The page, frame or worker that made a request: the one that its Referer names, else the one that loaded what
-   * began it, else the one whose origin its Referer names, else the page.
+   * The page, frame or worker that made a request: the one that its Referer names, else the one that
+   * loaded what began it, else the one whose origin its Referer names, else the page.
    * @param {Chain} chain
    */
   ownerOf({ first }) {
@@ -115,7 +115,8 @@ class Contexts {
     const began = first.initiator === 'other' ? [] : first.began;
     for (const url of referrer === null || isBare(referrer) ? began : [referrer, ...began]) {
       const known = here.filter(it => keyOf(addressOf(it.chain)) === keyOf(url));
-      const found = known.length > 0 ? known : (this.loaders.get(keyOf(url)) ?? []).filter(it => here.includes(it));
+      const loaders = (this.loaders.get(keyOf(url)) ?? []).filter(it => here.includes(it));
+      const found = known.length > 0 ? known : loaders;
       const fitting = found.some(isOrigin) ? found.filter(isOrigin) : found;
       if (fitting.length > 0) return this.oneOf(fitting);
     }
@@ -123,7 +124,10 @@ class Contexts {
     return fitting.length > 0 ? this.oneOf(fitting) : page ?? here[0];
   }
 
-  /** Gives each request that stands before its page to that page. What is left has no page in the recording. */
+  /**
+   * Gives each request that stands before its page to that page. What is left has no page in the
+   * recording.
+   */
   settle() {
     const pageOf = (/** @type {Chain} */ { first }) =>
       this.all.find(it => it.role === 'page' && it.chain.first.page === first.page);
@@ -156,8 +160,8 @@ const requestOf = ({ first, urls, name, decision: { destination } }) => ({
 });
 
 /**
- * Joins what was recorded with what stands in the HTML: a request of an element has its nonce, its integrity and its
- * place. What is in one of them alone stays.
+ * Joins what was recorded with what stands in the HTML: a request of an element has its nonce, its
+ * integrity and its place. What is in one of them alone stays.
  * @param {Chain[]} chains
  * @param {Piece[]} pieces
  * @param {string[]} meta the policies of all meta elements
@@ -166,8 +170,9 @@ const joined = (chains, pieces, meta) => {
   const waiting = /** @type {Map<string, Piece[]>} */ (new Map());
   for (const it of pieces) {
     if (it.request.kind !== 'fetch') continue;
-    const name = `${it.request.destination} ${keyOf(it.request.url)}`;
-    waiting.set(name, [...waiting.get(name) ?? [], it]);
+    const name = `${it.request.destination} ${keyOf(it.request.url)}`, others = waiting.get(name);
+    if (others === undefined) waiting.set(name, [it]);
+    else others.push(it);
   }
   const found = /** @type {Map<Piece, Chain>} */ (new Map()), alone = /** @type {Piece[]} */ ([]);
   for (const chain of chains) {
@@ -204,9 +209,11 @@ const saidOf = (chains, hasText) => {
     ...decision.takenFor ? [`taken for ${decision.takenFor}, with no Sec-Fetch-Dest: ${name}`] : [],
     ...decision.destination !== undefined && isOpen ? [`no entry follows the last redirect: ${name}`] : [],
   ]);
-  const scripts = chains.filter(it => it.decision.destination === 'script' && it.first.initiator === null).length;
-  if (scripts > 0 && !hasText) all.push(`scripts without an initiator, taken for not parser-inserted: ${scripts}`);
-  const workers = chains.filter(it => it.last.response?._fetchedViaServiceWorker).length;
+  const count = (/** @type {(it: Chain) => boolean} */ is) => chains.filter(is).length;
+  const scripts = count(it => it.decision.destination === 'script' && it.first.initiator === null);
+  const many = `scripts without an initiator, taken for not parser-inserted: ${scripts}`;
+  if (scripts > 0 && !hasText) all.push(many);
+  const workers = count(it => it.last.response?._fetchedViaServiceWorker);
   if (workers > 0) all.push(`answered by a service worker, from a URL that isn't recorded: ${workers}`);
   return all.map(said => ({ said }));
 };
@@ -217,8 +224,10 @@ const UNSEEN = [
   'blob: URLs, and the data: URLs that scripts and style sheets load: not looked at',
   'who frames the page: not looked at',
 ];
-const NO_TEXT = 'inline code, nonces, integrity, forms and meta policies, since the recording has no text of this page: '
-  + 'not looked at (export the HAR with content)';
+const NO_TEXT = 'inline code, nonces, integrity, forms and meta policies, since the recording has no text of '
+  + 'this page: not looked at (export the HAR with content)';
+const CACHED = 'the page came from the cache (status 304), and its headers may be missing: record it without '
+  + 'cache';
 
 /**
  * A page of the recording, or a frame or a worker of one.
@@ -228,19 +237,19 @@ const NO_TEXT = 'inline code, nonces, integrity, forms and meta policies, since 
  */
 const pageOf = ({ chain, role, parent, requests }, parse) => {
   const { response, media } = chain.last, url = addressOf(chain), lines = linesOf(response);
-  const isHtml = role !== 'worker' && (media === '' || /html/.test(media)), text = isHtml ? textOf(response?.content) : '';
+  const isHtml = role !== 'worker' && (media === '' || /html/.test(media));
+  const text = isHtml ? textOf(response?.content) : '';
   const page = readHtml(text ?? '', { url, parse, lines, isRecorded: true });
   const judged = requests.filter(it => it.decision.destination !== undefined);
   const isEnforced = [...lines, ...page.meta].some(enforces);
-  const left = /** @type {import('./html.js').Said[]} */ ([...page.left, ...saidOf([chain, ...requests], text !== undefined)]);
-  if (response?.status === 304) {
-    left.push({ said: 'the page came from the cache (status 304), and its headers may be missing: record it without cache' });
-  }
+  const said = saidOf([chain, ...requests], text !== undefined);
+  const left = [...page.left, ...said, ...response?.status === 304 ? [{ said: CACHED }] : []];
   return {
     ...page, role, frameOf: parent === null ? null : addressOf(parent.chain), isEnforced, left,
     pieces: joined(judged, page.pieces, page.meta),
     unseen: [
-      ...isEnforced ? [`what the enforced policy blocked: ${ENFORCED}`] : [], ...text === undefined ? [NO_TEXT] : [],
+      ...isEnforced ? [`what the enforced policy blocked: ${ENFORCED}`] : [],
+      ...text === undefined ? [NO_TEXT] : [],
       ...UNSEEN, ...page.unseen,
     ],
   };
@@ -256,14 +265,19 @@ const entriesOf = text => {
   try {
     har = JSON.parse(text.replace(/^\uFEFF/, ''));
   } catch (error) {
-    throw new ReadingError({ said: `this is no JSON (${error instanceof Error ? error.message : error})`, write });
+    const why = error instanceof Error ? error.message : error;
+    throw new ReadingError({ said: `this is no JSON (${why})`, write });
   }
   const entries = har?.log?.entries;
-  if (!Array.isArray(entries)) throw new ReadingError({ said: 'this is no HAR: log.entries is no array', write });
+  if (!Array.isArray(entries)) {
+    throw new ReadingError({ said: 'this is no HAR: log.entries is no array', write });
+  }
   const at = entries.findIndex(it => typeof it?.request?.url !== 'string');
   if (at < 0) return entries;
   throw new ReadingError({ said: `this is no HAR: entry ${at + 1} has no URL`, write });
 };
+
+const UNSURE = 'requests of which several pages or frames may be the origin, taken for those of the first';
 
 /**
  * Reads a recording. Its pages come in the order of time, each followed by its frames and workers.
@@ -279,11 +293,11 @@ export const readHar = (text, { parse, name }) => {
       const write = 'Reload the page while the network panel records, and export it again';
       throw new ReadingError({ said: "the page's own answer isn't in this recording", write });
     }
-    const left = contexts.settle().map(it => ({ said: `left out, since its page is not in the recording: ${it.name}` }));
-    const many = `requests of which several pages or frames may be the origin, taken for those of the first: ${contexts.unsure}`;
+    const alone = contexts.settle().map(it => `left out, since its page is not in the recording: ${it.name}`);
+    const unsure = contexts.unsure > 0 ? [`${UNSURE}: ${contexts.unsure}`] : [];
     return {
       pages: contexts.all.map(it => pageOf(it, parse)),
-      left: contexts.unsure > 0 ? [...left, { said: many }] : left,
+      left: [...alone, ...unsure].map(said => ({ said })),
     };
   } catch (error) {
     if (!(error instanceof ReadingError) || name === undefined) throw error;

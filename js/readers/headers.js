@@ -1,5 +1,6 @@
-// Headers as people have them become header lines for the engine: a bare value, header blocks, `meta` elements,
-// lines of server configurations, what curl prints, and objects. Nothing here decides what a policy does.
+// Headers as people have them become header lines for the engine: a bare value, header blocks, `meta`
+// elements, lines of server configurations, what curl prints, and objects. Nothing here decides what a
+// policy does.
 import { ReadingError, lineAt } from './error.js';
 import { metaPolicies } from './html.js';
 import { readLiteral } from './literal.js';
@@ -14,7 +15,9 @@ import { asciiLower, isDirective, nearest, DIRECTIVES } from './words.js';
  * @property {Said[]} left what stood there and wasn't taken, or is known only in part
  */
 
-const NAMES = ['Content-Security-Policy', 'Content-Security-Policy-Report-Only', 'Meta-Content-Security-Policy'];
+const NAMES = [
+  'Content-Security-Policy', 'Content-Security-Policy-Report-Only', 'Meta-Content-Security-Policy',
+];
 const NAME = /(?<![\w-])(?:meta-)?content-security-policy(?:-report-only)?(?![\w-])/gi;
 const PAGE = /<(?:!doctype|html|head|meta|body|title|link|script|style)\b/i;
 // What stands before and behind the name on its line, and how a value ends that has no quotes.
@@ -32,7 +35,7 @@ const FORMS = [
   { as: 'a name and a value in quotes', before: /["'`]$/, end: /\n/ },
   { as: 'a header line', before: /^\s*$/, end: /\n/ },
 ];
-const TAKES_AWAY = /\b(?:Header\s+(?:(?:always|onsuccess)\s+)?(?:unset|edit\*?|echo)|proxy_hide_header|header)\s+-?$/i;
+const TAKES_AWAY = /\b(?:Header\s+(?:\w+\s+)?(?:unset|edit\*?|echo)|proxy_hide_header|header)\s+-?$/i;
 
 /** @param {string} text */
 const normal = text => text.replace(/^\uFEFF/, '').replace(/\r\n?/g, '\n');
@@ -59,7 +62,7 @@ const oneLine = (value, line) => {
  */
 const lastBlock = text => {
   const rows = text.split('\n'), isVerbose = rows.some(it => /^< ?HTTP\//.test(it));
-  const isHead = (/** @type {string | undefined} */ it) => it !== undefined && /^(?:< ?)?HTTP\/[\d.]+ \d{3}/.test(it);
+  const isHead = (/** @type {string | undefined} */ it) => /^(?:< ?)?HTTP\/[\d.]+ \d{3}/.test(it ?? '');
   const ends = (/** @type {number} */ at) => {
     const end = rows.findIndex((it, n) => n > at && (isVerbose ? /^<\s*$/ : /^\s*$/).test(it));
     return end < 0 ? rows.length : end;
@@ -70,12 +73,14 @@ const lastBlock = text => {
   let blocks = isVerbose ? rows.filter(isHead).length : 1;
   for (; isHead(rows[ends(at) + 1]); blocks += 1) at = ends(at) + 1;
   const end = ends(at);
-  const isBody = (/** @type {string} */ it, /** @type {number} */ n) => n > end && !(isVerbose && /^[<>*{}](?: |$)/.test(it));
+  const isBody = (/** @type {string} */ it, /** @type {number} */ n) =>
+    n > end && !(isVerbose && /^[<>*{}](?: |$)/.test(it));
+  const said = `the last of ${blocks} blocks of headers: the others are left out`;
   return {
     isSent: true,
     head: rows.map((it, n) => n >= at && n < end && (!isVerbose || it.startsWith('<')) ? it : '').join('\n'),
     body: rows.map((it, n) => isBody(it, n) ? it : '').join('\n'),
-    said: blocks === 1 ? [] : [{ line: at + 1, said: `the last of ${blocks} blocks of headers: the others are left out` }],
+    said: blocks === 1 ? [] : [{ line: at + 1, said }],
   };
 };
 
@@ -89,7 +94,8 @@ const parts = text => {
   const start = PAGE.exec(text)?.index;
   const isPage = start !== undefined && (text.slice(0, start).trim() === '' || /<meta\b/i.test(text));
   if (!isPage) return { isSent: false, head: text, body: '', said: [] };
-  return { isSent: false, head: text.slice(0, start), body: blank(text.slice(0, start)) + text.slice(start), said: [] };
+  const head = text.slice(0, start);
+  return { isSent: false, head, body: blank(head) + text.slice(start), said: [] };
 };
 
 /**
@@ -135,7 +141,8 @@ const folded = (rest, end) => {
 const named = (text, isSent, read) => {
   for (const { index = 0, 0: word } of text.matchAll(NAME)) {
     const line = lineAt(text, index), before = text.slice(text.lastIndexOf('\n', index) + 1, index);
-    const at = index + word.length, after = text.slice(at, at + 200), isComment = /^\s*(?:#|\/\/)/.test(before);
+    const at = index + word.length, after = text.slice(at, at + 200);
+    const isComment = /^\s*(?:#|\/\/)/.test(before);
     const form = FORMS.find(it => it.before.test(before) && (it.after ?? /^/).test(after));
     if (isComment || form === undefined) {
       read.left.push({ line, said: leftOut(word, isComment, TAKES_AWAY.test(before)) });
@@ -147,14 +154,16 @@ const named = (text, isSent, read) => {
     put(NAMES.find(it => asciiLower(it) === asciiLower(word)) ?? '', oneLine(given, line), before, read);
     read.taken.push({ line, said: `read as ${form.as}` });
     if (isLine && found.isQuoted) read.left.push({ line, said: isSent ? QUOTES_SENT : QUOTES_TAKEN });
-    if (/\$\w/.test(given)) read.left.push({ line, said: 'a variable stands in the value: it is taken as it is written' });
+    if (/\$\w/.test(given)) read.left.push({ line, said: VARIABLE });
   }
   const nginx = read.taken.filter(it => it.said.endsWith('nginx directive'));
   if (nginx.length > 1) read.left.push({ line: nginx[0].line, said: NGINX });
 };
 
 const QUOTES_SENT = 'quotes stand around the value: browsers take them as a part of it';
-const QUOTES_TAKEN = 'quotes stand around the value: taken away, since a server that sends them makes the policy void';
+const QUOTES_TAKEN = 'quotes stand around the value: taken away, since a server that sends them makes the '
+  + 'policy void';
+const VARIABLE = 'a variable stands in the value: it is taken as it is written';
 const NGINX = 'all add_header lines are taken together, but nginx sends only those of one block';
 
 /**
@@ -176,7 +185,8 @@ const put = (name, value, before, { lines }) => {
  */
 const leftOut = (name, isComment, takesAway) => {
   if (isComment) return `${name} stands in a comment: left out`;
-  if (takesAway) return `a line that takes ${name} away or edits it: left out, so look at what the server sends`;
+  const look = 'left out, so look at what the server sends';
+  if (takesAway) return `a line that takes ${name} away or edits it: ${look}`;
   return `${name} stands in a text that is no known form: left out`;
 };
 
@@ -187,13 +197,21 @@ const isDirectiveRow = row => {
 };
 
 /**
+ * A line without the quotes around it. The quote of a keyword at its end stays.
+ * @param {string} row
+ */
+const unquoted = row => {
+  const bare = row.replace(/^["'`](?=[a-z])|["'`][,;]*$/gi, '');
+  return /(?:^|\s)'[^\s']+$/.test(bare) ? `${bare}'` : bare;
+};
+
+/**
  * A bare value, in one line or with a directive in each.
  * @param {string} text
  * @param {Headers} read
  */
 const bare = (text, read) => {
-  const rows = text.split('\n').map((it, n) => ({ text: it.trim().replace(/^["'`](?=[a-z])|["'`][,;]*$/gi, ''), line: n + 1 }))
-    .map(it => ({ ...it, text: /(?:^|\s)'[\w-]+$/.test(it.text) ? `${it.text}'` : it.text }))
+  const rows = text.split('\n').map((it, n) => ({ text: unquoted(it.trim()), line: n + 1 }))
     .filter(it => it.text !== '' && !it.text.startsWith('#'));
   if (rows.length === 0 || !isDirectiveRow(rows[0].text)) return;
   let value = '';
@@ -217,7 +235,9 @@ const passedOver = (text, read) => text.split('\n').forEach((row, n) => {
   const near = nearest(name, NAMES.map(asciiLower));
   const meant = NAMES.find(it => asciiLower(it) === near);
   if (old) read.left.push({ line, said: `browsers pass over ${name}: write Content-Security-Policy` });
-  else if (meant) read.left.push({ line, said: `browsers pass over ${name}, is it misspelt? Write ${meant}` });
+  else if (meant) {
+    read.left.push({ line, said: `browsers pass over ${name}, is it misspelt? Write ${meant}` });
+  }
 });
 
 /**
@@ -247,8 +267,8 @@ const objects = (text, read) => {
 /**
  * Reads headers in any form that people have them in.
  * @param {string} given
- * @param {{parse?: import('./html.js').Parse, name?: string}} options `parse` makes a tree of HTML; `name` is the
- * name of the file, for errors
+ * @param {{parse?: import('./html.js').Parse, name?: string}} options `parse` makes a tree of HTML;
+ * `name` is the name of the file, for errors
  * @returns {Headers}
  */
 export const readHeaders = (given, { parse, name } = {}) => {
@@ -298,7 +318,9 @@ const ended = (text, read) => {
   const rows = text.split('\n'), at = rows.findIndex(it => it.trim() !== '');
   const isKnown = read.left.length > 0 || /^\s*[[{<]/.test(text)
     || rows.every(it => /^\s*$|^(?:[<>*{}] ?)?(?:HTTP\/|:?[\w-]+\s*:)/.test(it));
-  if (!isKnown) throw new ReadingError({ said: 'no policy stands in this', found: rows[at], write: WRITE, line: at + 1 });
+  if (!isKnown) {
+    throw new ReadingError({ said: 'no policy stands in this', found: rows[at], write: WRITE, line: at + 1 });
+  }
   read.left.push({ line: at + 1, said: 'no policy stands in this: nothing is blocked' });
   return read;
 };

@@ -1,4 +1,5 @@
-// The entries of a HAR as requests: hops are joined to chains of redirects, and each chain is told what it was for.
+// The entries of a HAR as requests: hops are joined to chains of redirects, and each chain is told what
+// it was for.
 import { asciiLower } from './words.js';
 import { urlOf } from './urls.js';
 
@@ -27,8 +28,8 @@ import { urlOf } from './urls.js';
 
 const BY_TYPE = /** @type {Record<string, string>} */ ({
   document: 'document', stylesheet: 'style', script: 'script', image: 'image', font: 'font', media: 'video',
-  texttrack: 'track', manifest: 'manifest', xhr: '', fetch: '', eventsource: '', websocket: '', webtransport: '',
-  ping: '',
+  texttrack: 'track', manifest: 'manifest', xhr: '', fetch: '', eventsource: '', websocket: '',
+  webtransport: '', ping: '',
 });
 const DESTINATIONS = ['', 'audio', 'audioworklet', 'embed', 'font', 'frame', 'iframe', 'image', 'manifest',
   'object', 'paintworklet', 'script', 'serviceworker', 'sharedworker', 'style', 'track', 'video', 'worker'];
@@ -59,8 +60,8 @@ const isReport = ({ _resourceType, request }) => _resourceType === 'csp-violatio
   || /^application\/(csp-report|reports[+]json)/.test(header(request.headers, 'content-type') ?? '');
 
 /** @param {any} entry */
-const isPrefetch = ({ _resourceType, request }) => _resourceType === 'prefetch'
-  || (header(request.headers, 'sec-purpose') ?? header(request.headers, 'purpose') ?? '').startsWith('prefetch');
+const isPrefetch = ({ _resourceType, request: { headers } }) => _resourceType === 'prefetch'
+  || (header(headers, 'sec-purpose') ?? header(headers, 'purpose') ?? '').startsWith('prefetch');
 
 /**
  * The URLs of what began a request: of the parser's text, or of the scripts that were running.
@@ -70,7 +71,8 @@ const isPrefetch = ({ _resourceType, request }) => _resourceType === 'prefetch'
 const beganBy = initiator => {
   const urls = typeof initiator?.url === 'string' ? [initiator.url] : [];
   for (let stack = initiator?.stack; stack; stack = stack.parent) {
-    for (const frame of Array.isArray(stack.callFrames) ? stack.callFrames : []) urls.push(String(frame?.url));
+    const frames = Array.isArray(stack.callFrames) ? stack.callFrames : [];
+    for (const it of frames) urls.push(String(it?.url));
   }
   return urls.filter(it => it !== '');
 };
@@ -113,7 +115,8 @@ const hopsOf = entries => {
 };
 
 /**
- * How a URL is found again in another spelling: by the host in lower case, with a path and without a fragment.
+ * How a URL is found again in another spelling: by the host in lower case, with a path and without a
+ * fragment.
  * @param {string} url
  */
 export const keyOf = url => (urlOf(url)?.href ?? url).replace(/#.*/, '');
@@ -161,7 +164,8 @@ const decisionOf = chain => {
   const told = chain.map(it => it.told).find(has) ?? null;
   const type = chain.map(it => BY_TYPE[it.type ?? 'other']).find(has) ?? null;
   const word = told ?? type ?? byMedia(chain[chain.length - 1].media);
-  if (!/^(https?|wss?|data|blob|filesystem):/.test(first.url)) return { leftOut: "pages don't fetch such URLs" };
+  const isFetched = /^(https?|wss?|data|blob|filesystem):/.test(first.url);
+  if (!isFetched) return { leftOut: "pages don't fetch such URLs" };
   if (chain.some(it => it.isPrefetch)) return { leftOut: "prefetches aren't judged" };
   if (told === 'document') return { isPage: true };
   if (told === 'empty') return { destination: '' };
@@ -191,5 +195,6 @@ const decisionOf = chain => {
 export const requestsOf = entries => chainsOf(hopsOf(entries)).map(chain => {
   const first = chain[0], last = chain[chain.length - 1];
   const urls = [...chain.map(it => it.url), ...last.next === null ? [] : [last.next]].slice(0, 21);
-  return { first, last, urls, name: urls.join(' -> '), isOpen: last.next !== null, decision: decisionOf(chain) };
+  const name = urls.join(' -> '), isOpen = last.next !== null;
+  return { first, last, urls, name, isOpen, decision: decisionOf(chain) };
 });

@@ -1,5 +1,5 @@
-// What a page's HTML loads, runs and does, as requests for the engine, each under the `meta` policies that stand
-// before it. One walk serves the trees of parse5 (parse5.js) and of a browser (dom.js).
+// What a page's HTML loads, runs and does, as requests for the engine, each under the `meta` policies
+// that stand before it. One walk serves the trees of parse5 (parse5.js) and of a browser (dom.js).
 import { isHandler } from './handlers.js';
 import { ReadingError } from './error.js';
 import { fetchesOf } from './elements.js';
@@ -24,7 +24,8 @@ import { asciiLower } from './words.js';
  * @property {(node: any) => string} text the text nodes of an element
  * @property {(node: any) => Told} told
  * @typedef {(text: string) => Tree} Parse
- * @typedef {Told & {get: (name: string) => string | undefined, text: () => string, parent: Element | null}} Element
+ * @typedef {Told & {get: (name: string) => string | undefined, text: () => string, parent: Element |
+ * null}} Element
  *
  * @typedef {Record<string, any> & {kind: string}} Request a request in the engine's form
  * @typedef {object} Piece
@@ -47,20 +48,29 @@ import { asciiLower } from './words.js';
  */
 
 const HTML = 'http://www.w3.org/1999/xhtml', SVG = 'http://www.w3.org/2000/svg';
-const JAVASCRIPT = /^(?:(?:application|text)\/(?:x-)?(?:ecma|java)script|text\/(?:javascript1\.[0-5]|jscript|livescript))$/;
+// JavaScript MIME types (MIME Sniffing)
+const JAVASCRIPT = [
+  'application/ecmascript', 'application/javascript', 'application/x-ecmascript', 'application/x-javascript',
+  'text/ecmascript', 'text/javascript', 'text/javascript1.0', 'text/javascript1.1', 'text/javascript1.2',
+  'text/javascript1.3', 'text/javascript1.4', 'text/javascript1.5', 'text/jscript', 'text/livescript',
+  'text/x-ecmascript', 'text/x-javascript',
+];
 const POLICY = 'content-security-policy';
+const BASE_ALLOWED = 'relative URLs below <base> are taken to begin there, as they do where base-uri '
+  + 'allows it';
+const BASE_BLOCKED = '<base> is taken to be blocked: relative URLs begin at the page';
 
 /**
- * Whether a browser that runs scripts does nothing with what stands in an element, which is then not looked at. Some
- * templates become a shadow tree.
+ * Whether a browser that runs scripts does nothing with what stands in an element, which is then not
+ * looked at. Some templates become a shadow tree.
  * @param {Told & {get: (name: string) => string | undefined}} element
  */
 const hides = ({ tag, namespace, get }) => tag === 'noscript'
   || tag === 'template' && namespace === HTML && !/^(?:open|closed)$/i.test(get('shadowrootmode') ?? '');
 
 /**
- * The elements of a tree in the order of the text. What stands in `noscript` and in templates is left out, but for
- * templates that become a shadow tree.
+ * The elements of a tree in the order of the text. What stands in `noscript` and in templates is left
+ * out, but for templates that become a shadow tree.
  * @param {Tree} tree
  * @returns {Generator<Element>}
  */
@@ -75,7 +85,10 @@ function* elements(tree) {
       if (hides(element)) continue;
       if (element.tag === 'template' && element.namespace === HTML) inner = tree.content(node);
     }
-    for (const child of tree.children(inner).reverse()) waiting.push({ node: child, parent: element });
+    const children = tree.children(inner);
+    for (let at = children.length - 1; at >= 0; at -= 1) {
+      waiting.push({ node: children[at], parent: element });
+    }
   }
 }
 
@@ -86,26 +99,30 @@ function* elements(tree) {
  * @returns {Element}
  */
 const elementOf = (tree, node, parent) => {
-  const told = tree.told(node), values = new Map([...told.attributes].reverse());
-  return { ...told, parent, get: name => values.get(name), text: () => tree.text(node) };
+  const told = tree.told(node), { attributes } = told;
+  const get = (/** @type {string} */ name) => attributes.find(it => it[0] === name)?.[1];
+  return { ...told, parent, get, text: () => tree.text(node) };
 };
 
 /**
- * What a `meta` element does for the policies of a page (HTML, "Content security policy state"), or nothing where
- * it names none.
+ * What a `meta` element does for the policies of a page (HTML, "Content security policy state"), or
+ * nothing where it names none.
  * @param {Element} element
  * @returns {{counts: boolean, text: string, said: string, line?: number} | undefined}
  */
 const metaOf = element => {
   if (element.tag !== 'meta' || element.namespace !== HTML) return undefined;
-  const name = asciiLower(element.get('http-equiv') ?? ''), value = element.get('content') ?? '', { line } = element;
+  const given = element.get('http-equiv') ?? '', name = asciiLower(given);
+  const value = element.get('content') ?? '';
   if (!name.startsWith(POLICY)) return undefined;
-  const text = `Meta-Content-Security-Policy: ${value.replace(/\s+/g, ' ').trim()}`;
-  const no = (/** @type {string} */ why) => ({ counts: false, text, line, said: `a meta element without effect: ${why}` });
-  if (name !== POLICY) return no(`no meta element carries ${element.get('http-equiv')}`);
+  const text = `Meta-Content-Security-Policy: ${value.replace(/\s+/g, ' ').trim()}`, { line } = element;
+  const no = (/** @type {string} */ why) =>
+    ({ counts: false, text, line, said: `a meta element without effect: ${why}` });
+  if (name !== POLICY) return no(`no meta element carries ${given}`);
   if (element.parent?.tag !== 'head') return no('it stands outside of head');
   if (value === '') return no('its content is empty');
-  if (/[\0-\x08\x0e-\x1f\x7f]/.test(value)) return no('a character stands in it that no policy file can hold');
+  const isWritable = !/[\0-\x08\x0e-\x1f\x7f]/.test(value);
+  if (!isWritable) return no('a character stands in it that no policy file can hold');
   return { counts: true, text, line, said: 'read as a meta element' };
 };
 
@@ -116,28 +133,45 @@ const metaOf = element => {
 export const metaPolicies = tree => [...elements(tree)].flatMap(it => metaOf(it) ?? []);
 
 /**
- * What a script element would run (HTML, "prepare the script element"): its type, or nothing where it runs nothing.
+ * What a script element would run (HTML, "prepare the script element"): its type, or nothing where it
+ * runs nothing.
  * @param {Element} element
  * @returns {'classic' | 'module' | 'importmap' | 'speculationrules' | undefined}
  */
 export const scriptType = element => {
   const type = element.get('type'), language = element.get('language');
   const isBare = type === '' || type === undefined && (language === undefined || language === '');
-  const word = isBare ? 'text/javascript' : asciiLower(type?.replace(/^[\t\n\f\r ]+|[\t\n\f\r ]+$/g, '') ?? `text/${language}`);
+  const given = type?.replace(/^[\t\n\f\r ]+|[\t\n\f\r ]+$/g, '') ?? `text/${language}`;
+  const word = isBare ? 'text/javascript' : asciiLower(given);
   if (word === 'module' || word === 'importmap' || word === 'speculationrules') return word;
-  if (!JAVASCRIPT.test(word) || element.get('nomodule') !== undefined) return undefined;
+  if (!JAVASCRIPT.includes(word) || element.get('nomodule') !== undefined) return undefined;
   const target = element.get('for')?.trim(), event = element.get('event')?.trim();
   const isOld = target !== undefined && event !== undefined;
   return isOld && !(/^window$/i.test(target) && /^onload(?:\(\))?$/i.test(event)) ? undefined : 'classic';
 };
 
-/** The walk through one page, and through the `srcdoc` of its frames, which take the policies of the page with them. */
+/**
+ * Where an attribute stands, or its element.
+ * @param {Element} element
+ * @param {string} [attribute]
+ */
+const placeOf = (element, attribute) => {
+  const at = attribute === undefined ? undefined : element.at(attribute);
+  return { line: at?.startLine ?? element.line, column: at?.startCol ?? element.column };
+};
+
+/**
+ * The walk through one page, and through the `srcdoc` of its frames, which take the policies of the page
+ * with them.
+ */
 class Walk {
   /**
    * @param {string} url
    * @param {Parse} parse
+   * @param {boolean} isBaseBlocked
    */
-  constructor(url, parse) {
+  constructor(url, parse, isBaseBlocked) {
+    this.isBaseBlocked = isBaseBlocked;
     this.url = url;
     this.base = url;
     this.parse = parse;
@@ -174,6 +208,15 @@ class Walk {
     this.page.pieces.push({ request: { ...request, note }, meta: this.meta, said: all, ...place, ...rest });
   }
 
+  /**
+   * Tells of what stands there and makes no request, or not this one alone.
+   * @param {number | undefined} line
+   * @param {string} said
+   */
+  leave(line, said) {
+    this.page.left.push({ line, said: `${this.inside}${said}` });
+  }
+
   /** @param {Element} element */
   visit(element) {
     const { tag, namespace } = element, isSvg = namespace === SVG;
@@ -198,16 +241,16 @@ class Walk {
   attributes(element) {
     const { tag } = element;
     for (const [name, source] of element.attributes) {
-      const at = element.at(name), line = at?.startLine ?? element.line, column = at?.startCol ?? element.column;
+      if (name !== 'style' && !name.startsWith('on')) continue;
+      const place = placeOf(element, name), { line } = place, said = `${name} of <${tag}>`;
       if (name === 'style') {
-        this.add({ kind: 'inline', type: 'style-attribute', source }, `style of <${tag}>`, { line, column });
+        this.add({ kind: 'inline', type: 'style-attribute', source }, said, place);
         this.sheet(source);
       } else if (isHandler(name, tag)) {
-        if (this.mayRun(`${name} of <${tag}>`, line)) {
-          this.add({ kind: 'inline', type: 'script-attribute', source }, `${name} of <${tag}>`, { line, column });
-        }
+        const request = { kind: 'inline', type: 'script-attribute', source };
+        if (this.mayRun(said, line)) this.add(request, said, place);
       } else if (/^on[a-z]/.test(name)) {
-        this.page.left.push({ line, said: `${name} of <${tag}> is no event handler that browsers have: left out` });
+        this.leave(line, `${said} is no event handler that browsers have: left out`);
       }
     }
   }
@@ -219,7 +262,7 @@ class Walk {
    */
   mayRun(said, line) {
     if (this.runsScripts) this.needs.add('scripts');
-    else this.page.left.push({ line, said: `${this.inside}${said}: left out, since the frame's sandbox lets no script run` });
+    else this.leave(line, `${said}: left out, since the frame's sandbox lets no script run`);
     return this.runsScripts;
   }
 
@@ -236,9 +279,10 @@ class Walk {
     const type = scriptType(element), { line } = element, nonce = element.get('nonce');
     if (type === undefined || !this.mayRun('<script>', line)) return;
     if (element.isDoubled && nonce !== undefined) {
-      this.page.left.push({ line, said: 'an attribute of <script> stands twice: Chromium passes over its nonce' });
+      this.leave(line, 'an attribute of <script> stands twice: Chromium passes over its nonce');
     }
-    const attribute = (element.namespace === SVG ? ['href', 'xlink:href'] : ['src']).find(it => element.get(it) !== undefined);
+    const names = element.namespace === SVG ? ['href', 'xlink:href'] : ['src'];
+    const attribute = names.find(it => element.get(it) !== undefined);
     if (attribute !== undefined) this.scriptFile(element, type, attribute);
     else this.scriptText(element, type);
   }
@@ -249,13 +293,13 @@ class Walk {
    * @param {string} attribute
    */
   scriptFile(element, type, attribute) {
-    const integrity = element.get('integrity'), nonce = element.get('nonce'), url = element.get(attribute) ?? '';
-    if (type === 'classic' || type === 'module') {
-      const said = `${attribute} of <script>`;
-      this.reference(element, { destination: 'script', url, attribute, said, nonce, integrity, isParsed: true });
-    } else {
-      this.page.left.push({ line: element.line, said: `<script type=${type}> with a URL: browsers don't load it` });
+    if (type === 'importmap' || type === 'speculationrules') {
+      this.leave(element.line, `<script type=${type}> with a URL: browsers don't load it`);
+      return;
     }
+    const url = element.get(attribute) ?? '', said = `${attribute} of <script>`;
+    const also = { nonce: element.get('nonce'), integrity: element.get('integrity'), isParsed: true };
+    this.reference(element, { destination: 'script', url, attribute, said, ...also });
   }
 
   /**
@@ -266,7 +310,7 @@ class Walk {
     const source = element.text(), said = type === 'classic' ? '<script>' : `<script type=${type}>`;
     if (source === '') return;
     if (type === 'speculationrules') {
-      this.page.left.push({ line: element.line, said: "'inline-speculation-rules' isn't looked at for speculation rules" });
+      this.leave(element.line, "'inline-speculation-rules' isn't looked at for speculation rules");
     }
     this.add({ kind: 'inline', type: 'script', source, ...Walk.elementMember(element) }, said, element);
   }
@@ -292,12 +336,12 @@ class Walk {
     if (url === undefined) return;
     this.isBased = true;
     if (/^(?:data|javascript):$/.test(url.protocol)) {
-      this.page.left.push({ line: element.line, said: `<base href> of ${url.protocol} has no effect` });
+      this.leave(element.line, `<base href> of ${url.protocol} has no effect`);
       return;
     }
     this.add({ kind: 'base', url: url.href }, '<base href>', element);
-    this.base = url.href;
-    this.page.left.push({ line: element.line, said: 'relative URLs below <base> are taken to begin there, as they do where base-uri allows it' });
+    this.leave(element.line, this.isBaseBlocked ? BASE_BLOCKED : BASE_ALLOWED);
+    if (!this.isBaseBlocked) this.base = url.href;
   }
 
   /**
@@ -307,7 +351,7 @@ class Walk {
    */
   resolved(text, line, base = this.base) {
     const url = urlOf(text, base);
-    if (url === undefined) this.page.left.push({ line, said: `this is no URL, and is left out: "${text}"` });
+    if (url === undefined) this.leave(line, `this is no URL, and is left out: "${text}"`);
     return url;
   }
 
@@ -317,23 +361,25 @@ class Walk {
    * @param {import('./elements.js').Fetch} fetch
    */
   reference(element, { destination, url: text, said, nonce, integrity, isParsed, possible, attribute }) {
-    const at = attribute === undefined ? undefined : element.at(attribute);
-    const line = at?.startLine ?? element.line, column = at?.startCol ?? element.column;
+    const place = placeOf(element, attribute), { line } = place;
     const url = text.trim() === '' ? undefined : this.resolved(text, line);
     if (url === undefined || url.protocol === 'about:') return;
     if (url.protocol === 'javascript:') {
       const isFrame = ['iframe', 'frame', 'object', 'embed'].includes(destination);
-      if (isFrame) this.navigation(url, `javascript: URL of <${element.tag}>`, { line, column });
+      if (isFrame) this.navigation(url, element, place);
       return;
     }
-    const also = { ...nonce ? { nonce } : {}, ...integrity ? { integrity } : {}, ...isParsed ? { 'parser-inserted': true } : {} };
-    const asked = this.upgraded(url, destination, line);
-    this.add({ kind: 'fetch', destination, url: asked, ...also }, said, { line, column, possible });
+    const request = {
+      kind: 'fetch', destination, url: this.upgraded(url, destination, line),
+      ...nonce ? { nonce } : {}, ...integrity ? { integrity } : {},
+      ...isParsed ? { 'parser-inserted': true } : {},
+    };
+    this.add(request, said, { ...place, possible });
   }
 
   /**
-   * The URL that a browser asks for: on a page of https it loads images, sound and video by https, and no rule looks
-   * at what a data URL holds.
+   * The URL that a browser asks for: on a page of https it loads images, sound and video by https, and no
+   * rule looks at what a data URL holds.
    * @param {URL} url
    * @param {string} destination
    * @param {number} [line]
@@ -343,27 +389,29 @@ class Walk {
     const isMixed = url.protocol === 'http:' && this.url.startsWith('https:');
     const isAddress = /^[\d.]+$|^\[/.test(url.hostname);
     if (!isMixed || isAddress || !['image', 'audio', 'video'].includes(destination)) return url.href;
-    this.page.left.push({ line, said: `${url.href} is taken for https, as browsers load it; a report-only policy sees http` });
+    this.leave(line, `${url.href} is taken for https, as browsers load it; a report-only policy sees http`);
     return url.href.replace(/^http:/, 'https:');
   }
 
   /**
    * @param {URL} url
-   * @param {string} said
-   * @param {{line?: number, column?: number}} place
+   * @param {Element} element
+   * @param {{line?: number, column?: number}} [place]
    */
-  navigation(url, said, place) {
-    if (this.mayRun(said, place.line)) this.add({ kind: 'inline', type: 'navigation', source: url.href }, said, place);
+  navigation(url, element, place = element) {
+    const said = `javascript: URL of <${element.tag}>`;
+    const request = { kind: 'inline', type: 'navigation', source: url.href };
+    if (this.mayRun(said, place.line)) this.add(request, said, place);
   }
 
   /** @param {Element} element */
   link(element) {
-    const href = element.get('href') ?? element.get('xlink:href'), { tag, line, column } = element;
+    const href = element.get('href') ?? element.get('xlink:href'), { tag, line } = element;
     if (element.get('target') === '_blank') this.needs.add('popups');
     if (element.get('download') !== undefined) this.needs.add('downloads');
     this.late.push(() => {
       const url = href === undefined ? undefined : this.resolved(href, line);
-      if (url?.protocol === 'javascript:') this.navigation(url, `javascript: URL of <${tag}>`, { line, column });
+      if (url?.protocol === 'javascript:') this.navigation(url, element);
       for (const ping of (element.get('ping') ?? '').split(/\s+/).filter(it => it !== '')) {
         this.reference(element, { destination: '', url: ping, said: `ping of <${tag}>`, possible: true });
       }
@@ -376,36 +424,41 @@ class Walk {
    */
   form(element, name) {
     if (/^dialog$/i.test(element.get(name === 'action' ? 'method' : 'formmethod') ?? '')) return;
-    const { tag, line, column } = element, said = `${name} of <${tag}>`, action = element.get(name) ?? '';
-    const url = action.trim() === '' ? new URL(this.url) : this.resolved(action, line);
+    const action = element.get(name) ?? '';
+    const url = action.trim() === '' ? new URL(this.url) : this.resolved(action, element.line);
     if (url === undefined) return;
     this.needs.add('forms');
-    if (url.protocol === 'javascript:') this.navigation(url, `javascript: URL of <${tag}>`, { line, column });
-    else this.add({ kind: 'form', url: url.href }, said, element);
+    if (url.protocol === 'javascript:') this.navigation(url, element);
+    else this.add({ kind: 'form', url: url.href }, `${name} of <${element.tag}>`, element);
   }
 
   /** @param {Element} element a frame whose page stands in its attribute */
   srcdoc(element) {
-    const inner = new Walk(this.url, this.parse), sandbox = element.get('sandbox'), { line } = element;
+    const inner = new Walk(this.url, this.parse, this.isBaseBlocked);
+    const sandbox = element.get('sandbox'), { line } = element;
     inner.base = this.base;
     inner.meta = this.meta;
     inner.inside = `${this.inside}in srcdoc of <iframe>: `;
     inner.needs = this.needs;
-    inner.runsScripts = this.runsScripts && (sandbox === undefined || /(?:^|\s)allow-scripts(?:\s|$)/i.test(sandbox));
+    const allows = sandbox === undefined || /(?:^|\s)allow-scripts(?:\s|$)/i.test(sandbox);
+    inner.runsScripts = this.runsScripts && allows;
     inner.walk(this.parse(element.get('srcdoc') ?? ''));
     const { pieces, taken, left } = inner.page, place = { line, column: element.column };
     for (const it of pieces) {
-      this.page.pieces.push({ ...it, ...place, request: { ...it.request, note: `line ${line}: ${it.said}` } });
+      const request = { ...it.request, note: `line ${line}: ${it.said}` };
+      this.page.pieces.push({ ...it, ...place, request });
     }
     this.page.taken.push(...taken.map(({ said }) => ({ line, said: `${inner.inside}${said}` })));
     this.page.left.push(...left.map(({ said }) => ({ line, said })));
-    for (const name of /** @type {const} */ (['noscript', 'template', 'sheets'])) this.hidden[name] += inner.hidden[name];
+    this.hidden.noscript += inner.hidden.noscript;
+    this.hidden.template += inner.hidden.template;
+    this.hidden.sheets += inner.hidden.sheets;
   }
 }
 
 const UNSEEN = [
-  'what scripts do as they run (calls, sockets, workers, code and elements that they insert, eval, WebAssembly): '
-    + 'not looked at',
+  'what scripts do as they run (calls, sockets, workers, code and elements that they insert, eval, '
+    + 'WebAssembly): not looked at',
   'what style sheets, frames and modules load in their turn: not looked at',
   'who frames the page: not looked at',
 ];
@@ -425,17 +478,21 @@ const hiddenSaid = ({ noscript, template, sheets }, isRecorded) => [
 /**
  * Reads a page's HTML.
  * @param {string} text
- * @param {{url: string, parse: Parse, lines?: string[], isRecorded?: boolean}} options the address of the page, what
- * makes a tree of HTML, header lines of the response, and whether a recording tells what the page loaded
+ * @param {object} options
+ * @param {string} options.url the address of the page
+ * @param {Parse} options.parse what makes a tree of HTML
+ * @param {string[]} [options.lines] header lines of the response
+ * @param {boolean} [options.isRecorded] whether a recording tells what the page loaded
+ * @param {boolean} [options.isBaseBlocked] whether `base` has no effect, since a policy blocks it
  * @returns {Page}
  */
-export const readHtml = (text, { url, parse, lines = [], isRecorded = false }) => {
+export const readHtml = (text, { url, parse, lines = [], isRecorded = false, isBaseBlocked = false }) => {
   const address = urlOf(url);
   if (address === undefined) {
     const write = 'Write one as https://www.example/';
     throw new ReadingError({ said: 'this is no address of a page', found: url, write });
   }
-  const walk = new Walk(url, parse);
+  const walk = new Walk(url, parse, isBaseBlocked);
   walk.walk(parse(text.replace(/^\uFEFF/, '')));
   walk.capabilities();
   const unseen = [...isRecorded ? [] : UNSEEN, ...hiddenSaid(walk.hidden, isRecorded)];

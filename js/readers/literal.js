@@ -1,5 +1,6 @@
-// Reads a literal of JavaScript: objects, arrays, texts, numbers and the words true, false, null and undefined.
-// JSON is such a literal. Code inside it is refused, since only running it would tell what it gives.
+// Reads a literal of JavaScript: objects, arrays, texts, numbers and the words true, false, null and
+// undefined. JSON is such a literal. Code inside it is refused, since only running it would tell what it
+// gives.
 import { ReadingError, lineAt } from './error.js';
 
 const SPACE = /(?:\s|\/\/[^\n]*|\/\*[\s\S]*?\*\/)*/y;
@@ -9,14 +10,16 @@ const NUMBER = /-?\d+(?:\.\d+)?(?:[eE][-+]?\d+)?/y;
 const WORDS = new Map(/** @type {[string, unknown][]} */ ([
   ['true', true], ['false', false], ['null', null], ['undefined', undefined],
 ]));
-const ESCAPES = new Map([['n', '\n'], ['t', '\t'], ['r', '\r'], ['b', '\b'], ['f', '\f'], ['v', '\v'], ['0', '\0']]);
+const ESCAPES = new Map([
+  ['n', '\n'], ['t', '\t'], ['r', '\r'], ['b', '\b'], ['f', '\f'], ['v', '\v'], ['0', '\0'], ['\n', ''],
+]);
 
 /** @param {string} text */
 const unescaped = text => text.slice(1, -1).replace(
   /\\(?:u([0-9a-fA-F]{4})|u\{([0-9a-fA-F]+)\}|x([0-9a-fA-F]{2})|([\s\S]))/g,
   (_, four, many, two, one) => {
     const code = four ?? many ?? two;
-    return code !== undefined ? String.fromCodePoint(parseInt(code, 16)) : one === '\n' ? '' : ESCAPES.get(one) ?? one;
+    return code === undefined ? ESCAPES.get(one) ?? one : String.fromCodePoint(parseInt(code, 16));
   });
 
 class Literal {

@@ -1,5 +1,5 @@
-// Marks of what in a policy is probably not what its writer meant. Each rule looks at the words alone; what a policy
-// does, the engine says.
+// Marks of what in a policy is probably not what its writer meant. Each rule looks at the words alone;
+// what a policy does, the engine says.
 import { asciiLower, DEPRECATED, DIRECTIVES, KEYWORDS, isDirective, nearest } from './words.js';
 
 /**
@@ -12,9 +12,12 @@ import { asciiLower, DEPRECATED, DIRECTIVES, KEYWORDS, isDirective, nearest } fr
  */
 
 // Directives whose values aren't sources.
-const NO_SOURCES = ['sandbox', 'report-uri', 'report-to', 'require-trusted-types-for', 'trusted-types', 'webrtc'];
+const NO_SOURCES = [
+  'sandbox', 'report-uri', 'report-to', 'require-trusted-types-for', 'trusted-types', 'webrtc',
+];
+const HEADER_ONLY = ['frame-ancestors', 'sandbox', 'report-uri'];
 const NONCE_OR_HASH = /^'(?:nonce|sha256|sha384|sha512)-/i;
-const BARE = /^(?:self|none|unsafe-inline|unsafe-eval|unsafe-hashes|strict-dynamic|report-sample|wasm-unsafe-eval|nonce-\S+|sha(?:256|384|512)-\S+)$/i;
+const BARE = /^(?:nonce-\S+|sha(?:256|384|512)-\S+)$/i;
 
 /**
  * The pieces of header lines, split as the standard splits them: a header at commas, a policy at semicolons.
@@ -42,13 +45,15 @@ export const piecesOf = text => text.split(';').map(it => it.trim()).filter(it =
 /** @type {Rule} */
 const quotes = ({ text }) => {
   const found = /[\u2018\u2019\u201A\u201B\u201C\u201D\u2032\u2033\u00B4]/.exec(text)?.[0];
-  if (found !== undefined) return [`"${found}" is a typographic quote, which makes browsers drop the directive: write '`];
-  return [/[^\0-\x7f]/.test(text) ? 'a character outside ASCII makes browsers drop the directive' : undefined];
+  const drops = 'makes browsers drop the directive';
+  if (found !== undefined) return [`"${found}" is a typographic quote, which ${drops}: write '`];
+  return [/[^\0-\x7f]/.test(text) ? `a character outside ASCII ${drops}` : undefined];
 };
 
 /** @type {Rule} */
-const semicolon = ({ name, values }) => values.map(it => isDirective(asciiLower(it)) && !NO_SOURCES.includes(name)
-  ? `${it} is the name of a directive, and counts as a source here: is a semicolon missing before it?` : undefined);
+const semicolon = ({ name, values }) => NO_SOURCES.includes(name) ? [] : values
+  .filter(it => isDirective(asciiLower(it)))
+  .map(it => `${it} names a directive, and counts as a source here: is a semicolon missing before it?`);
 
 /** @type {Rule} */
 const comma = ({ name, text, values }, policy) => {
@@ -56,7 +61,7 @@ const comma = ({ name, text, values }, policy) => {
   const inMeta = policy.from === 'meta' ? values.filter(it => it.includes(',')) : [];
   return [
     isBehind ? `a comma stands before ${name}, and begins another policy: was a space meant?` : undefined,
-    ...inMeta.map(it => `${it} has a comma, which in a meta element is a part of the word: was a space meant?`),
+    ...inMeta.map(it => `${it} has a comma, which a meta element keeps in the word: was a space meant?`),
   ];
 };
 
@@ -72,7 +77,8 @@ const names = ({ name }, policy) => {
 /** @type {Rule} */
 const keywords = ({ name, values }) => NO_SOURCES.includes(name) ? [] : values.map(it => {
   const word = asciiLower(it);
-  if (BARE.test(it)) return `${it} without quotes is a host of that name: write '${it}'`;
+  const isBare = BARE.test(it) || KEYWORDS.includes(`'${word}'`);
+  if (isBare) return `${it} without quotes is a host of that name: write '${it}'`;
   if (!/^["'].*["']$/.test(it) || KEYWORDS.includes(word) || NONCE_OR_HASH.test(word)) return undefined;
   const near = nearest(word.replace(/"/g, "'"), KEYWORDS);
   return `${it} matches nothing${near === undefined ? '' : `: write ${near}`}`;
@@ -85,7 +91,8 @@ const voided = ({ values }) => {
     ...has(/^'nonce-/) ? ['a nonce'] : [], ...has(/^'sha(?:256|384|512)-/) ? ['a hash'] : [],
     ...has(/^'strict-dynamic'$/) ? ["'strict-dynamic'"] : [],
   ];
-  return [words.includes("'unsafe-inline'") && by.length > 0 ? `'unsafe-inline' has no effect beside ${by.join(' and ')}` : undefined];
+  const isVoid = words.includes("'unsafe-inline'") && by.length > 0;
+  return [isVoid ? `'unsafe-inline' has no effect beside ${by.join(' and ')}` : undefined];
 };
 
 /** @type {Rule} */
@@ -97,8 +104,8 @@ const twice = (directive, { directives }) => [directives.find(it => it.name === 
   ? `${directive.name} stands twice: the first one counts` : undefined];
 
 /** @type {Rule} */
-const unmeta = ({ name }, { from }) => [from === 'meta' && ['frame-ancestors', 'sandbox', 'report-uri'].includes(name)
-  ? `${name} has no effect in a meta element: write it in a header` : undefined];
+const unmeta = ({ name }, { from }) => from === 'meta' && HEADER_ONLY.includes(name)
+  ? [`${name} has no effect in a meta element: write it in a header`] : [];
 
 const RULES = [quotes, semicolon, comma, names, keywords, voided, none, twice, unmeta];
 

@@ -5,9 +5,10 @@ import { asciiLower, isDirective } from './words.js';
 const NAME = /^content-security-policy(?:-report-only)?$/i;
 // What helmet adds for each directive that its options leave out (helmet 4 to 8).
 const HELMET = [
-  ['default-src', "'self'"], ['base-uri', "'self'"], ['font-src', "'self' https: data:"], ['form-action', "'self'"],
-  ['frame-ancestors', "'self'"], ['img-src', "'self' data:"], ['object-src', "'none'"], ['script-src', "'self'"],
-  ['script-src-attr', "'none'"], ['style-src', "'self' https: 'unsafe-inline'"], ['upgrade-insecure-requests', ''],
+  ['default-src', "'self'"], ['base-uri', "'self'"], ['font-src', "'self' https: data:"],
+  ['form-action', "'self'"], ['frame-ancestors', "'self'"], ['img-src', "'self' data:"],
+  ['object-src', "'none'"], ['script-src', "'self'"], ['script-src-attr', "'none'"],
+  ['style-src', "'self' https: 'unsafe-inline'"], ['upgrade-insecure-requests', ''],
 ];
 
 /** @typedef {{name: string, value: string, as: string}} Pair */
@@ -30,9 +31,8 @@ const words = (name, value) => {
   const list = Array.isArray(value) ? value : [value];
   const odd = list.find(it => typeof it !== 'string');
   if (odd === undefined) return list.join(' ');
-  throw new ReadingError({
-    said: `the value of ${name} is no text`, found: String(JSON.stringify(odd)), write: 'Write an array of texts',
-  });
+  const said = `the value of ${name} is no text`, found = String(JSON.stringify(odd));
+  throw new ReadingError({ said, found, write: 'Write an array of texts' });
 };
 
 /**
@@ -47,7 +47,8 @@ const helmet = ({ directives, useDefaults, reportOnly }) => {
     .map(({ name, value }) => `${name} ${words(name, value)}`.trim());
   const left = useDefaults === false ? [] : HELMET.filter(([name]) => !given.some(it => it.name === name));
   const added = left.map(it => it.join(' ').trim());
-  const said = added.length === 0 ? '' : `, with what helmet adds where useDefaults isn't false: ${added.join('; ')}`;
+  const more = `, with what helmet adds where useDefaults isn't false: ${added.join('; ')}`;
+  const said = added.length === 0 ? '' : more;
   return {
     name: `Content-Security-Policy${reportOnly === true ? '-Report-Only' : ''}`,
     value: [...own, ...added].join('; '),
@@ -92,13 +93,15 @@ const pairsOf = value => {
   if (isObject(value) && isObject(value.directives)) return [helmet(value)];
   if (isDirectives(value)) return [helmet({ directives: value })];
   const [name, text] = pairOf(value);
-  if (typeof name === 'string' && NAME.test(name) && typeof text === 'string') return [{ name, value: text, as }];
+  const isPolicy = typeof name === 'string' && NAME.test(name);
+  if (isPolicy && typeof text === 'string') return [{ name, value: text, as }];
   if (Array.isArray(value)) return value.flatMap(pairsOf);
   if (!isObject(value)) return [];
   return Object.entries(value).flatMap(([key, it]) => {
     if (!NAME.test(key)) return pairsOf(it);
     const texts = Array.isArray(it) ? it : [it];
-    if (texts.every(text => typeof text === 'string')) return texts.map(text => ({ name: key, value: text, as }));
-    return isDirectives(it) ? [{ ...helmet({ directives: it, useDefaults: false }), name: key }] : pairsOf(it);
+    if (texts.every(of => typeof of === 'string')) return texts.map(of => ({ name: key, value: of, as }));
+    if (!isDirectives(it)) return pairsOf(it);
+    return [{ ...helmet({ directives: it, useDefaults: false }), name: key }];
   });
 };

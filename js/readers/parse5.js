@@ -1,6 +1,12 @@
 // HTML for the readers where there is no browser: parse5 makes the tree, and this tells what stands in it.
 import { defaultTreeAdapter, parse } from 'parse5';
 
+/** @param {any} attribute its name as a document writes it, and its value */
+const pairOf = ({ prefix, name, value }) => [prefix ? `${prefix}:${name}` : name, value];
+
+/** @param {any} node */
+const textOf = node => node.nodeName === '#text' ? node.value : '';
+
 /**
  * A tree of parse5 as the walk of html.js sees it.
  * @type {import('./html.js').Parse}
@@ -16,7 +22,7 @@ export const parseHtml = text => {
     return {
       tag: element.tagName,
       namespace: element.namespaceURI,
-      attributes: element.attrs.map((/** @type {any} */ it) => [it.prefix ? `${it.prefix}:${it.name}` : it.name, it.value]),
+      attributes: element.attrs.map(pairOf),
       isDoubled: tag !== undefined && doubled.some(it => it >= tag.startOffset && it < tag.endOffset),
       line: tag?.startLine,
       column: tag?.startCol,
@@ -28,7 +34,7 @@ export const parseHtml = text => {
     isElement: it => defaultTreeAdapter.isElementNode(it),
     children: it => it.childNodes ?? [],
     content: it => it.content,
-    text: it => it.childNodes.filter(defaultTreeAdapter.isTextNode).map((/** @type {any} */ one) => one.value).join(''),
+    text: it => it.childNodes.map(textOf).join(''),
     told,
   };
 };

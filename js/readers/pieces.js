@@ -1,13 +1,14 @@
-// Cuts a stream of text into JSON values: a value a line, arrays of objects on one line or many, objects that are
-// printed over several lines, and log lines in which an object stands. What can't be read is told, and passed over.
+// Cuts a stream of text into JSON values: a value a line, arrays of objects on one line or many, objects
+// that are printed over several lines, and log lines in which an object stands. What can't be read is
+// told, and passed over.
 
 /**
  * @typedef {{line: number, value: unknown}} Value where a value begins, counted from 1, and what it is
  * @typedef {{line: number, found: string}} Bad
  */
 
-const QUOTE = 34, BACKSLASH = 92, OPEN = 123, CLOSE = 125, OPEN_LIST = 91, CLOSE_LIST = 93, COLON = 58, COMMA = 44;
-const LINE = 10;
+const QUOTE = 34, BACKSLASH = 92, OPEN = 123, CLOSE = 125, OPEN_LIST = 91, CLOSE_LIST = 93, COLON = 58;
+const COMMA = 44, LINE = 10;
 const LONGEST = 1 << 20; // characters of an object or a line
 const DEEPEST = 64; // objects and arrays in each other
 const WAITS = 1 << 16; // characters of an unfinished line that are kept until it ends
@@ -57,8 +58,8 @@ export const parsed = text => {
 const embedded = line => {
   const text = line.slice(line.indexOf('{'), line.lastIndexOf('}') + 1);
   if (text === '') return undefined;
-  const hex = (/** @type {string} */ _, /** @type {string} */ code) => String.fromCharCode(parseInt(code, 16));
-  return parsed(text) ?? parsed(text.replace(/\\x([0-9A-Fa-f]{2})/g, hex));
+  const plain = text.replace(/\\x([0-9A-Fa-f]{2})/g, (_, code) => String.fromCharCode(parseInt(code, 16)));
+  return parsed(text) ?? parsed(plain);
 };
 
 export class Pieces {
@@ -115,7 +116,8 @@ export class Pieces {
    */
   refuse(end) {
     this.bad += 1;
-    if (this.badLines.length < 10) this.badLines.push({ line: this.line, found: this.text.slice(this.at, this.at + 60).split('\n')[0] });
+    const [found] = this.text.slice(this.at, this.at + 60).split('\n');
+    if (this.badLines.length < 10) this.badLines.push({ line: this.line, found });
     this.isSkipping = end < 0;
     this.move(end < 0 ? this.text.length : end);
     return undefined;

@@ -1,5 +1,5 @@
-// Violation reports that a collector received, of any number: bodies of report-uri and report-to, in whatever form
-// logs hold them. Memory doesn't grow with the stream.
+// Violation reports that a collector received, of any number: bodies of report-uri and report-to, in
+// whatever form logs hold them. Memory doesn't grow with the stream.
 import { Pieces, parsed } from './pieces.js';
 import { blockedBy, isBody, noiseOf, violationOf } from './violations.js';
 
@@ -29,8 +29,8 @@ const inText = text => {
 };
 
 /**
- * The reports in a value, however a collector has wrapped them: the body of a violation, or the type of a report of
- * something else.
+ * The reports in a value, however a collector has wrapped them: the body of a violation, or the type of a
+ * report of something else.
  * @param {unknown} value
  * @param {number} [depth]
  * @returns {Generator<{body?: Record<string, any>, other?: string}>}
@@ -147,21 +147,28 @@ export class Reports {
 
   /** Whether all that was there was read as reports, and some was. */
   get isWhole() {
-    const { pieces, strange, broken, violations, noise, others } = this;
-    return pieces.bad === 0 && strange === 0 && broken === undefined && violations + noise.size + others.size > 0;
+    return this.pieces.bad + this.strange === 0 && this.broken === undefined && !this.isEmpty;
+  }
+
+  /** Whether no report stood in it. */
+  get isEmpty() {
+    return this.violations + this.noise.size + this.others.size === 0;
   }
 
   /** What was left out, as sentences. */
   get left() {
-    const list = (/** @type {Map<string, number>} */ counts) => [...counts].map(([name, n]) => `${name} ${n}`).join(', ');
-    const { bad, badLines } = this.pieces, { strange, strangeLines, violations, noise, others, broken } = this;
+    const list = (/** @type {Map<string, number>} */ counts) =>
+      [...counts].map(([name, n]) => `${name} ${n}`).join(', ');
+    const { pieces: { bad, badLines }, strange, strangeLines, noise, others, broken } = this;
+    const lines = badLines.map(it => `line ${it.line} ("${it.found}")`).join(', ');
+    const where = strangeLines.join(', ');
     return [
-      ...bad > 0 ? [`lines that are no JSON, left out: ${bad}, as ${badLines.map(it => `line ${it.line} ("${it.found}")`).join(', ')}`] : [],
-      ...strange > 0 ? [`values in which no report stands, left out: ${strange}, as in line ${strangeLines.join(', ')}`] : [],
+      ...bad > 0 ? [`lines that are no JSON, left out: ${bad}, as ${lines}`] : [],
+      ...strange > 0 ? [`values in which no report stands, left out: ${strange}, as in line ${where}`] : [],
       ...broken === undefined ? [] : [`the stream breaks off, and what follows is not looked at: ${broken}`],
-      ...noise.size > 0 ? [`reports of what browsers and their extensions do, set apart: ${list(noise)}`] : [],
+      ...noise.size > 0 ? [`reports of browsers and their extensions, set apart: ${list(noise)}`] : [],
       ...others.size > 0 ? [`reports of other types, left out: ${list(others)}`] : [],
-      ...violations + noise.size + others.size === 0 ? ['no report stands in this: it says nothing of what is blocked'] : [],
+      ...this.isEmpty ? ['no report stands in this: it says nothing of what is blocked'] : [],
     ];
   }
 }
@@ -172,6 +179,9 @@ export class Reports {
  * @property {number} count
  * @property {Set<string>} pages the URLs of their pages, the first twenty
  */
+
+const TEXTS = "code and styles in a page, whose texts aren't reported, taken for ones without a hash";
+const SCRIPTS = "scripts taken for not parser-inserted, of which that isn't reported";
 
 /** Counts violations that are alike, of at most so many kinds. */
 export class Tally {
@@ -197,19 +207,24 @@ export class Tally {
     this.groups.set(name, group);
   }
 
-  /** The groups with the requests that were blocked, the most frequent first, and what isn't known of them. */
+  /**
+   * The groups with the requests that were blocked, the most frequent first, and what isn't known of
+   * them.
+   */
   ended() {
-    const all = [...this.groups.values()].sort((a, b) => b.count - a.count).map(it => ({ ...it, ...blockedBy(it.violation) }));
-    const counted = (/** @type {(it: typeof all[0]) => unknown} */ is) => all.filter(is).reduce((sum, it) => sum + it.count, 0);
+    const all = [...this.groups.values()].sort((a, b) => b.count - a.count)
+      .map(it => ({ ...it, ...blockedBy(it.violation) }));
+    const counted = (/** @type {(it: typeof all[0]) => unknown} */ is) =>
+      all.filter(is).reduce((sum, it) => sum + it.count, 0);
     const texts = counted(it => it.unknown === 'text'), scripts = counted(it => it.unknown === 'parser');
     const reasons = [...new Set(all.flatMap(it => it.leftOut ?? []))];
     return {
       groups: all.filter(it => it.request !== undefined),
       left: [
         ...reasons.map(why => `left out, since ${why}: ${counted(it => it.leftOut === why)}`),
-        ...texts > 0 ? [`code and styles in a page, whose texts aren't reported, taken for ones without a hash: ${texts}`] : [],
-        ...scripts > 0 ? [`scripts taken for not parser-inserted, of which that isn't reported: ${scripts}`] : [],
-        ...this.beyond > 0 ? [`violations of further kinds than ${this.most}, not looked at: ${this.beyond}`] : [],
+        ...texts > 0 ? [`${TEXTS}: ${texts}`] : [], ...scripts > 0 ? [`${SCRIPTS}: ${scripts}`] : [],
+        ...this.beyond > 0
+          ? [`violations of further kinds than ${this.most}, not looked at: ${this.beyond}`] : [],
       ],
     };
   }

@@ -1,5 +1,5 @@
-// What a browser says of a violation, in an event, in its console or in a report, under one name each; and the
-// request that was blocked.
+// What a browser says of a violation, in an event, in its console or in a report, under one name each;
+// and the request that was blocked.
 
 /**
  * @typedef {object} Violation
@@ -16,11 +16,13 @@
  * @typedef {object} Blocked what was blocked, as far as a violation tells it
  * @property {Request} [request]
  * @property {string} [leftOut] why no request can be made of it
- * @property {'text' | 'parser'} [unknown] what isn't told: the text of inline code, or whether the parser inserted it
+ * @property {'text' | 'parser'} [unknown] what isn't told: the text of inline code, or whether the parser
+ * inserted it
  */
 
 const DESTINATIONS = /** @type {Record<string, string>} */ ({
-  'connect-src': '', 'font-src': 'font', 'frame-src': 'iframe', 'img-src': 'image', 'manifest-src': 'manifest',
+  'connect-src': '', 'font-src': 'font', 'frame-src': 'iframe', 'img-src': 'image',
+  'manifest-src': 'manifest',
   'media-src': 'video', 'object-src': 'object', 'script-src': 'script', 'script-src-elem': 'script',
   'style-src': 'style', 'style-src-elem': 'style', 'worker-src': 'worker',
 });
@@ -31,7 +33,8 @@ const INLINE = /** @type {Record<string, string>} */ ({
 // No text has these digests, so that no hash in a policy allows what has them.
 const DIGESTS = { sha256: '0'.repeat(64), sha384: '0'.repeat(96), sha512: '0'.repeat(128) };
 const URL_TEXT = /^(https?|wss?):\/\/[^/?#\s]+[^\s]*$/;
-const NOISE = /^(?:about|chrome|edge|resource|moz|ms-browser|webkit-masked-url|mx[a-z]+|wvjbscheme|gsa|kaspersky|[a-z-]*extension)(?::|$)/i;
+// Schemes of browsers, of their extensions, and of what apps inject
+const NOISE = /^(?:about|chrome|edge|resource|webkit-masked-url|mx\w+|wvjbscheme|[a-z-]*extension)(?::|$)/i;
 
 /** @param {unknown} it */
 const text = it => typeof it === 'string' ? it : '';
@@ -92,26 +95,30 @@ const isStrict = policy => {
  */
 export const blockedBy = violation => {
   const { directive, blocked, sample, policy } = violation, note = noteOf(violation);
-  const inline = sample.startsWith('javascript:') && directive === 'script-src-elem' ? 'navigation' : INLINE[directive];
+  const isNavigation = sample.startsWith('javascript:') && directive === 'script-src-elem';
+  const inline = isNavigation ? 'navigation' : INLINE[directive], isUrl = URL_TEXT.test(blocked);
   if (blocked === 'eval') return { request: { kind: 'eval', note } };
   if (blocked === 'wasm-eval') return { request: { kind: 'wasm', note } };
   if (blocked === 'inline' && inline !== undefined) {
     return { request: { kind: 'inline', type: inline, digests: DIGESTS, note }, unknown: 'text' };
   }
-  if (URL_TEXT.test(blocked) && directive === 'base-uri') return { request: { kind: 'base', url: blocked, note } };
-  if (URL_TEXT.test(blocked) && directive === 'form-action') return { request: { kind: 'form', url: blocked, note } };
+  if (isUrl && directive === 'base-uri') return { request: { kind: 'base', url: blocked, note } };
+  if (isUrl && directive === 'form-action') return { request: { kind: 'form', url: blocked, note } };
   const destination = DESTINATIONS[directive];
-  if (destination === undefined || blocked === 'inline') return { leftOut: "its directive doesn't tell what was blocked" };
+  if (destination === undefined || blocked === 'inline') {
+    return { leftOut: "its directive doesn't tell what was blocked" };
+  }
   const scheme = /^(data|blob|filesystem)(?::|$)/.exec(blocked)?.[1];
-  if (scheme === undefined && !URL_TEXT.test(blocked)) return { leftOut: "its blocked URI isn't what a page fetches" };
+  if (scheme === undefined && !isUrl) return { leftOut: "its blocked URI isn't what a page fetches" };
   const request = { kind: 'fetch', destination, url: scheme === undefined ? blocked : { scheme }, note };
   if (!directive.startsWith('script-src')) return { request };
-  return isStrict(policy) ? { request: { ...request, 'parser-inserted': true } } : { request, unknown: 'parser' };
+  if (!isStrict(policy)) return { request, unknown: 'parser' };
+  return { request: { ...request, 'parser-inserted': true } };
 };
 
 /** @param {Violation} violation */
 const noteOf = ({ directive, blocked, page, file, line, column, sample }) => {
   const at = line === undefined ? '' : `:${line}${column === undefined ? '' : `:${column}`}`;
-  const where = at === '' ? [page] : [file === '' || file === page ? `${page}${at}` : `${page} in ${file}${at}`];
-  return [directive, blocked, ...where, sample].filter(it => it !== '').join(' ');
+  const where = at === '' || file === '' || file === page ? `${page}${at}` : `${page} in ${file}${at}`;
+  return [directive, blocked, where, sample].filter(it => it !== '').join(' ');
 };

@@ -5,7 +5,8 @@ export const DIRECTIVES = [
   'default-src', 'script-src', 'script-src-elem', 'script-src-attr', 'style-src', 'style-src-elem',
   'style-src-attr', 'img-src', 'font-src', 'connect-src', 'media-src', 'object-src', 'frame-src', 'child-src',
   'worker-src', 'manifest-src', 'fenced-frame-src', 'base-uri', 'form-action', 'frame-ancestors', 'sandbox',
-  'report-uri', 'report-to', 'upgrade-insecure-requests', 'require-trusted-types-for', 'trusted-types', 'webrtc',
+  'report-uri', 'report-to', 'upgrade-insecure-requests', 'require-trusted-types-for', 'trusted-types',
+  'webrtc',
 ];
 
 /** Directives that browsers no longer act on, with what stands in their place. */
@@ -34,7 +35,8 @@ export const asciiLower = text => text.replace(/[A-Z]/g, it => it.toLowerCase())
 export const isDirective = name => DIRECTIVES.includes(name) || DEPRECATED.has(name);
 
 /**
- * How many letters have to be put in, taken out, changed or swapped with the next one to make one text of the other.
+ * How many letters have to be put in, taken out, changed or swapped with the next one to make one text of
+ * the other.
  * @param {string} a
  * @param {string} b
  */
@@ -44,7 +46,8 @@ const distance = (a, b) => {
     const row = [i];
     for (let j = 1; j <= b.length; j += 1) {
       const changed = above[j - 1] + Number(a[i - 1] !== b[j - 1]);
-      const swapped = i > 1 && j > 1 && a[i - 1] === b[j - 2] && a[i - 2] === b[j - 1] ? before[j - 2] + 1 : changed;
+      const isSwap = i > 1 && j > 1 && a[i - 1] === b[j - 2] && a[i - 2] === b[j - 1];
+      const swapped = isSwap ? before[j - 2] + 1 : changed;
       row.push(Math.min(above[j] + 1, row[j - 1] + 1, changed, swapped));
     }
     [before, above] = [above, row];
@@ -53,14 +56,14 @@ const distance = (a, b) => {
 };
 
 /**
- * The word of a list that was most likely meant, or nothing where none is near: one letter of a short word may
- * differ, two of a longer one, and three of a long one.
+ * The word of a list that was most likely meant, or nothing where none is near: one letter of a short
+ * word may differ, two of a longer one, and three of a long one.
  * @param {string} word
  * @param {string[]} words
  * @returns {string | undefined}
  */
 export const nearest = (word, words) => {
   const most = word.length < 7 ? 1 : word.length < 18 ? 2 : 3;
-  const near = words.map(it => ({ it, far: distance(asciiLower(word), it) })).filter(({ far }) => far <= most);
-  return near.sort((a, b) => a.far - b.far)[0]?.it;
+  const far = words.map(it => ({ it, far: distance(asciiLower(word), it) }));
+  return far.filter(it => it.far <= most).sort((a, b) => a.far - b.far)[0]?.it;
 };

@@ -1,6 +1,6 @@
-// Debian keeps parse5 where `require` looks, and ES modules look in node_modules alone. Where the package isn't
-// installed there, this finds Debian's: by NODE_PATH, or else where Debian puts it. It is for tests, and for
-// `node --import`; the package itself imports 'parse5' as it is.
+// Debian keeps parse5 where `require` looks, and ES modules look in node_modules alone. Where the package
+// isn't installed there, this finds Debian's: by NODE_PATH, or else where Debian puts it. It is for
+// tests, and for `node --import`; the package itself imports 'parse5' as it is.
 import { createRequire, Module, register } from 'node:module';
 import { pathToFileURL } from 'node:url';
 

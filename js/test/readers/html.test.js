@@ -49,6 +49,13 @@ test('a request says what it is of', () => {
   });
 });
 
+test('where base is blocked, URLs begin at the page', () => {
+  const text = '<base href="https://b.example/"><img src="x.png">';
+  const { pieces, left } = readHtml(text, { url, parse, isBaseBlocked: true });
+  assert.deepEqual(pieces.map(it => it.request.url), ['https://b.example/', 'https://a.example/shop/x.png']);
+  assert.deepEqual(told(left), ['1 <base> is taken to be blocked: relative URLs begin at the page']);
+});
+
 test('the text of a script is that of the page, with its line ends made one', () => {
   assert.equal(read('<script>a\r\nb&amp;\rc</script>').pieces[0].request.source, 'a\nb&amp;\nc');
 });

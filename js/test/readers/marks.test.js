@@ -9,12 +9,12 @@ const MARKED = /** @type {[string, string[]][]} */ ([
   ['default-src ‘self’', ['"‘" is a typographic quote, which makes browsers drop the directive: write \'']],
   ['img-src https://bücher.example', ['a character outside ASCII makes browsers drop the directive']],
   ["default-src 'self' img-src https:", [
-    'img-src is the name of a directive, and counts as a source here: is a semicolon missing before it?']],
+    'img-src names a directive, and counts as a source here: is a semicolon missing before it?']],
   ['img-src https://a.example, https://b.example', [
     'a comma stands before https://b.example, and begins another policy: was a space meant?']],
   ["img-src 'self', font-src 'self'", []],
   ['Meta-Content-Security-Policy: img-src a.example, b.example', [
-    'a.example, has a comma, which in a meta element is a part of the word: was a space meant?']],
+    'a.example, has a comma, which a meta element keeps in the word: was a space meant?']],
   ['Meta-Content-Security-Policy: frame-ancestors a.example', [
     'frame-ancestors has no effect in a meta element: write it in a header']],
   ['defalt-src https:', ['defalt-src is no directive, and decides nothing: write default-src']],

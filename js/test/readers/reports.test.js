@@ -22,7 +22,7 @@ const MIXED = {
     'lines that are no JSON, left out: 3, as line 6 ("{"csp-report": {"document-uri": "https://a.example/cut", "ef"),'
       + ' line 13 ("GET /health 200"), line 23 ("{"csp-report": {"effective-directive": "img-src",")',
     'values in which no report stands, left out: 1, as in line 15',
-    'reports of what browsers and their extensions do, set apart: chrome-extension 1, moz-extension 1, about 1',
+    'reports of browsers and their extensions, set apart: chrome-extension 1, moz-extension 1, about 1',
     'reports of other types, left out: deprecation 1',
   ],
   isWhole: false,
