@@ -1,12 +1,15 @@
 // What a browser says itself of a page that a person has open: the events of violations, copied by a
 // snippet, and lines of its console, in the words of Chromium and Firefox.
 import { ReadingError } from './error.js';
-import { isBody, violationOf } from './violations.js';
+import { isBody, noiseOf, violationOf } from './violations.js';
 
 /**
  * @typedef {import('./violations.js').Violation} Violation
  * @typedef {{violation: Violation, line: number}} Row a violation and the line of the text in which it stood
- * @typedef {{rows: Row[], left: import('./html.js').Said[], unseen: string[]}} Events
+ * @typedef {object} Events
+ * @property {Row[]} rows
+ * @property {import('./html.js').Said[]} left what wasn't understood, and what browsers and extensions did
+ * @property {string[]} unseen
  */
 
 /** For the console: opens the page once more, and keeps all violations of that copy from its begin. */
@@ -151,6 +154,19 @@ const ofConsole = text => {
 };
 
 /**
+ * Sets apart what a browser or an extension did itself, which no page can mend.
+ * @param {Events} events
+ * @returns {Events}
+ */
+const withoutNoise = ({ rows, left, unseen }) => {
+  const noise = rows.flatMap(({ violation, line }) => {
+    const scheme = noiseOf(violation);
+    return scheme === undefined ? [] : [{ line, said: `this is of ${scheme}, and is set apart` }];
+  });
+  return { rows: rows.filter(it => noiseOf(it.violation) === undefined), left: [...left, ...noise], unseen };
+};
+
+/**
  * Reads what the snippet copied, or lines of a console.
  * @param {string} given
  * @returns {Events}
@@ -158,7 +174,7 @@ const ofConsole = text => {
 export const readEvents = given => {
   const text = given.replace(/^\uFEFF/, '').replace(/\r\n?/g, '\n');
   const isJson = /^\s*\[/.test(text) && !/^\s*\[Report Only\]/i.test(text);
-  const read = isJson ? ofSnippet(text) : ofConsole(text);
+  const read = withoutNoise(isJson ? ofSnippet(text) : ofConsole(text));
   if (read.rows.length > 0 || read.left.length > 0 || isJson) return read;
   throw new ReadingError({
     said: 'no violation stands in this', found: text.trim().split('\n')[0],

@@ -275,12 +275,12 @@ export const readHeaders = (given, { parse, name } = {}) => {
   const text = normal(given), read = /** @type {Headers} */ ({ lines: [], taken: [], left: [] });
   try {
     if (text.trim() === '') throw new ReadingError({ said: 'there is no text', write: WRITE });
-    if (objects(text, read)) return ended(text, read);
-    const { isSent, head, body, said } = parts(text);
+    const { isSent, head, body, said } = parts(text), isPlain = !isSent && body === '';
+    if (isPlain && objects(text, read)) return ended(text, read);
     read.taken.push(...said);
     named(head, isSent, read);
     passedOver(head, read);
-    if (body === '' && read.lines.length === 0 && read.left.length === 0) bare(head, read);
+    if (isPlain && read.lines.length === 0 && read.left.length === 0) bare(head, read);
     if (PAGE.test(body)) metas(body, read, parse);
     return ended(text, read);
   } catch (error) {

@@ -35,6 +35,13 @@ test('an empty list of events is read, and what was not looked at is said', () =
   assert.match(unseen[0], /frames and workers/);
 });
 
+test('what an extension did is set apart', () => {
+  const { rows, left } = readEvents(
+    "Refused to load the script 'chrome-extension://abc/x.js' because it violates the following Content Security Policy "
+    + 'directive: "script-src \'self\'".');
+  assert.deepEqual([rows, left], [[], [{ line: 1, said: 'this is of chrome-extension, and is set apart' }]]);
+});
+
 for (const [text, message] of /** @type {[string, RegExp][]} */ ([
   ['Uncaught TypeError', /^no violation stands in this: "Uncaught TypeError"\. Give what the snippet copied/],
   ['[{"effectiveDirective"', /^this is no JSON \(.*\)\. Copy all that copy\(policyViolations\(\)\) gave\.$/],

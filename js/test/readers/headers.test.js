@@ -27,6 +27,11 @@ for (const [text, message] of REFUSED) {
   });
 }
 
+test('a page that speaks of directives is a page', () => {
+  const text = '<head><meta http-equiv="Content-Security-Policy" content="img-src *"><script>({ directives: {} })</script>';
+  assert.deepEqual(readHeaders(text, { parse }).lines, ['Meta-Content-Security-Policy: img-src *']);
+});
+
 test('quotes that a server sent stay', () => {
   const { lines, left } = readHeaders('HTTP/2 200\ncontent-security-policy: "img-src *"\n');
   assert.deepEqual(lines, ['Content-Security-Policy: "img-src *"']);
