@@ -3,28 +3,33 @@ import { test } from 'node:test';
 import { readEvents, SNIPPET } from '../../readers/events.js';
 import { data } from './tree.js';
 
-const row = (/** @type {import('../../readers/events.js').Row} */ { line: at, violation }) => {
+const row = (/** @type {import('../../readers/events.js').Row} */ { line: from, violation }) => {
   const { directive, blocked, disposition, file, line, column, policy, sample } = violation;
-  const place = line === undefined ? [] : [`${file}:${[line, column].filter(it => it !== undefined).join(':')}`];
-  const head = [at, directive, blocked, disposition, ...place].join(' ');
+  const at = [line, column].filter(it => it !== undefined).join(':');
+  const place = at === '' ? [] : [`${file}:${at}`];
+  const head = [from, directive, blocked, disposition, ...place].join(' ');
   return [head, policy, ...sample === '' ? [] : [sample]].join(' | ');
 };
 
 for (const [name, expected] of Object.entries(JSON.parse(data('events.json')))) {
   test(`what ${name} tells`, () => {
     const { rows, left, unseen } = readEvents(data(`events/${name}`));
-    assert.deepEqual({ rows: rows.map(row), left: left.map(({ line, said }) => `${line} ${said}`) }, expected);
+    assert.deepEqual({ rows: rows.map(row), left: left.map(({ line, said }) => `${line} ${said}`) },
+      expected);
     assert.equal(unseen.length, 2);
   });
 }
 
 test('the snippet keeps what happens in a copy of the page', () => {
   const listeners = /** @type {Record<string, (event: object) => void>} */ ({});
-  const copy = { addEventListener: (/** @type {string} */ name, /** @type {() => void} */ it) => { listeners[name] = it; } };
+  const copy = { addEventListener: (/** @type {string} */ name, /** @type {() => void} */ it) =>
+    { listeners[name] = it; } };
   const window = /** @type {{policyViolations?: () => string}} */ ({});
-  const said = new Function('window', 'open', 'location', `return ${SNIPPET}`)(window, () => copy, { href: 'https://a.example/' });
+  const said = new Function('window', 'open', 'location', `return ${SNIPPET}`)(window, () => copy,
+    { href: 'https://a.example/' });
   assert.match(said, /copy\(policyViolations\(\)\)$/);
-  listeners.securitypolicyviolation({ effectiveDirective: 'img-src', blockedURI: 'data', lineNumber: 3, isTrusted: true });
+  listeners.securitypolicyviolation({ effectiveDirective: 'img-src', blockedURI: 'data', lineNumber: 3,
+    isTrusted: true });
   const [{ violation }] = readEvents(window.policyViolations?.() ?? '').rows;
   assert.deepEqual([violation.directive, violation.blocked, violation.line], ['img-src', 'data', 3]);
 });
@@ -37,8 +42,8 @@ test('an empty list of events is read, and what was not looked at is said', () =
 
 test('what an extension did is set apart', () => {
   const { rows, left } = readEvents(
-    "Refused to load the script 'chrome-extension://abc/x.js' because it violates the following Content Security Policy "
-    + 'directive: "script-src \'self\'".');
+    "Refused to load the script 'chrome-extension://abc/x.js' because it violates the following Content "
+    + 'Security Policy directive: "script-src \'self\'".');
   assert.deepEqual([rows, left], [[], [{ line: 1, said: 'this is of chrome-extension, and is set apart' }]]);
 });
 

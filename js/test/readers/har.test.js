@@ -11,38 +11,47 @@ const POLICY = 'content-security-policy';
  * @param {string} url
  * @param {Record<string, any>} [of] `to`: its destination; `type`: Chromium's word; `by`: what began it
  */
-const entry = (url, { to, type = 'other', by = { type: 'parser' }, from, sent = {}, got = {}, ...rest } = {}) => {
+const entry = (url, { to, type = 'other', by = { type: 'parser' }, from, sent = {}, got = {},
+  ...rest } = {}) => {
   const { method = 'GET', status = 200, page = 'page_1', media = '', text, encoding } = rest;
-  const pairs = (/** @type {Record<string, string>} */ of) => Object.entries(of).map(([name, value]) => ({ name, value }));
-  const headers = { ...to === undefined ? {} : { 'Sec-Fetch-Dest': to }, ...from ? { Referer: from } : {}, ...sent };
+  const pairs = (/** @type {Record<string, string>} */ of) =>
+    Object.entries(of).map(([name, value]) => ({ name, value }));
+  const headers = { ...to === undefined ? {} : { 'Sec-Fetch-Dest': to }, ...from ? { Referer: from } : {},
+    ...sent };
   return {
     _initiator: by, _resourceType: type, pageref: page,
     request: { method, url, headers: pairs(headers) },
-    response: { status, headers: pairs(got), content: { mimeType: media, text, encoding }, redirectURL: got.location ?? '' },
+    response: { status, headers: pairs(got), content: { mimeType: media, text, encoding },
+      redirectURL: got.location ?? '' },
   };
 };
 /** A recording of entries, one a second. */
 const har = (/** @type {any[]} */ ...entries) => JSON.stringify({
-  log: { entries: entries.map((it, n) => ({ startedDateTime: new Date(Date.UTC(2026, 0, 1, 0, 0, n)).toISOString(), ...it })) },
+  log: { entries: entries.map((it, n) =>
+    ({ startedDateTime: new Date(Date.UTC(2026, 0, 1, 0, 0, n)).toISOString(), ...it })) },
 });
 const url = 'https://a.example/';
 const page = (/** @type {string} */ text, more = {}) =>
   entry(url, { to: 'document', type: 'document', media: 'text/html', by: { type: 'other' }, text, ...more });
 const read = (/** @type {any[]} */ ...entries) => readHar(har(...entries), { parse });
-const bare = (/** @type {import('../../readers/html.js').Piece} */ { request: { note, ...request } }) => request;
+const bare = (/** @type {import('../../readers/html.js').Piece} */ { request: { note, ...request } }) =>
+  request;
 const requests = (/** @type {any[]} */ ...entries) => read(page('<p>'), ...entries).pages[0].pieces.map(bare);
 const fetched = (/** @type {string} */ destination, /** @type {string[]} */ ...urls) =>
   ({ kind: 'fetch', destination, ...urls.length > 1 ? { urls } : { url: urls[0] }, 'parser-inserted': true });
 const said = (/** @type {import('../../readers/html.js').Said[]} */ left) => left.map(it => it.said);
 
 test('the example of the documents', () => {
-  const file = (/** @type {string} */ name) => readFileSync(new URL(`../../../examples/har/${name}`, import.meta.url), 'utf8');
+  const file = (/** @type {string} */ name) =>
+    readFileSync(new URL(`../../../examples/har/${name}`, import.meta.url), 'utf8');
   const { pages: [first, ...rest], left } = readHar(file('page.har'), { parse });
   assert.deepEqual(first.pieces.map(it => it.request), JSON.parse(file('requests.json')));
   assert.deepEqual(first.lines, file('policy.txt').split('\n').filter(it => it.startsWith(POLICY)));
-  assert.deepEqual([first.url, first.origin, first.isEnforced], ['https://shop.example/', 'https://shop.example', true]);
+  assert.deepEqual([first.url, first.origin, first.isEnforced],
+    ['https://shop.example/', 'https://shop.example', true]);
   assert.deepEqual(rest.map(it => [it.role, it.url, it.frameOf]), [
-    ['frame', 'https://pay.example.com/widget', first.url], ['worker', 'https://shop.example/js/worker.js', first.url],
+    ['frame', 'https://pay.example.com/widget', first.url],
+    ['worker', 'https://shop.example/js/worker.js', first.url],
     ['worker', 'https://shop.example/sw.js', first.url],
   ]);
   assert.deepEqual(left, []);
@@ -58,8 +67,10 @@ test('what a request was for: Sec-Fetch-Dest, else the resource type, else the m
   const other = 'https://b.example/1';
   assert.deepEqual(requests(
     entry(other, { to: 'empty', type: 'fetch' }), entry(other, { to: 'image', type: 'script' }),
-    entry(other, { type: 'stylesheet', media: 'image/png' }), entry(other, { media: 'text/javascript; charset=utf-8' }),
-    entry('https://b.example/s', { to: 'websocket', type: 'websocket' }), entry('data:image/png;base64,AA', { to: 'image' }),
+    entry(other, { type: 'stylesheet', media: 'image/png' }),
+    entry(other, { media: 'text/javascript; charset=utf-8' }),
+    entry('https://b.example/s', { to: 'websocket', type: 'websocket' }),
+    entry('data:image/png;base64,AA', { to: 'image' }),
   ), [
     fetched('', other), fetched('image', other), fetched('style', other), fetched('script', other),
     fetched('', 'wss://b.example/s'), fetched('image', 'data:,'),
@@ -77,14 +88,17 @@ test('redirects are one request', () => {
   ]);
   assert.deepEqual(requests(hop('https://b.example/1', 'https://c.example', 308)),
     [fetched('image', 'https://b.example/1', 'https://c.example/')]);
-  assert.deepEqual(requests(hop('https://b.example/1', '/2', 201)), [fetched('image', 'https://b.example/1')]);
+  assert.deepEqual(requests(hop('https://b.example/1', '/2', 201)),
+    [fetched('image', 'https://b.example/1')]);
   const { pages: [{ left }] } = read(page('<p>'), hop('https://b.example/1', '/2'));
-  assert.deepEqual(said(left), ['no entry follows the last redirect: https://b.example/1 -> https://b.example/2']);
+  assert.deepEqual(said(left),
+    ['no entry follows the last redirect: https://b.example/1 -> https://b.example/2']);
 });
 
 test('a request before its page is that of the page; one without a page is left out', () => {
   const image = entry('https://b.example/1.png', { to: 'image' });
-  const { pages, left } = read(image, entry('https://b.example/2.png', { to: 'image', page: 'page_0' }), page('<p>'));
+  const { pages, left } = read(image, entry('https://b.example/2.png', { to: 'image', page: 'page_0' }),
+    page('<p>'));
   assert.deepEqual(pages[0].pieces.map(bare), [fetched('image', 'https://b.example/1.png')]);
   assert.deepEqual(said(left), ['left out, since its page is not in the recording: https://b.example/2.png']);
 });
@@ -92,7 +106,8 @@ test('a request before its page is that of the page; one without a page is left 
 test('preflights and reports are no requests', () => {
   const asks = { 'Access-Control-Request-Method': 'PUT' };
   assert.deepEqual(requests(
-    entry('https://b.example/', { to: 'empty', method: 'OPTIONS', sent: asks }), entry('https://b.example/', { to: 'report' }),
+    entry('https://b.example/', { to: 'empty', method: 'OPTIONS', sent: asks }),
+    entry('https://b.example/', { to: 'report' }),
     entry('https://b.example/', { to: 'empty', sent: { 'Content-Type': 'application/csp-report' } }),
     entry('https://b.example/', { to: 'empty', sent: { 'Content-Type': 'application/reports+json' } }),
   ), []);
@@ -100,31 +115,39 @@ test('preflights and reports are no requests', () => {
 
 test('each page has its own address, header and requests', () => {
   const { pages } = read(
-    entry('http://a.example/', { to: 'document', type: 'document', status: 301, got: { location: url, [POLICY]: 'x' } }),
+    entry('http://a.example/',
+      { to: 'document', type: 'document', status: 301, got: { location: url, [POLICY]: 'x' } }),
     page('<p>', { got: { [POLICY]: "img-src 'self'\nfont-src 'none'", 'x-frame-options': 'DENY' } }),
     entry('https://b.example/1.png', { to: 'image' }),
     page('<p style="a">', { page: 'page_2', got: { [`${POLICY}-report-only`]: "img-src 'none'" } }),
     entry('https://b.example/2.png', { to: 'image', page: 'page_2' }),
   );
-  assert.deepEqual(pages.map(it => [it.url, it.lines, it.isEnforced, it.pieces.map(one => one.request.url)]), [
+  assert.deepEqual(pages.map(it => [it.url, it.lines, it.isEnforced, it.pieces.map(one => one.request.url)]),
+    [
     [url, [`${POLICY}: img-src 'self'`, `${POLICY}: font-src 'none'`], true, ['https://b.example/1.png']],
     [url, [`${POLICY}-report-only: img-src 'none'`], false, [undefined, 'https://b.example/2.png']],
   ]);
-  assert.match(pages[0].unseen[0], /^what the enforced policy blocked: this was recorded while a policy was enforced/);
+  assert.match(pages[0].unseen[0],
+    /^what the enforced policy blocked: this was recorded while a policy was enforced/);
   assert.ok(pages[1].unseen.every(it => !it.includes('enforced')));
 });
 
 test('what frames and workers load stands under them', () => {
-  const frame = 'https://f.example/player', worker = 'https://a.example/w.js', script = (/** @type {string} */ at) =>
+  const frame = 'https://f.example/player', worker = 'https://a.example/w.js',
+    script = (/** @type {string} */ at) =>
     ({ type: 'script', stack: { callFrames: [], parent: { callFrames: [{ url: at }] } } });
   const { pages, left } = read(
     page('<iframe src="https://f.example/player"></iframe><script src="/app.js"></script>'),
     entry(frame, { to: 'iframe', type: 'document', media: 'text/html', by: { type: 'parser', url }, from: url,
-      text: '<script src="https://s.example/f.js" nonce="n"></script>', got: { [POLICY]: "script-src 'nonce-n'" } }),
-    entry('https://s.example/f.js', { to: 'script', type: 'script', by: { type: 'parser', url: frame }, from: 'https://f.example/' }),
-    entry('https://i.example/t.png', { to: 'image', type: 'image', by: script('https://s.example/f.js'), from: 'https://f.example/' }),
+      text: '<script src="https://s.example/f.js" nonce="n"></script>',
+      got: { [POLICY]: "script-src 'nonce-n'" } }),
+    entry('https://s.example/f.js',
+      { to: 'script', type: 'script', by: { type: 'parser', url: frame }, from: 'https://f.example/' }),
+    entry('https://i.example/t.png',
+      { to: 'image', type: 'image', by: script('https://s.example/f.js'), from: 'https://f.example/' }),
     entry('https://f.example/ads', { to: 'empty', type: 'fetch', by: { type: 'other' }, from: frame }),
-    entry('https://a.example/app.js', { to: 'script', type: 'script', by: { type: 'parser', url }, from: url }),
+    entry('https://a.example/app.js',
+      { to: 'script', type: 'script', by: { type: 'parser', url }, from: url }),
     entry(worker, { to: 'worker', type: 'script', by: script('https://a.example/app.js'), from: url }),
     entry('https://c.example/', { to: 'empty', type: 'fetch', by: { type: 'other' }, from: worker }),
     entry('https://c.example/page', { to: 'empty', type: 'fetch', by: { type: 'other' } }),
@@ -140,7 +163,8 @@ test('what frames and workers load stands under them', () => {
 
 test('where a page and a frame of its origin may be meant, the page is taken, and that is said', () => {
   const { pages, left } = read(
-    page('<p>'), entry('https://a.example/f', { to: 'iframe', type: 'document', media: 'text/html', from: url }),
+    page('<p>'), entry('https://a.example/f',
+      { to: 'iframe', type: 'document', media: 'text/html', from: url }),
     entry('https://b.example/x', { to: 'empty', by: { type: 'other' }, from: url }),
     entry('https://b.example/x', { to: 'empty', by: { type: 'other' }, from: 'https://a.example/' }),
   );
@@ -151,17 +175,20 @@ test('where a page and a frame of its origin may be meant, the page is taken, an
 });
 
 test('a request of an element has what the HTML says of it', () => {
-  const text = '<script src="/a.js" nonce="n" integrity="sha256-x"></script>\n<img src="/b.png"><img srcset="/c.png 1x, /d.png 2x">'
-    + '<script src="/e.js" nonce="m"></script>';
+  const text = '<script src="/a.js" nonce="n" integrity="sha256-x"></script>\n<img src="/b.png">'
+    + '<img srcset="/c.png 1x, /d.png 2x"><script src="/e.js" nonce="m"></script>';
   const { pages: [{ pieces, unseen }] } = read(
     page(Buffer.from(text).toString('base64'), { encoding: 'base64' }),
-    entry('https://a.example/a.js', { to: 'script', type: 'script', status: 302, got: { location: '/moved.js' } }),
+    entry('https://a.example/a.js',
+      { to: 'script', type: 'script', status: 302, got: { location: '/moved.js' } }),
     entry('https://a.example/moved.js', { to: 'script', type: 'script' }),
     entry('https://a.example/c.png', { to: 'image', type: 'image', by: { type: 'other' } }),
     entry('https://a.example/e.js', { to: 'script', type: 'script', by: { type: 'script' } }),
   );
-  assert.deepEqual(pieces.filter(it => it.request.kind === 'fetch').map(it => [bare(it), it.line, it.possible]), [
-    [{ ...fetched('script', 'https://a.example/a.js', 'https://a.example/moved.js'), nonce: 'n', integrity: 'sha256-x' }, 1, undefined],
+  assert.deepEqual(pieces.filter(it => it.request.kind === 'fetch').map(it =>
+    [bare(it), it.line, it.possible]), [
+    [{ ...fetched('script', 'https://a.example/a.js', 'https://a.example/moved.js'), nonce: 'n',
+      integrity: 'sha256-x' }, 1, undefined],
     [{ kind: 'fetch', destination: 'image', url: 'https://a.example/b.png' }, 2, undefined],
     [{ kind: 'fetch', destination: 'image', url: 'https://a.example/c.png' }, 2, undefined],
     [{ kind: 'fetch', destination: 'image', url: 'https://a.example/d.png' }, 2, true],
@@ -173,16 +200,19 @@ test('a request of an element has what the HTML says of it', () => {
 
 test('a request that was recorded is under the meta policies of the page', () => {
   const text = '<head><meta http-equiv="Content-Security-Policy" content="img-src a.example">';
-  const { pages: [{ pieces, isEnforced }] } = read(page(text), entry('https://b.example/1.png', { to: 'image', by: { type: 'script' } }));
+  const { pages: [{ pieces, isEnforced }] } = read(page(text),
+    entry('https://b.example/1.png', { to: 'image', by: { type: 'script' } }));
   assert.deepEqual(pieces.map(it => it.meta), [['Meta-Content-Security-Policy: img-src a.example']]);
   assert.equal(isEnforced, true);
 });
 
 test('what a recording lacks is said', () => {
   const { pages: [{ unseen, left }] } = read(
-    entry(url, { to: 'document', type: 'document', media: 'text/html', status: 304 }), entry('https://b.example/x.js', { to: 'script', by: undefined }));
+    entry(url, { to: 'document', type: 'document', media: 'text/html', status: 304 }),
+    entry('https://b.example/x.js', { to: 'script', by: undefined }));
   assert.deepEqual(unseen, [
-    'inline code, nonces, integrity, forms and meta policies, since the recording has no text of this page: not looked at (export the HAR with content)',
+    'inline code, nonces, integrity, forms and meta policies, since the recording has no text of this page: '
+      + 'not looked at (export the HAR with content)',
     'eval and WebAssembly, of which a recording tells nothing: not looked at',
     'inline code, styles and handlers that scripts insert: not looked at',
     'blob: URLs, and the data: URLs that scripts and style sheets load: not looked at',
@@ -196,6 +226,10 @@ test('what a recording lacks is said', () => {
 for (const [name, text, message] of [
   ['no JSON', '<html>', /^x\.har: this is no JSON \(.*\)\. Give a HAR, as "Export HAR" of Chromium/],
   ['no entries', '{"log":{}}', /^x\.har: this is no HAR: log\.entries is no array\. Give a HAR/],
-  ['an entry without a URL', '{"log":{"entries":[{"request":{"url":"a:"}},{}]}}', /^x\.har: this is no HAR: entry 2 has no URL\. /],
-  ['no page', har(entry('https://b.example/', { to: 'image' })), /^x\.har: the page's own answer isn't in this recording\. Reload the page/],
-]) test(`refused: ${name}`, () => assert.throws(() => readHar(String(text), { parse, name: 'x.har' }), { name: 'ReadingError', message }));
+  ['an entry without a URL', '{"log":{"entries":[{"request":{"url":"a:"}},{}]}}',
+    /^x\.har: this is no HAR: entry 2 has no URL\. /],
+  ['no page', har(entry('https://b.example/', { to: 'image' })),
+    /^x\.har: the page's own answer isn't in this recording\. Reload the page/],
+]) test(`refused: ${name}`,
+  () => assert.throws(() => readHar(String(text), { parse, name: 'x.har' }),
+  { name: 'ReadingError', message }));

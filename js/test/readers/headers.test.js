@@ -3,7 +3,8 @@ import { test } from 'node:test';
 import { readHeaders } from '../../readers/headers.js';
 import { data, parseHtml as parse } from './tree.js';
 
-const told = (/** @type {import('../../readers/headers.js').Said[]} */ list) => list.map(({ line, said }) => `${line} ${said}`);
+const told = (/** @type {import('../../readers/headers.js').Said[]} */ list) =>
+  list.map(({ line, said }) => `${line} ${said}`);
 
 for (const [name, expected] of Object.entries(JSON.parse(data('headers.json')))) {
   test(`headers of ${name}`, () => {
@@ -12,13 +13,20 @@ for (const [name, expected] of Object.entries(JSON.parse(data('headers.json'))))
   });
 }
 
+const WRITE = "Write a header line, as Content-Security-Policy: default-src 'self'.";
 const REFUSED = [
-  ['', 'x.txt: there is no text. Write a header line, as Content-Security-Policy: default-src \'self\'.'],
-  ['\nhello', 'x.txt, line 2: no policy stands in this: "hello". Write a header line, as Content-Security-Policy: default-src \'self\'.'],
-  ['\nadd_header Content-Security-Policy "img-src *;', 'x.txt, line 2: the quote " that opens the value isn\'t closed: ""img-src *;". Write " behind the value.'],
-  ['{"directives": {\n"defaultSrc": [(req, res) => nonce]}}', 'x.txt, line 2: this is code, or no literal: "(req, res) => nonce]}}". Write the text that it gives, in quotes.'],
-  ['{"directives": {"defaultSrc": [1]}}', 'x.txt, line 1: the value of default-src is no text: "1". Write an array of texts.'],
-  ['Content-Security-Policy: img-src \x01', 'x.txt, line 1: no header can carry this character: "U+0001". Take it out.'],
+  ['', `x.txt: there is no text. ${WRITE}`],
+  ['\nhello', `x.txt, line 2: no policy stands in this: "hello". ${WRITE}`],
+  ['\nadd_header Content-Security-Policy "img-src *;',
+    'x.txt, line 2: the quote " that opens the value isn\'t closed: ""img-src *;". '
+      + 'Write " behind the value.'],
+  ['{"directives": {\n"defaultSrc": [(req, res) => nonce]}}',
+    'x.txt, line 2: this is code, or no literal: "(req, res) => nonce]}}". '
+      + 'Write the text that it gives, in quotes.'],
+  ['{"directives": {"defaultSrc": [1]}}',
+    'x.txt, line 1: the value of default-src is no text: "1". Write an array of texts.'],
+  ['Content-Security-Policy: img-src \x01',
+    'x.txt, line 1: no header can carry this character: "U+0001". Take it out.'],
 ];
 
 for (const [text, message] of REFUSED) {
@@ -28,7 +36,8 @@ for (const [text, message] of REFUSED) {
 }
 
 test('a page that speaks of directives is a page', () => {
-  const text = '<head><meta http-equiv="Content-Security-Policy" content="img-src *"><script>({ directives: {} })</script>';
+  const text = '<head><meta http-equiv="Content-Security-Policy" content="img-src *">'
+    + '<script>({ directives: {} })</script>';
   assert.deepEqual(readHeaders(text, { parse }).lines, ['Meta-Content-Security-Policy: img-src *']);
 });
 
@@ -42,6 +51,7 @@ test('without a parser a page is left out, and that is said', () => {
   const { lines, left } = readHeaders('<meta http-equiv="Content-Security-Policy" content="img-src *">');
   assert.deepEqual(lines, []);
   assert.deepEqual(told(left), [
-    '1 a page stands here: its meta elements are not looked at', '1 no policy stands in this: nothing is blocked',
+    '1 a page stands here: its meta elements are not looked at',
+    '1 no policy stands in this: nothing is blocked',
   ]);
 });

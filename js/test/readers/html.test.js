@@ -12,21 +12,24 @@ const row = ({ request, line, column, possible }) => {
   const { kind, type, destination, url: to, source, name, nonce, integrity, element } = request;
   const given = element?.attributes.find((/** @type {string[]} */ it) => it[0] === 'nonce')?.[1];
   return [
-    ...line === undefined ? [] : [`${line}:${column}`], type ?? (destination === '' ? 'connect' : destination) ?? kind,
+    ...line === undefined ? [] : [`${line}:${column}`],
+    type ?? (destination === '' ? 'connect' : destination) ?? kind,
     to ?? source ?? name, ...[nonce ?? given].flatMap(it => it === undefined ? [] : [`nonce ${it}`]),
     ...integrity === undefined ? [] : [`integrity ${integrity}`],
     ...request['parser-inserted'] ? ['parser'] : [], ...element?.['duplicate-attribute'] ? ['doubled'] : [],
     ...possible ? ['possible'] : [],
   ].join(' ');
 };
-const told = (/** @type {import('../../readers/html.js').Said[]} */ list) => list.map(({ line, said }) => `${line} ${said}`);
+const told = (/** @type {import('../../readers/html.js').Said[]} */ list) =>
+  list.map(({ line, said }) => `${line} ${said}`);
 
 for (const [name, expected] of Object.entries(JSON.parse(data('html.json')))) {
   test(`what ${name} holds`, () => {
     const { pieces, left, taken, unseen } = read(data(`html/${name}`));
     const got = {
       pieces: pieces.map(row), left: told(left), taken: told(taken), unseen: unseen.slice(3),
-      under: Object.fromEntries(pieces.filter(it => it.meta.length > 0).map(it => [row(it), it.meta.map(one => one.slice(30))])),
+      under: Object.fromEntries(pieces.filter(it => it.meta.length > 0).map(it =>
+        [row(it), it.meta.map(one => one.slice(30))])),
     };
     assert.deepEqual(got, { taken: [], left: [], unseen: [], under: {}, ...expected });
   });
@@ -34,7 +37,8 @@ for (const [name, expected] of Object.entries(JSON.parse(data('html.json')))) {
 
 test('what is never looked at in HTML is said', () => {
   assert.deepEqual(read('').unseen, [
-    'what scripts do as they run (calls, sockets, workers, code and elements that they insert, eval, WebAssembly): not looked at',
+    'what scripts do as they run (calls, sockets, workers, code and elements that they insert, eval, '
+      + 'WebAssembly): not looked at',
     'what style sheets, frames and modules load in their turn: not looked at',
     'who frames the page: not looked at',
   ]);
@@ -44,7 +48,8 @@ test('a request says what it is of', () => {
   const { pieces, origin } = read('<p>\n<button onclick="go()">');
   assert.equal(origin, 'https://a.example');
   assert.deepEqual(pieces[0], {
-    request: { kind: 'inline', type: 'script-attribute', source: 'go()', note: 'line 2: onclick of <button>' },
+    request: { kind: 'inline', type: 'script-attribute', source: 'go()',
+      note: 'line 2: onclick of <button>' },
     meta: [], said: 'onclick of <button>', line: 2, column: 9,
   });
 });
@@ -67,8 +72,10 @@ test('an address of a page that is none', () => {
 
 test('candidates of srcset', () => {
   for (const [text, expected] of /** @type {[string, string[]][]} */ ([
-    ['a.png', ['a.png']], ['a.png, b.png 2x', ['a.png', 'b.png']], [' a.png 100w,b.png 2x,', ['a.png', 'b.png']],
-    ['a,b.png 1x, c.png', ['a,b.png', 'c.png']], ['data:image/png;base64,AA== 2x', ['data:image/png;base64,AA==']],
+    ['a.png', ['a.png']], ['a.png, b.png 2x', ['a.png', 'b.png']],
+    [' a.png 100w,b.png 2x,', ['a.png', 'b.png']],
+    ['a,b.png 1x, c.png', ['a,b.png', 'c.png']],
+    ['data:image/png;base64,AA== 2x', ['data:image/png;base64,AA==']],
     ['a.png x(1,2), b.png', ['a.png', 'b.png']], ['', []], [' , ', []],
   ])) assert.deepEqual(srcsetUrls(text), expected, text);
 });

@@ -40,7 +40,8 @@ for (const [text, expected] of MARKED) {
 }
 
 test('a mark names its policy and its directive', () => {
-  const lines = ["Content-Security-Policy: img-src 'self', font-src 'self'", 'Content-Security-Policy: font-src none'];
+  const lines = ["Content-Security-Policy: img-src 'self', font-src 'self'",
+    'Content-Security-Policy: font-src none'];
   assert.deepEqual(marksOf(policiesOf(lines)), [
     { policy: 2, directive: 'font-src', said: "none without quotes is a host of that name: write 'none'" },
   ]);

@@ -8,12 +8,16 @@ const har = JSON.stringify({ log: { entries: [
 ].map(([url, to, value], n) => ({
   startedDateTime: `2026-01-01T00:00:0${n}Z`,
   request: { url, headers: [{ name: 'Sec-Fetch-Dest', value: to }] },
-  response: { status: 200, headers: [{ name: 'Content-Security-Policy', value }], content: { mimeType: 'text/html', text: '<p>' } },
+  response: { status: 200, headers: [{ name: 'Content-Security-Policy', value }],
+    content: { mimeType: 'text/html', text: '<p>' } },
 })) } });
 const files = [
-  { name: 'index.html', text: '<p style="x">' }, { name: 'index.html.headers', text: "Content-Security-Policy: img-src 'self'" },
-  { name: 'shop/my page.html', text: '<img src="x.png">' }, { name: 'shop/index.html', text: '<!DOCTYPE html>' },
-  { name: 'shop/app.js', text: 'go()' }, { name: 'old.txt', text: 'img-src *' }, { name: 'visit.json', text: har },
+  { name: 'index.html', text: '<p style="x">' },
+  { name: 'index.html.headers', text: "Content-Security-Policy: img-src 'self'" },
+  { name: 'shop/my page.html', text: '<img src="x.png">' },
+  { name: 'shop/index.html', text: '<!DOCTYPE html>' },
+  { name: 'shop/app.js', text: 'go()' }, { name: 'old.txt', text: 'img-src *' },
+  { name: 'visit.json', text: har },
 ];
 const base = 'https://a.example/new/';
 
@@ -38,7 +42,8 @@ test('each page has its own header', () => {
 test('one header stands for all pages, but not for frames', () => {
   const lines = ["Content-Security-Policy: media-src 'none'"];
   const { pages } = readSite(files, { parse, base, lines });
-  assert.deepEqual(pages.map(it => it.lines), [lines, lines, lines, lines, ["Content-Security-Policy: font-src 'self'"]]);
+  assert.deepEqual(pages.map(it => it.lines),
+    [lines, lines, lines, lines, ["Content-Security-Policy: font-src 'self'"]]);
 });
 
 test('pages of HTML need an address', () => {
@@ -48,7 +53,8 @@ test('pages of HTML need an address', () => {
 });
 
 test('the engine is asked once for each list of policies', () => {
-  const [meta, one] = ['Meta-Content-Security-Policy: img-src a.example', 'Content-Security-Policy: font-src a.example'];
+  const [meta, one] = ['Meta-Content-Security-Policy: img-src a.example',
+    'Content-Security-Policy: font-src a.example'];
   const piece = (/** @type {string} */ source, /** @type {string[]} */ under) =>
     ({ request: { kind: 'inline', type: 'style', source }, meta: under, said: source });
   const pieces = [piece('a', []), piece('b', [meta]), piece('c', []), piece('d', [meta])];
@@ -57,7 +63,9 @@ test('the engine is asked once for each list of policies', () => {
     ['https://a.example', `${one}\n`, ['a', 'c']], ['https://a.example', `${one}\n${meta}\n`, ['b', 'd']],
   ]);
   const many = Array.from({ length: 10_001 }, () => piece('x', []));
-  assert.deepEqual(questionsOf({ origin: 'null', lines: [], pieces: many }).map(it => it.pieces.length), [10_000, 1]);
+  assert.deepEqual(questionsOf({ origin: 'null', lines: [], pieces: many }).map(it => it.pieces.length),
+    [10_000, 1]);
   const long = Array.from({ length: 3 }, () => piece('x'.repeat(1_500_000), []));
-  assert.deepEqual(questionsOf({ origin: 'null', lines: [], pieces: long }).map(it => it.pieces.length), [2, 1]);
+  assert.deepEqual(questionsOf({ origin: 'null', lines: [], pieces: long }).map(it => it.pieces.length),
+    [2, 1]);
 });
