@@ -1,6 +1,7 @@
 // A recording of a browser (HAR) as pages: each page and each frame in it with its own headers, its own
 // HTML and the requests that it made.
 import { ReadingError } from './error.js';
+import { namedIn } from './code.js';
 import { readHtml } from './html.js';
 import { keyOf, requestsOf } from './hops.js';
 import { piecesOf } from './marks.js';
@@ -219,8 +220,9 @@ const saidOf = (chains, hasText) => {
 };
 
 const UNSEEN = [
-  'eval and WebAssembly, of which a recording tells nothing: not looked at',
-  'inline code, styles and handlers that scripts insert: not looked at',
+  'eval, WebAssembly and styles that scripts set, where the text of no script in the recording names them: '
+    + 'not looked at',
+  'inline code and handlers that scripts insert: not looked at',
   'blob: URLs, and the data: URLs that scripts and style sheets load: not looked at',
   'who frames the page: not looked at',
 ];
@@ -228,6 +230,20 @@ const NO_TEXT = 'inline code, nonces, integrity, forms and meta policies, since 
   + 'this page: not looked at (export the HAR with content)';
 const CACHED = 'the page came from the cache (status 304), and its headers may be missing: record it without '
   + 'cache';
+
+/**
+ * What the text of a script that was recorded names.
+ * @param {Chain} chain
+ * @param {string[]} meta
+ * @returns {Piece[]}
+ */
+const codeOf = ({ last, decision, name }, meta) => {
+  const text = decision.destination === 'script' ? textOf(last.response?.content) ?? '' : '';
+  return namedIn(text).map(({ request, said, line }) => {
+    const all = `${said} in ${name}, line ${line}`;
+    return { request: { ...request, note: all }, meta, said: all, possible: true };
+  });
+};
 
 /**
  * A page of the recording, or a frame or a worker of one.
@@ -246,7 +262,7 @@ const pageOf = ({ chain, role, parent, requests }, parse) => {
   const left = [...page.left, ...said, ...response?.status === 304 ? [{ said: CACHED }] : []];
   return {
     ...page, role, frameOf: parent === null ? null : addressOf(parent.chain), isEnforced, left,
-    pieces: joined(judged, page.pieces, page.meta),
+    pieces: [...joined(judged, page.pieces, page.meta), ...judged.flatMap(it => codeOf(it, page.meta))],
     unseen: [
       ...isEnforced ? [`what the enforced policy blocked: ${ENFORCED}`] : [],
       ...text === undefined ? [NO_TEXT] : [],

@@ -1,5 +1,6 @@
 // What a page's HTML loads, runs and does, as requests for the engine, each under the `meta` policies
 // that stand before it. One walk serves the trees of parse5 (parse5.js) and of a browser (dom.js).
+import { namedIn } from './code.js';
 import { isHandler } from './handlers.js';
 import { ReadingError } from './error.js';
 import { fetchesOf } from './elements.js';
@@ -16,6 +17,7 @@ import { asciiLower } from './words.js';
  * @property {number} [line]
  * @property {number} [column]
  * @property {(name: string) => At | undefined} at where an attribute stands
+ * @property {number} [textLine] where what it holds begins
  * @typedef {object} Tree
  * @property {any} root
  * @property {(node: any) => boolean} isElement
@@ -313,6 +315,19 @@ class Walk {
       this.leave(element.line, "'inline-speculation-rules' isn't looked at for speculation rules");
     }
     this.add({ kind: 'inline', type: 'script', source, ...Walk.elementMember(element) }, said, element);
+    if (type === 'classic' || type === 'module') this.code(source, element.textLine);
+  }
+
+  /**
+   * What the text of a script names.
+   * @param {string} source
+   * @param {number} [begin] the line in which it begins
+   */
+  code(source, begin) {
+    for (const { request, said, line } of namedIn(source)) {
+      const place = begin === undefined ? {} : { line: begin + line - 1, column: undefined };
+      this.late.push(() => this.add(request, `${said} in a script`, { ...place, possible: true }));
+    }
   }
 
   /** @param {Element} element */
@@ -457,8 +472,8 @@ class Walk {
 }
 
 const UNSEEN = [
-  'what scripts do as they run (calls, sockets, workers, code and elements that they insert, eval, '
-    + 'WebAssembly): not looked at',
+  'what scripts do as they run (calls, sockets, workers, code and elements that they insert): not looked at',
+  'eval, WebAssembly and styles that scripts set, where the text of no script in the page names them: not looked at',
   'what style sheets, frames and modules load in their turn: not looked at',
   'who frames the page: not looked at',
 ];

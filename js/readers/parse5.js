@@ -24,6 +24,7 @@ export const parseHtml = text => {
       namespace: element.namespaceURI,
       attributes: element.attrs.map(pairOf),
       isDoubled: tag !== undefined && doubled.some(it => it >= tag.startOffset && it < tag.endOffset),
+      textLine: tag?.endLine,
       line: tag?.startLine,
       column: tag?.startCol,
       at: (/** @type {string} */ name) => tag?.attrs?.[name],

@@ -33,5 +33,5 @@ test('the tree of a browser is read as that of parse5, without lines', () => {
     [{ kind: 'capability', name: 'scripts', note: 'the page needs scripts' }, undefined],
   ]);
   assert.deepEqual(pieces[0].meta, ["Meta-Content-Security-Policy: img-src 'self'"]);
-  assert.equal(unseen[3], 'what stands in <template>, of which there are 1: not looked at');
+  assert.equal(unseen[4], 'what stands in <template>, of which there are 1: not looked at');
 });

@@ -198,6 +198,15 @@ test('a request of an element has what the HTML says of it', () => {
   assert.ok(unseen.every(it => !it.includes('no text of this page')));
 });
 
+test('what the text of a script names is possible', () => {
+  const { pages: [{ pieces }] } = read(page('<p>'),
+    entry('https://b.example/x.js', { to: 'script', media: 'text/javascript', text: 'go();\neval(x)' }));
+  assert.deepEqual(pieces.map(it => [it.said, it.request.kind, it.possible]), [
+    ['script https://b.example/x.js', 'fetch', undefined],
+    ['eval in https://b.example/x.js, line 2', 'eval', true],
+  ]);
+});
+
 test('a request that was recorded is under the meta policies of the page', () => {
   const text = '<head><meta http-equiv="Content-Security-Policy" content="img-src a.example">';
   const { pages: [{ pieces, isEnforced }] } = read(page(text),
@@ -213,8 +222,9 @@ test('what a recording lacks is said', () => {
   assert.deepEqual(unseen, [
     'inline code, nonces, integrity, forms and meta policies, since the recording has no text of this page: '
       + 'not looked at (export the HAR with content)',
-    'eval and WebAssembly, of which a recording tells nothing: not looked at',
-    'inline code, styles and handlers that scripts insert: not looked at',
+    'eval, WebAssembly and styles that scripts set, where the text of no script in the recording names them: '
+      + 'not looked at',
+    'inline code and handlers that scripts insert: not looked at',
     'blob: URLs, and the data: URLs that scripts and style sheets load: not looked at',
     'who frames the page: not looked at',
   ]);

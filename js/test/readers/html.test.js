@@ -27,7 +27,7 @@ for (const [name, expected] of Object.entries(JSON.parse(data('html.json')))) {
   test(`what ${name} holds`, () => {
     const { pieces, left, taken, unseen } = read(data(`html/${name}`));
     const got = {
-      pieces: pieces.map(row), left: told(left), taken: told(taken), unseen: unseen.slice(3),
+      pieces: pieces.map(row), left: told(left), taken: told(taken), unseen: unseen.slice(4),
       under: Object.fromEntries(pieces.filter(it => it.meta.length > 0).map(it =>
         [row(it), it.meta.map(one => one.slice(30))])),
     };
@@ -37,8 +37,9 @@ for (const [name, expected] of Object.entries(JSON.parse(data('html.json')))) {
 
 test('what is never looked at in HTML is said', () => {
   assert.deepEqual(read('').unseen, [
-    'what scripts do as they run (calls, sockets, workers, code and elements that they insert, eval, '
-      + 'WebAssembly): not looked at',
+    'what scripts do as they run (calls, sockets, workers, code and elements that they insert): not looked at',
+    'eval, WebAssembly and styles that scripts set, where the text of no script in the page names them: '
+      + 'not looked at',
     'what style sheets, frames and modules load in their turn: not looked at',
     'who frames the page: not looked at',
   ]);
@@ -63,6 +64,26 @@ test('where base is blocked, URLs begin at the page', () => {
 
 test('the text of a script is that of the page, with its line ends made one', () => {
   assert.equal(read('<script>a\r\nb&amp;\rc</script>').pieces[0].request.source, 'a\nb&amp;\nc');
+});
+
+test('what the text of a script names is possible', () => {
+  const text = `<p>
+<script>
+  f.eval(1); evaluate(1); eval('1'); new Function('a', 'b')();
+  setTimeout("go()", 1); setTimeout(go, 1); setTimeout('x'); WebAssembly.instantiateStreaming(x);
+  it.setAttribute('style', 'color: red');
+  document.createElement("style"); document.createElement('p');
+  new Worker(URL.createObjectURL(new Blob([])));
+</script><script type="text/plain">eval(1)</script>`;
+  const { pieces } = read(text);
+  assert.deepEqual(pieces.filter(it => it.possible).map(it => `${it.line} ${it.said}`), [
+    '3 eval in a script', '3 Function in a script', '4 a timer of a string in a script',
+    '4 a timer of a string in a script', '4 WebAssembly in a script', '5 a style attribute that is set in a script',
+    '6 a style element that is made in a script', '7 a worker of a blob in a script',
+  ]);
+  assert.deepEqual(pieces.filter(it => it.possible).map(it => it.request.kind), [
+    'eval', 'eval', 'eval', 'eval', 'wasm', 'inline', 'inline', 'fetch',
+  ]);
 });
 
 test('an address of a page that is none', () => {
