@@ -170,7 +170,7 @@ const requestOf = ({ first, urls, name, decision: { destination } }) => ({
 const joined = (chains, pieces, meta) => {
   const waiting = /** @type {Map<string, Piece[]>} */ (new Map());
   for (const it of pieces) {
-    if (it.request.kind !== 'fetch') continue;
+    if (it.request.kind !== 'fetch' || typeof it.request.url !== 'string') continue;
     const name = `${it.request.destination} ${keyOf(it.request.url)}`, others = waiting.get(name);
     if (others === undefined) waiting.set(name, [it]);
     else others.push(it);

@@ -199,9 +199,11 @@ test('a request of an element has what the HTML says of it', () => {
 });
 
 test('what the text of a script names is possible', () => {
-  const { pages: [{ pieces }] } = read(page('<p>'),
+  const { pages: [{ pieces }] } = read(page('<script>new Worker(URL.createObjectURL(x))</script>'),
     entry('https://b.example/x.js', { to: 'script', media: 'text/javascript', text: 'go();\neval(x)' }));
-  assert.deepEqual(pieces.map(it => [it.said, it.request.kind, it.possible]), [
+  assert.deepEqual(pieces.slice(1).map(it => [it.said, it.request.kind, it.possible]), [
+    ['a worker of a blob in a script', 'fetch', true],
+    ['the page needs scripts', 'capability', undefined],
     ['script https://b.example/x.js', 'fetch', undefined],
     ['eval in https://b.example/x.js, line 2', 'eval', true],
   ]);
