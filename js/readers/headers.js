@@ -116,21 +116,40 @@ const valueAt = (text, at, { end, quote }) => {
       write: `Write ${opens} behind the value`, line: lineAt(text, at),
     });
   }
+  if (/^[\w'"`]/.test(rest.slice(closed[0].length))) {
+    throw new ReadingError({
+      said: `the quote ${opens} that opens the value ends it too early`, found: closed[0],
+      write: `Write \\${opens} inside of the value, or other quotes around it`, line: lineAt(text, at),
+    });
+  }
   return { value: closed[1].replace(/\\\n/g, '\n').replace(/\\([\s\S])/g, '$1'), isQuoted: true };
 };
 
 /**
- * A value without quotes. It goes on in lines that begin with white space and aren't headers of their own.
+ * A value without quotes. It goes on in lines that begin with white space, or with a directive where no
+ * server has sent it, and that aren't headers of their own.
  * @param {string} rest
  * @param {RegExp} end
+ * @param {boolean} [isSent]
  */
-const folded = (rest, end) => {
+const folded = (rest, end, isSent = false) => {
   if (end.source !== '\\n') return rest.split(end)[0];
   const [first, ...rows] = rest.split('\n');
-  const stop = rows.findIndex(it => !/^[ \t]+\S/.test(it) || /^[ \t]*[\w-]+:(?:\s|$)/.test(it));
-  const more = stop < 0 ? rows : rows.slice(0, stop);
-  return first.trim() === '' && more.length === 0 ? rows[0] ?? '' : [first, ...more].join('\n');
+  const goesOn = (/** @type {string} */ it) => !/^[ \t]*[\w-]+:(?:\s|$)/.test(it)
+    && (/^[ \t]+\S/.test(it) || !isSent && isDirectiveRow(it));
+  const stop = rows.findIndex(it => !goesOn(it)), more = stop < 0 ? rows : rows.slice(0, stop);
+  if (first.trim() === '' && more.length === 0) return rows[0] ?? '';
+  return isSent ? [first, ...more].join('\n') : together([first, ...more]);
 };
+
+/**
+ * Rows as one value. A row that begins with a directive begins one.
+ * @param {string[]} rows
+ */
+const together = rows => rows.map(it => it.trim()).filter(it => it !== '').reduce((value, row) => {
+  const isNew = value !== '' && isDirectiveRow(row) && !value.endsWith(';');
+  return `${value}${isNew ? ';' : ''} ${row}`;
+}, '');
 
 /**
  * The policies that a header block or a configuration names.
@@ -150,7 +169,7 @@ const named = (text, isSent, read) => {
     }
     const quote = form.as === 'a header line in quotes' ? before.slice(-1) : undefined;
     const found = valueAt(text, at, { end: form.end, quote }), isLine = form.as === 'a header line';
-    const given = isSent ? folded(text.slice(at).replace(/^\s*:/, ''), /\n/) : found.value;
+    const given = isSent ? folded(text.slice(at).replace(/^\s*:/, ''), /\n/, true) : found.value;
     put(NAMES.find(it => asciiLower(it) === asciiLower(word)) ?? '', oneLine(given, line), before, read);
     read.taken.push({ line, said: `read as ${form.as}` });
     if (isLine && found.isQuoted) read.left.push({ line, said: isSent ? QUOTES_SENT : QUOTES_TAKEN });
@@ -214,22 +233,24 @@ const bare = (text, read) => {
   const rows = text.split('\n').map((it, n) => ({ text: unquoted(it.trim()), line: n + 1 }))
     .filter(it => it.text !== '' && !it.text.startsWith('#'));
   if (rows.length === 0 || !isDirectiveRow(rows[0].text)) return;
-  let value = '';
-  for (const { text: row } of rows) {
-    value += value === '' ? row : `${isDirectiveRow(row) && !value.endsWith(';') ? ';' : ''} ${row}`;
-  }
   const { line } = rows[0], to = rows.length > 1 ? `, in lines ${line} to ${rows[rows.length - 1].line}` : '';
+  const value = together(rows.map(it => it.text));
   read.lines.push(`Content-Security-Policy: ${oneLine(value, line)}`);
   read.taken.push({ line, said: `read as a bare value of an enforced policy${to}` });
 };
 
 /**
- * Headers that browsers of today pass over, and names that are near to one that they read.
+ * Headers that browsers of today pass over, names that are near to one that they read, and lines that are no
+ * headers where a server has sent them.
  * @param {string} text
+ * @param {boolean} isSent
  * @param {Headers} read
  */
-const passedOver = (text, read) => text.split('\n').forEach((row, n) => {
-  const name = /^(?:< ?)?\s*([\w-]+)\s*:/.exec(row)?.[1], line = n + 1;
+const passedOver = (text, isSent, read) => text.split('\n').forEach((row, n) => {
+  const name = /^(?:< ?)?\s*:?([\w-]+)\s*:/.exec(row)?.[1], line = n + 1;
+  if (name === undefined && isSent && !/^$|^\s|^(?:< ?)?HTTP\//.test(row)) {
+    read.left.push({ line, said: `this is no header line, and is left out: "${row.slice(0, 60)}"` });
+  }
   if (name === undefined || NAMES.some(it => asciiLower(it) === asciiLower(name))) return;
   const old = /^x-(?:content-security-policy|webkit-csp)(?:-report-only)?$/i.test(name);
   const near = nearest(name, NAMES.map(asciiLower));
@@ -279,7 +300,7 @@ export const readHeaders = (given, { parse, name } = {}) => {
     if (isPlain && objects(text, read)) return ended(text, read);
     read.taken.push(...said);
     named(head, isSent, read);
-    passedOver(head, read);
+    passedOver(head, isSent, read);
     if (isPlain && read.lines.length === 0 && read.left.length === 0) bare(head, read);
     if (PAGE.test(body)) metas(body, read, parse);
     return ended(text, read);

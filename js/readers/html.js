@@ -473,7 +473,8 @@ class Walk {
 
 const UNSEEN = [
   'what scripts do as they run (calls, sockets, workers, code and elements that they insert): not looked at',
-  'eval, WebAssembly and styles that scripts set, where the text of no script in the page names them: not looked at',
+  'eval, WebAssembly and styles that scripts set, where the text of no script in the page names them: '
+    + 'not looked at',
   'what style sheets, frames and modules load in their turn: not looked at',
   'who frames the page: not looked at',
 ];

@@ -20,6 +20,9 @@ const REFUSED = [
   ['\nadd_header Content-Security-Policy "img-src *;',
     'x.txt, line 2: the quote " that opens the value isn\'t closed: ""img-src *;". '
       + 'Write " behind the value.'],
+  ["add_header Content-Security-Policy 'default-src 'self'';",
+    `x.txt, line 1: the quote ' that opens the value ends it too early: "'default-src '". `
+      + "Write \\' inside of the value, or other quotes around it."],
   ['{"directives": {\n"defaultSrc": [(req, res) => nonce]}}',
     'x.txt, line 2: this is code, or no literal: "(req, res) => nonce]}}". '
       + 'Write the text that it gives, in quotes.'],
@@ -39,6 +42,18 @@ test('a page that speaks of directives is a page', () => {
   const text = '<head><meta http-equiv="Content-Security-Policy" content="img-src *">'
     + '<script>({ directives: {} })</script>';
   assert.deepEqual(readHeaders(text, { parse }).lines, ['Meta-Content-Security-Policy: img-src *']);
+});
+
+test('directives below a header line belong to it, where no server has sent it', () => {
+  const text = "Content-Security-Policy: default-src 'self'\nimg-src https:\nfont-src a.example;\nServer: x";
+  assert.deepEqual(readHeaders(text).lines,
+    ["Content-Security-Policy: default-src 'self'; img-src https:; font-src a.example;"]);
+  const { lines, left } = readHeaders(`HTTP/2 200\n${text}`);
+  assert.deepEqual(lines, ["Content-Security-Policy: default-src 'self'"]);
+  assert.deepEqual(told(left), [
+    '3 this is no header line, and is left out: "img-src https:"',
+    '4 this is no header line, and is left out: "font-src a.example;"',
+  ]);
 });
 
 test('quotes that a server sent stay', () => {

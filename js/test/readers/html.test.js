@@ -37,7 +37,8 @@ for (const [name, expected] of Object.entries(JSON.parse(data('html.json')))) {
 
 test('what is never looked at in HTML is said', () => {
   assert.deepEqual(read('').unseen, [
-    'what scripts do as they run (calls, sockets, workers, code and elements that they insert): not looked at',
+    'what scripts do as they run (calls, sockets, workers, code and elements that they insert): '
+      + 'not looked at',
     'eval, WebAssembly and styles that scripts set, where the text of no script in the page names them: '
       + 'not looked at',
     'what style sheets, frames and modules load in their turn: not looked at',
@@ -78,7 +79,8 @@ test('what the text of a script names is possible', () => {
   const { pieces } = read(text);
   assert.deepEqual(pieces.filter(it => it.possible).map(it => `${it.line} ${it.said}`), [
     '3 eval in a script', '3 Function in a script', '4 a timer of a string in a script',
-    '4 a timer of a string in a script', '4 WebAssembly in a script', '5 a style attribute that is set in a script',
+    '4 a timer of a string in a script', '4 WebAssembly in a script',
+    '5 a style attribute that is set in a script',
     '6 a style element that is made in a script', '7 a worker of a blob in a script',
   ]);
   assert.deepEqual(pieces.filter(it => it.possible).map(it => it.request.kind), [
