@@ -491,6 +491,8 @@ const hiddenSaid = ({ noscript, template, sheets }, isRecorded) => [
     ? [`what styles in the page load by url() or @import, of which ${sheets} do: not looked at`] : [],
 ];
 
+const UPGRADES = 'upgrade-insecure-requests, by which browsers load URLs of http by https: not looked at';
+
 /**
  * Reads a page's HTML.
  * @param {string} text
@@ -511,6 +513,9 @@ export const readHtml = (text, { url, parse, lines = [], isRecorded = false, isB
   const walk = new Walk(url, parse, isBaseBlocked);
   walk.walk(parse(text.replace(/^\uFEFF/, '')));
   walk.capabilities();
-  const unseen = [...isRecorded ? [] : UNSEEN, ...hiddenSaid(walk.hidden, isRecorded)];
+  const upgrades = /[:;,]\s*upgrade-insecure-requests\s*(?:[;,]|$)/im.test([...lines, ...walk.meta].join('\n'));
+  const unseen = [
+    ...isRecorded ? [] : UNSEEN, ...hiddenSaid(walk.hidden, isRecorded), ...upgrades ? [UPGRADES] : [],
+  ];
   return { url, origin: address.origin, lines, meta: walk.meta, ...walk.page, unseen };
 };

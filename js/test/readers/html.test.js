@@ -46,6 +46,13 @@ test('what is never looked at in HTML is said', () => {
   ]);
 });
 
+test('upgrade-insecure-requests is not looked at, which is said', () => {
+  const said = 'upgrade-insecure-requests, by which browsers load URLs of http by https: not looked at';
+  const of = (/** @type {string} */ line) => readHtml('', { url, parse, lines: [line] }).unseen.includes(said);
+  assert.ok(of("Content-Security-Policy: img-src 'self'; Upgrade-Insecure-Requests"));
+  assert.ok(!of('Content-Security-Policy: report-uri /upgrade-insecure-requests'));
+});
+
 test('a request says what it is of', () => {
   const { pieces, origin } = read('<p>\n<button onclick="go()">');
   assert.equal(origin, 'https://a.example');
