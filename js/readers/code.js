@@ -1,5 +1,6 @@
 // Places in the text of a script where it names what a policy decides: strings that are run as script,
-// WebAssembly, styles that it sets, workers of blobs. The text is searched, not run: all of it is possible only.
+// WebAssembly, styles that it sets, workers of blobs. The text is searched, not run: all of it is possible
+// only.
 
 /**
  * @typedef {{request: import('./html.js').Request, said: string, line: number}} Named a place, by its line

@@ -513,7 +513,8 @@ export const readHtml = (text, { url, parse, lines = [], isRecorded = false, isB
   const walk = new Walk(url, parse, isBaseBlocked);
   walk.walk(parse(text.replace(/^\uFEFF/, '')));
   walk.capabilities();
-  const upgrades = /[:;,]\s*upgrade-insecure-requests\s*(?:[;,]|$)/im.test([...lines, ...walk.meta].join('\n'));
+  const policies = [...lines, ...walk.meta].join('\n');
+  const upgrades = /[:;,]\s*upgrade-insecure-requests\s*(?:[;,]|$)/im.test(policies);
   const unseen = [
     ...isRecorded ? [] : UNSEEN, ...hiddenSaid(walk.hidden, isRecorded), ...upgrades ? [UPGRADES] : [],
   ];

@@ -161,6 +161,21 @@ test('what frames and workers load stands under them', () => {
   assert.deepEqual(left, []);
 });
 
+test('a script that page and frame both load is told apart by the origin in Referer', () => {
+  const frame = 'https://f.example/player', lib = 'https://s.example/lib.js';
+  const began = { type: 'script', stack: { callFrames: [{ url: lib }] } };
+  const { pages, left } = read(
+    page('<p>'), entry(frame, { to: 'iframe', type: 'document', media: 'text/html', from: url }),
+    entry(lib, { to: 'script', from: url }), entry(lib, { to: 'script', from: 'https://f.example/' }),
+    entry('https://i.example/1.png', { to: 'image', by: began, from: 'https://f.example/' }),
+    entry('https://i.example/2.png', { to: 'image', by: began, from: url }),
+  );
+  assert.deepEqual(pages.map(it => it.pieces.map(one => one.request.url)), [
+    [frame, lib, 'https://i.example/2.png'], [lib, 'https://i.example/1.png'],
+  ]);
+  assert.deepEqual(left, []);
+});
+
 test('where a page and a frame of its origin may be meant, the page is taken, and that is said', () => {
   const { pages, left } = read(
     page('<p>'), entry('https://a.example/f',

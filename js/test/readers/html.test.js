@@ -48,7 +48,8 @@ test('what is never looked at in HTML is said', () => {
 
 test('upgrade-insecure-requests is not looked at, which is said', () => {
   const said = 'upgrade-insecure-requests, by which browsers load URLs of http by https: not looked at';
-  const of = (/** @type {string} */ line) => readHtml('', { url, parse, lines: [line] }).unseen.includes(said);
+  const of = (/** @type {string} */ line) =>
+    readHtml('', { url, parse, lines: [line] }).unseen.includes(said);
   assert.ok(of("Content-Security-Policy: img-src 'self'; Upgrade-Insecure-Requests"));
   assert.ok(!of('Content-Security-Policy: report-uri /upgrade-insecure-requests'));
 });

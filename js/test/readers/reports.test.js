@@ -1,6 +1,7 @@
 import assert from 'node:assert/strict';
 import { test } from 'node:test';
 import { gzipSync } from 'node:zlib';
+import { Pieces } from '../../readers/pieces.js';
 import { Reports, Tally } from '../../readers/reports.js';
 import { blockedBy, violationOf } from '../../readers/violations.js';
 import { data } from './tree.js';
@@ -63,6 +64,12 @@ test('a line that never ends is passed over, and read on behind it', async () =>
     const { rows, reports } = await read(cut(bytes(`${junk}\n${one}\n`), 50_000));
     assert.deepEqual([rows, reports.pieces.bad], [['2 img-src data'], 1]);
   }
+});
+
+test('a line that is cut off is told as soon as the next one begins', () => {
+  const pieces = new Pieces();
+  assert.deepEqual([...pieces.take('{"a": {"b": 1,\n{"c": 1}\n', false)], [{ line: 2, value: { c: 1 } }]);
+  assert.deepEqual(pieces.badLines, [{ line: 1, found: '{"a": {"b": 1,' }]);
 });
 
 for (const [name, text] of [['nothing', ''], ['no report', '{"a": 1}'], ['white space', ' \n\n']]) {
