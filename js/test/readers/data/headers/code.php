@@ -1,0 +1,2 @@
+<?php
+header("Content-Security-Policy: default-src 'self'; img-src https:");
