@@ -1,0 +1,120 @@
+/** Reads the command line: the word, its members and its options. */
+import { readFileSync } from 'node:fs';
+import { parseArgs } from 'node:util';
+import { Refusal } from '../refusal.js';
+import { usageOf } from './help.js';
+import { ORIGINS, WORDS } from './words.js';
+
+/** @typedef {import('./words.js').Word} Word */
+
+/**
+ * What is wanted of the answer.
+ * @typedef {{ all: boolean, json: boolean, sarif: boolean, github: boolean, help: boolean,
+ *   'save-proof'?: string }} Options
+ */
+
+/**
+ * The line, read: the word, the origins and the paths of the files by their members' names, and the options.
+ * @typedef {{ word: Word, origins: Record<string, string>, paths: Record<string, string>,
+ *   options: Options }} Line
+ */
+
+const USAGE = 2;
+const READ_FAULT = 8;
+
+const OPTIONS = /** @type {const} */ ({
+  all: { type: 'boolean', default: false }, json: { type: 'boolean', default: false },
+  sarif: { type: 'boolean', default: false }, github: { type: 'boolean', default: false },
+  help: { type: 'boolean', default: false }, 'save-proof': { type: 'string' },
+});
+
+/**
+ * @param {string} problem
+ * @param {string} hint
+ */
+const usage = (problem, hint) => new Refusal(USAGE, { problem, hint });
+
+/** @param {string} text */
+const wordOf = text => {
+  const found = WORDS.find(it => it.word === text);
+  if (found !== undefined) return found;
+  const near = WORDS.find(it => it.word.startsWith(text.toLowerCase().slice(0, 3)));
+  const hint = near === undefined ? 'guidecerise --help has all words.' : `Write ${near.word}?`;
+  throw usage(`no word ${JSON.stringify(text)}`, hint);
+};
+
+/**
+ * @param {Word} word
+ * @param {string[]} args
+ */
+const parsed = ({ members }, args) => {
+  const text = /** @type {const} */ ({ type: 'string' });
+  const named = members.filter(it => it !== 'lists').map(it => [it, text]);
+  const { values, positionals } = parseArgs({
+    args, allowPositionals: true, options: { ...Object.fromEntries(named), ...OPTIONS },
+  });
+  const options = /** @type {Options} */ (/** @type {unknown} */ (values));
+  return { given: /** @type {Record<string, string | undefined>} */ (values), positionals, options };
+};
+
+/**
+ * The members and their values: those that are named, and for the others the positionals in their order.
+ * @param {Word} word
+ * @param {Record<string, string | undefined>} given
+ * @param {string[]} positionals
+ */
+const placed = ({ members }, given, positionals) => {
+  const left = [...positionals];
+  /** @type {[string, string][]} */
+  const values = [];
+  for (const name of members.filter(it => it !== 'lists')) {
+    const value = given[name] ?? left.shift();
+    if (value === undefined) throw new TypeError(`${name.toUpperCase()} is missing`);
+    values.push([name, value]);
+  }
+  if (members.includes('lists')) left.splice(0).forEach((it, n) => values.push([`list ${n + 1}`, it]));
+  if (left.length > 0) throw new TypeError(`one word too many: ${left[0]}`);
+  if (values.filter(([, it]) => it === '-').length > 1) throw new TypeError('- stands for two files');
+  return values;
+};
+
+/**
+ * @param {string} first
+ * @param {string[]} rest
+ * @returns {Line}
+ */
+export const lineOf = (first, rest) => {
+  const word = wordOf(first);
+  try {
+    const { given, positionals, options } = parsed(word, rest);
+    if (options.help) return { word, origins: {}, paths: {}, options };
+    const isShown = options.sarif || options.github, isSaved = options['save-proof'] !== undefined;
+    if (isShown && !word.finds) throw new TypeError(`${first} finds nothing that has a line`);
+    if (isSaved && first !== 'compare') throw new TypeError('--save-proof goes with compare');
+    const values = placed(word, given, positionals);
+    const origins = values.filter(([name]) => ORIGINS.includes(name));
+    const paths = values.filter(([name]) => !ORIGINS.includes(name));
+    return { word, origins: Object.fromEntries(origins), paths: Object.fromEntries(paths), options };
+  } catch (error) {
+    if (error instanceof TypeError) throw usage(error.message, `Usage: ${usageOf(word)}`);
+    throw error;
+  }
+};
+
+const UNREAD = /** @type {Record<string, string>} */ ({
+  ENOENT: 'there is no such file', EISDIR: 'it is a folder', EACCES: 'you may not read it',
+});
+
+/**
+ * What a file holds; - is standard input.
+ * @param {string} file
+ * @param {string} path
+ */
+export const read = (file, path) => {
+  try {
+    return readFileSync(path === '-' ? 0 : path);
+  } catch (error) {
+    const { code = '' } = /** @type {NodeJS.ErrnoException} */ (error);
+    throw new Refusal(READ_FAULT, { file, problem: UNREAD[code] ?? `it can't be read (${code})` });
+  }
+};
