@@ -1,5 +1,5 @@
 /** Why there is no answer: what the engine refused, where it stands, and what to write. */
-import { linesOfItems, textOfLine } from './places.js';
+import { itemsOf, textOfLine } from './places.js';
 import { CAPABILITIES, DESTINATIONS, INLINE_TYPES, KINDS } from './requests.js';
 
 /**
@@ -53,6 +53,9 @@ const quoted = value => {
   const text = JSON.stringify(value) ?? 'missing';
   return text.length > 60 ? text.slice(0, 59) + '…' : text;
 };
+
+/** @param {readonly unknown[]} values */
+const listed = values => values.map(quoted).join(', ');
 
 /** @param {string | Uint8Array} content */
 const textOf = content => typeof content === 'string' ? content : new TextDecoder().decode(content);
@@ -156,12 +159,13 @@ const SAID = /** @type {Record<string, string>} */ ({
  * @returns {Fault}
  */
 const badMember = (content, request, member) => {
-  const line = linesOfItems(content)[request - 1], value = valueOf(content)?.[request - 1];
+  const { line } = itemsOf(content)[request - 1] ?? {}, value = valueOf(content)?.[request - 1];
   const got = member === 'object' ? value : value?.[member], { allowed, hint } = MEMBERS[member] ?? {};
   const near = member === 'destination' ? SAID[got] : undefined;
   const hints = [
     near === undefined ? '' : `Write ${quoted(near)}.`,
-    allowed === undefined ? '' : `One of ${allowed.map(quoted).join(', ')}.`, hint ?? '',
+    allowed === undefined ? '' : `${near === undefined ? 'Write one of' : 'All words:'} ${listed(allowed)}.`,
+    hint ?? '',
   ];
   return {
     file: 'requests', line, request, member, got, allowed,
@@ -170,21 +174,32 @@ const badMember = (content, request, member) => {
   };
 };
 
+/** @param {string} text */
+const faultOf = text => {
+  try {
+    JSON.parse(text);
+    return undefined;
+  } catch (error) {
+    return /** @type {Error} */ (error).message;
+  }
+};
+
 /**
  * @param {string} content
  * @returns {Fault}
  */
 const notArray = content => {
-  const fault = { file: 'requests', hint: 'Write a JSON array of requests, as [{"kind": "eval"}].' };
-  if (content.trim() === '') return { ...fault, problem: 'empty' };
-  try {
-    const isArray = Array.isArray(JSON.parse(content));
-    return { ...fault, problem: isArray ? 'not UTF-8, or nested too deeply' : 'JSON, but no array' };
-  } catch (error) {
-    const { message } = /** @type {Error} */ (error), [, position] = /at position (\d+)/.exec(message) ?? [];
-    const line = position === undefined ? undefined : content.slice(0, Number(position)).split('\n').length;
-    return { ...fault, line, problem: `no JSON: ${message}` };
+  const told = { file: 'requests', hint: 'Write a JSON array of requests, as [{"kind": "eval"}].' };
+  const fault = faultOf(content), items = content.trimStart().startsWith('[') ? itemsOf(content) : [];
+  const at = items.findIndex(it => faultOf(it.text) !== undefined);
+  if (content.trim() === '') return { ...told, problem: 'empty' };
+  if (fault === undefined) {
+    const isArray = Array.isArray(valueOf(content));
+    return { ...told, problem: isArray ? 'not UTF-8, or nested too deeply' : 'JSON, but no array' };
   }
+  if (at === -1) return { ...told, problem: `no JSON: ${fault}` };
+  const { text, line } = items[at], problem = text === '' ? 'a comma too many' : `no JSON: ${faultOf(text)}`;
+  return { ...told, line, request: at + 1, got: text, problem: `request ${at + 1}: ${problem}` };
 };
 
 const LIMITS = /** @type {Record<string, string>} */ ({

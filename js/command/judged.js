@@ -1,7 +1,7 @@
 /** What is said for a person of verdicts: judge, why and report. */
 import { describe, describeText, hostOf } from '../describe.js';
 import { blocksNothing } from '../index.js';
-import { linesOfItems } from '../places.js';
+import { itemsOf } from '../places.js';
 import { plain, table, wrapped } from './page.js';
 
 /**
@@ -136,7 +136,7 @@ const summed = (verdicts, requests, asked) => {
   return {
     mood: blocked > 0 ? 'red' : reported > 0 || isVoid || all === 0 ? 'yellow' : 'green',
     sentence: sentenceOf(all, blocked, reported),
-    warnings: isVoid ? [`${names.headers} blocks nothing at all: no enforced policy in it decides anything.`] : [],
+    warnings: isVoid ? [`${names.headers} blocks nothing at all: no enforced policy decides anything.`] : [],
     covers: coverage(requests, asked),
     status: blocked > 0 ? 1 : 0,
   };
@@ -148,10 +148,10 @@ const summed = (verdicts, requests, asked) => {
  * @returns {Finding[]}
  */
 const findingsOf = (rows, { text, names }) => {
-  const lines = linesOfItems(text('requests'));
+  const items = itemsOf(text('requests'));
   return rows.map(({ number, item, request }) => ({
     rule: item.effective, level: item.disposition === 'enforce' ? 'error' : 'warning',
-    file: names.requests, line: lines[number - 1],
+    file: names.requests, line: items[number - 1].line,
     message: `${plain(describeText(request))} is ${answerOf(item).text}`
       + ` by ${item.governing} of the ${ordinal(item.policy)} policy`,
   }));

@@ -38,7 +38,7 @@ const usage = (problem, hint) => new Refusal(USAGE, { problem, hint });
 const wordOf = text => {
   const found = WORDS.find(it => it.word === text);
   if (found !== undefined) return found;
-  const near = WORDS.find(it => it.word.startsWith(text.toLowerCase().slice(0, 3)));
+  const near = WORDS.find(it => it.word.startsWith(text.toLowerCase().slice(0, 2)));
   const hint = near === undefined ? 'guidecerise --help has all words.' : `Write ${near.word}?`;
   throw usage(`no word ${JSON.stringify(text)}`, hint);
 };
@@ -96,8 +96,8 @@ export const lineOf = (first, rest) => {
     const paths = values.filter(([name]) => !ORIGINS.includes(name));
     return { word, origins: Object.fromEntries(origins), paths: Object.fromEntries(paths), options };
   } catch (error) {
-    if (error instanceof TypeError) throw usage(error.message, `Usage: ${usageOf(word)}`);
-    throw error;
+    if (!(error instanceof TypeError)) throw error;
+    throw usage(error.message.split('. To specify')[0], `Usage: ${usageOf(word)}`);
   }
 };
 
@@ -115,6 +115,7 @@ export const read = (file, path) => {
     return readFileSync(path === '-' ? 0 : path);
   } catch (error) {
     const { code = '' } = /** @type {NodeJS.ErrnoException} */ (error);
-    throw new Refusal(READ_FAULT, { file, problem: UNREAD[code] ?? `it can't be read (${code})` });
+    const hint = /^(https?:|null$)/.test(path) ? 'An origin stands here in place of a file.' : undefined;
+    throw new Refusal(READ_FAULT, { file, problem: UNREAD[code] ?? `it can't be read (${code})`, hint });
   }
 };

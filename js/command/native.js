@@ -29,8 +29,8 @@ export const runProgram = async (words, path) => {
     const { status } = spawnSync(path, words, { stdio: 'inherit' });
     return { code: status ?? NOT_RUN, bytes: new Uint8Array() };
   }
-  const members = WORDS.find(it => it.word === words[0])?.members ?? words;
-  const first = 1 + members.filter(it => ORIGINS.includes(it)).length;
+  const members = WORDS.find(it => it.word === words[0])?.members;
+  const first = members === undefined ? words.length : 1 + members.filter(it => ORIGINS.includes(it)).length;
   const files = words.slice(first).flatMap((word, n) =>
     contentOf(word).map(bytes => /** @type {[string, Uint8Array]} */ ([`file ${n}`, bytes])));
   return (await loadEngine()).call(words.map((it, n) => n < first ? it : `file ${n - first}`), files);
