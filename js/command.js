@@ -18,7 +18,7 @@ const WRITE_FAULT = 9;
 // The version of what --json prints. A member may be added to it; what else changes makes it another.
 const SCHEMA = 1;
 
-const version = () => JSON.parse(readFileSync(new URL('package.json', import.meta.url), 'utf8')).version;
+const version = () => readFileSync(new URL('VERSION', import.meta.url), 'utf8').trim();
 
 /** @param {unknown} value */
 const json = value => JSON.stringify(value, null, 2) + '\n';
