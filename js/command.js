@@ -1,5 +1,6 @@
 /** The command `guidecerise`: asks what the command line says, and prints the answer. */
 import { readFileSync, writeFileSync } from 'node:fs';
+import { acceptedIn } from './command/accepted.js';
 import { help, helpOf } from './command/help.js';
 import { lineOf, read } from './command/line.js';
 import { runProgram } from './command/native.js';
@@ -72,11 +73,13 @@ const answered = async (line, environment) => {
   const { word, origins, paths, options } = line, page = pageOf(process.stdout, environment);
   const files = Object.entries(paths).map(([name, path]) => [name, read(name, path)]);
   const contents = /** @type {Record<string, Buffer>} */ (Object.fromEntries(files));
+  const accepted = options.accepted === undefined ? new Map() : acceptedIn(options.accepted);
   const program = await programOf(environment.GUIDECERISE_PROGRAM);
   const [answer, told] = withProgress(() => {
     const got = word.ask(program, callOf(line, contents)), { origin, embedder = '' } = origins;
     const text = (/** @type {string} */ name) => contents[name].toString();
-    return [got, word.tell(got, { program, origin, embedder, names: paths, contents, text, options, page })];
+    const asked = { program, origin, embedder, names: paths, contents, text, options, accepted, page };
+    return [got, word.tell(got, asked)];
   });
   const path = options['save-proof'];
   if (path !== undefined && answer.proof !== undefined) save(path, answer.proof);

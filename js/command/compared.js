@@ -18,6 +18,7 @@ export const MEANS_NOTHING = 15;
 const UNCOVERED = 'Not compared: Trusted Types, upgrade-insecure-requests, and what only reports.';
 
 const red = (/** @type {string} */ text) => ({ text, colour: /** @type {const} */ ('red') });
+const yellow = (/** @type {string} */ text) => ({ text, colour: /** @type {const} */ ('yellow') });
 
 /** @param {Shown} shown */
 const textOf = ({ request, url }) => {
@@ -37,23 +38,41 @@ const lineOfPolicy = headers =>
   Math.max(1, headers.split('\n').findIndex(it => /^(meta-)?content-security-policy:/i.test(it)) + 1);
 
 /**
+ * What is to be known beside the rows: nonces that differ, and what was accepted, needed or not.
+ * @param {Difference[]} differences
+ * @param {Map<string, string>} accepted
+ */
+const warningsOf = (differences, accepted) => {
+  const hasNonce = differences.some(({ request }) => 'nonce' in request && request.nonce);
+  const weaker = new Set(differences.map(it => it.directive));
+  return [
+    ...hasNonce ? ['The nonces differ. To compare the rest, write one nonce into both files.'] : [],
+    ...[...accepted].map(([directive, reason]) => weaker.has(directive)
+      ? `Accepted, whatever else it now allows: ${directive}, ${reason}.`
+      : `${directive} is accepted without need: it isn't weaker.`),
+  ];
+};
+
+/**
  * @param {Difference[]} differences
  * @param {string} shown what of all that is weaker is shown
  * @param {Asked} asked
  * @returns {Told}
  */
-const tellWeaker = (differences, shown, { names, text, page, origin }) => {
-  const rows = differences.map(it => [red(it.directive), textOf(it), byOf(it)]);
-  const hasNonce = differences.some(({ request }) => 'nonce' in request && request.nonce);
+const tellWeaker = (differences, shown, { names, text, page, origin, accepted }) => {
+  const isAccepted = (/** @type {Difference} */ it) => accepted.has(it.directive);
+  const rows = differences.map(it => [(isAccepted(it) ? yellow : red)(it.directive), textOf(it), byOf(it)]);
+  const isWhole = differences.every(isAccepted);
   return {
     lines: [...table(['weaker', 'now allowed', 'blocked before by'], rows, page), ''],
-    mood: 'red',
-    sentence: `Weaker: ${names.new} allows what ${names.old} blocks.`,
-    warnings: hasNonce ? ['The nonces differ. To compare the rest, write one nonce into both files.'] : [],
+    mood: isWhole ? 'yellow' : 'red',
+    sentence: `Weaker${isWhole ? ', as accepted' : ''}: ${names.new} allows what ${names.old} blocks.`,
+    warnings: warningsOf(differences, accepted),
     covers: `${shown} On a page of ${origin}. ${UNCOVERED}`,
-    status: 1,
+    status: isWhole ? 0 : 1,
     findings: differences.map(it => ({
-      rule: it.directive, level: 'error', file: names.new, line: lineOfPolicy(text('new')),
+      rule: it.directive, level: isAccepted(it) ? 'warning' : 'error',
+      file: names.new, line: lineOfPolicy(text('new')),
       message: `${it.directive} is weaker: ${plain(textOf(it))} is now allowed, which ${names.old} blocks`,
     })),
   };
@@ -64,7 +83,7 @@ const tellWeaker = (differences, shown, { names, text, page, origin }) => {
  * @param {Asked} asked
  * @returns {Told}
  */
-const tellNotWeaker = (proof, { program, origin, names, contents }) => {
+const tellNotWeaker = (proof, { program, origin, names, contents, accepted }) => {
   const told = { lines: [], findings: [], covers: `On a page of ${origin}. ${UNCOVERED}` };
   if (blocksNothing(program, { origin, headers: contents.old })) {
     return {
@@ -74,7 +93,7 @@ const tellNotWeaker = (proof, { program, origin, names, contents }) => {
     };
   }
   return {
-    ...told, mood: 'green', status: 0, warnings: [],
+    ...told, mood: 'green', status: 0, warnings: warningsOf([], accepted),
     sentence: `Not weaker: ${names.new} blocks all that ${names.old} blocks, whatever is requested.${proof}`,
   };
 };

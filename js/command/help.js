@@ -6,6 +6,8 @@ const OPTIONS = `  --all              each row, however many there are
   --sarif            SARIF, for servers that show findings beside the code
   --github           an annotation of GitHub for each finding
   --save-proof FILE  where compare writes the proof that it finds
+  --accepted FILE    for differ: directives that may become weaker, one a line,
+                     each with its reason
 `;
 
 const CODES = `Exit codes:

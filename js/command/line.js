@@ -10,7 +10,7 @@ import { ORIGINS, WORDS } from './words.js';
 /**
  * What is wanted of the answer.
  * @typedef {{ all: boolean, json: boolean, sarif: boolean, github: boolean, help: boolean,
- *   'save-proof'?: string }} Options
+ *   'save-proof'?: string, accepted?: string }} Options
  */
 
 /**
@@ -25,7 +25,7 @@ const READ_FAULT = 8;
 const OPTIONS = /** @type {const} */ ({
   all: { type: 'boolean', default: false }, json: { type: 'boolean', default: false },
   sarif: { type: 'boolean', default: false }, github: { type: 'boolean', default: false },
-  help: { type: 'boolean', default: false }, 'save-proof': { type: 'string' },
+  help: { type: 'boolean', default: false }, 'save-proof': { type: 'string' }, accepted: { type: 'string' },
 });
 
 /**
@@ -89,6 +89,8 @@ export const lineOf = (first, rest) => {
     const { given, positionals, options } = parsed(word, rest);
     if (options.help) return { word, origins: {}, paths: {}, options };
     const isShown = options.sarif || options.github, isSaved = options['save-proof'] !== undefined;
+    const isAccepted = options.accepted !== undefined;
+    if (isAccepted && first !== 'differ') throw new TypeError('--accepted goes with differ');
     if (isShown && !word.finds) throw new TypeError(`${first} finds nothing that has a line`);
     if (isSaved && first !== 'compare') throw new TypeError('--save-proof goes with compare');
     const values = placed(word, given, positionals);
@@ -107,7 +109,7 @@ const UNREAD = /** @type {Record<string, string>} */ ({
 
 /**
  * What a file holds; - is standard input.
- * @param {string} file
+ * @param {string} file the member of the call, or the option
  * @param {string} path
  */
 export const read = (file, path) => {

@@ -9,7 +9,7 @@ import { tellReasons, tellReports, tellVerdicts } from './judged.js';
  * What was asked: the origins, of each file its name and what it holds, and what is wanted of the answer.
  * @typedef {{ program: calls.Program, origin: string, embedder: string, names: Record<string, string>,
  *   contents: Record<string, Uint8Array>, text: (member: string) => string, options: { all: boolean },
- *   page: import('./page.js').Page }} Asked
+ *   accepted: Map<string, string>, page: import('./page.js').Page }} Asked
  */
 
 /**
