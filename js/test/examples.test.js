@@ -24,6 +24,13 @@ const copied = name => {
   return name;
 };
 
+test('the documents show them as they are', () => {
+  const shown = contentOf('docs/LIBRARY.md').toString();
+  for (const it of ['javascript.mjs', 'typescript.ts', 'python.py', 'shell.sh']) {
+    assert.ok(shown.includes(`\n${contentOf(join('examples/call', it))}\`\`\`\n`), it);
+  }
+});
+
 test('JavaScript', () => {
   assert.deepEqual(run('node', copied('javascript.mjs')), ['weaker: https://other.cdn.example.net/ is now allowed\n', '', 0]);
 });
