@@ -1,14 +1,22 @@
 /** The texts of --help, which fit a terminal of 80 columns. */
 import { MEMBERS, WORDS } from './words.js';
 
-const OPTIONS = `  --all              each row, however many there are
-  --json             JSON in place of a text for people
-  --sarif            SARIF, for servers that show findings beside the code
-  --github           an annotation of GitHub for each finding
-  --save-proof FILE  where compare writes the proof that it finds
-  --accepted FILE    for differ: directives that may become weaker, one a line,
-                     each with its reason
-`;
+/**
+ * The options, each with the words that take it, or none where all do.
+ * @type {[option: string, summary: string, takes?: (word: import('./words.js').Word) => boolean][]}
+ */
+const OPTIONS = [
+  ['--all', 'each row, however many there are'],
+  ['--json', 'JSON in place of a text for people'],
+  ['--sarif', 'SARIF, for servers that show findings beside the code', it => it.finds === true],
+  ['--github', 'an annotation of GitHub for each finding', it => it.finds === true],
+  ['--save-proof FILE', 'where the proof is kept', it => it.word === 'compare'],
+  ['--accepted FILE', 'directives that may become weaker, each with its reason', it => it.word === 'differ'],
+];
+
+/** @param {typeof OPTIONS} options */
+const listed = options =>
+  options.map(([option, summary]) => `  ${option.padEnd(17)}  ${summary}\n`).join('');
 
 const CODES = `Exit codes:
   0   nothing is blocked, not weaker, accepted, or it may be shown
@@ -31,10 +39,10 @@ Tells ${word.summary}.
 
 ${word.members.map(it => `  ${it.toUpperCase().padEnd(9)} ${MEMBERS[it]}`).join('\n')}
 
-Each but LISTS may be given by its name too, as --origin, in any order.
-A file - is standard input.
+${word.members.includes('lists') ? '' : `Each may be given by its name too, as --origin, in any order.
+`}A file - is standard input.
 
-${OPTIONS}
+${listed(OPTIONS.filter(([, , takes]) => takes === undefined || takes(word)))}
 ${CODES}`;
 
 const width = Math.max(...WORDS.map(it => it.word.length));
@@ -51,7 +59,7 @@ ${WORDS.map(({ word, summary }) => `  ${word.padEnd(width)}  ${summary}`).join('
 
 It reads files alone, and opens no connection.
 
-${OPTIONS}  --version          the version
+${listed(OPTIONS.filter(([, , takes]) => takes === undefined))}  --version          the version
 
 GUIDECERISE_PROGRAM may name the program built for this machine. It is asked in
 place of the module, and quicker where a file is large.

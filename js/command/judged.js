@@ -72,6 +72,12 @@ const rowsOf = (verdicts, requests) => verdicts.flatMap(({ number, items }) =>
   items.map(item => ({ number, item, request: requests[number - 1] })));
 
 /**
+ * How many rows of a sum aren't shown.
+ * @param {number} left
+ */
+const leftOut = left => `${left > 0 ? `And ${counted(left, 'row')} more. ` : ''}--all shows each of them.`;
+
+/**
  * @param {Row[]} rows
  * @param {Asked} asked
  */
@@ -88,8 +94,10 @@ const tableOfRows = (rows, { page, options }) => {
   /** @type {(row: Row) => string} */
   const of = ({ request }) => `${describe(request).what} ${hostOf(request)}`.trim();
   const groups = grouped(rows, row => [row.item.disposition, by(row.item), of(row)].join(' '));
-  const cells = groups.map(({ row, count }) => [number(count), answerOf(row.item), of(row), by(row.item)]);
-  return [...table(['times', 'answer', 'requests', 'by'], cells, page), '', '--all shows each request.', ''];
+  const cells = groups.slice(0, MANY)
+    .map(({ row, count }) => [number(count), answerOf(row.item), of(row), by(row.item)]);
+  const head = ['times', 'answer', 'requests', 'by'];
+  return [...table(head, cells, page), '', leftOut(groups.length - MANY), ''];
 };
 
 // What a request file may name, by the words of describe.js
@@ -234,10 +242,11 @@ export const tellReports = ({ reports, counts }, asked) => {
   /** @param {import('../index.js').Report} report */
   const cells = report => [report.disposition, report['effective-directive'], report['blocked-uri']];
   const head = ['disposition', 'directive', 'blocked'];
+  const groups = grouped(reports, it => cells(it).join(' '));
+  const summary = groups.slice(0, MANY).map(({ row, count }) => [number(count), ...cells(row)]);
   const lines = isWhole
     ? table([...head, 'sample'], reports.map(it => [...cells(it), it['script-sample']]), page)
-    : table(['times', ...head], grouped(reports, it => cells(it).join(' '))
-      .map(({ row, count }) => [number(count), ...cells(row)]), page);
+    : [...table(['times', ...head], summary, page), '', leftOut(groups.length - MANY)];
   const sums = Object.entries(counts).map(([name, count]) => `${name} ${number(count)}`).join(', ');
   return {
     lines: reports.length === 0 ? [] : [...lines, ''],
