@@ -27,6 +27,7 @@ const CODES = `Exit codes:
   5   a file is too large               13  not one required policy
   6   the request file is wrong         15  the old headers block nothing,
   7   the proof is no proof                 so a yes would mean nothing
+                                        70  the command itself failed
 `;
 
 /** @param {import('./words.js').Word} word */

@@ -4,8 +4,7 @@ import { readFileSync } from 'node:fs';
 import { loadEngine } from '../node.js';
 import { ORIGINS, WORDS } from './words.js';
 
-// Node can't tell that a program didn't run by an exit code of its own.
-const NOT_RUN = 127;
+const FAULT = 70;
 
 /**
  * @param {string} path
@@ -26,8 +25,9 @@ const contentOf = path => {
  */
 export const runProgram = async (words, path) => {
   if (path) {
-    const { status } = spawnSync(path, words, { stdio: 'inherit' });
-    return { code: status ?? NOT_RUN, bytes: new Uint8Array() };
+    const { status, error } = spawnSync(path, words, { stdio: 'inherit' });
+    if (error !== undefined) throw error;
+    return { code: status ?? FAULT, bytes: new Uint8Array() };
   }
   const members = WORDS.find(it => it.word === words[0])?.members;
   const first = members === undefined ? words.length : 1 + members.filter(it => ORIGINS.includes(it)).length;

@@ -6,8 +6,10 @@ import { join, resolve } from 'node:path';
 import { Worker } from 'node:worker_threads';
 import { outputOf } from '../engine.js';
 import { loadEngine } from '../node.js';
+import { Refusal } from '../refusal.js';
 
 const MOST_OUTPUT = 2 ** 30;
+const FAULT = 70;
 
 /** A program of this machine, which is called as an engine is. */
 class Native {
@@ -25,8 +27,9 @@ class Native {
     try {
       for (const [name, content] of files) writeFileSync(join(cwd, name), content);
       const { status, signal, error, stdout } = spawnSync(this.path, words, { cwd, maxBuffer: MOST_OUTPUT });
-      if (status === null) throw error ?? new Error(`${this.path} was ended by ${signal}`);
-      return outputOf(status, stdout);
+      if (status !== null) return outputOf(status, stdout);
+      const problem = `${this.path}: it can't be run (${error?.message ?? signal})`;
+      throw new Refusal(FAULT, { problem, hint: 'GUIDECERISE_PROGRAM names it.' });
     } finally {
       rmSync(cwd, { recursive: true });
     }

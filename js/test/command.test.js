@@ -150,6 +150,15 @@ test('GUIDECERISE_PROGRAM is asked in place of the module', () => {
   assert.equal(readFileSync(out, 'utf8'), `${contentOf('examples/first/policy.txt')}${contentOf('examples/first/requests.json')}`);
 });
 
+test('a program that can\'t be run is no answer', () => {
+  const env = { GUIDECERISE_PROGRAM: join(folder, 'no-program') };
+  for (const words of [['judge', ORIGIN, 'examples/first/policy.txt', 'examples/first/requests.json'], ['csp', 'drill', '3']]) {
+    const { stdout, stderr, status } = guidecerise(words, { env });
+    assert.match(stderr, /no-program.*ENOENT/);
+    assert.deepEqual([stdout, status], ['', 70]);
+  }
+});
+
 test('colours stand on a terminal alone, and never where NO_COLOR is set', () => {
   assert.equal(pageOf({ isTTY: true, columns: 80 }, {}).paint('x', 'red'), '\x1b[31mx\x1b[0m');
   for (const [stream, environment] of [[{ isTTY: true, columns: 80 }, { NO_COLOR: '1' }], [{}, {}], [{ isTTY: true }, { TERM: 'dumb' }]]) {
