@@ -19,8 +19,9 @@ const skip = !has('esbuild') && 'esbuild is missing: apt-get install esbuild';
 const LIBRARY = `
 import { judge, loadEngine, Refusal } from 'guidecerise';
 const requests = [{ kind: 'fetch', destination: 'image', url: 'https://b.example/' }, { kind: 'eval' }];
+const given = { origin: 'https://a.example', headers: 'Content-Security-Policy: img-src data:' };
 globalThis.asked = async module => {
-  const engine = await loadEngine(module), given = { origin: 'https://a.example', headers: 'Content-Security-Policy: img-src data:' };
+  const engine = await loadEngine(module);
   let refusal;
   try {
     judge(engine, { ...given, requests: [{}] });
@@ -60,7 +61,10 @@ ${LIBRARY}
 if (globalThis.document === undefined) asked(bytes).then(postMessage);
 else {
   const worker = new Worker('out.js');
-  worker.onmessage = async ({ data }) => fetch('answer', { method: 'POST', body: 'page: ' + await asked(bytes) + ', worker: ' + data });
+  worker.onmessage = async ({ data }) => {
+    const body = 'page: ' + await asked(bytes) + ', worker: ' + data;
+    fetch('answer', { method: 'POST', body });
+  };
 }
 `;
 
@@ -68,11 +72,14 @@ else {
 const inChromium = code => new Promise((resolve, reject) => {
   const server = createServer((request, response) => {
     if (request.method === 'POST') request.on('data', it => finish(() => resolve(it.toString())));
-    response.setHeader('Content-Type', request.url === '/out.js' ? 'text/javascript' : 'text/html');
-    response.end(request.url === '/out.js' ? code : '<!doctype html><script src="out.js"></script>');
+    const [type, content] = request.url === '/out.js' ? ['text/javascript', code]
+      : ['text/html', '<!doctype html><script src="out.js"></script>'];
+    response.setHeader('Content-Type', type);
+    response.end(content);
   }).listen(0, '127.0.0.1', () => {
-    const url = `http://127.0.0.1:${server.address().port}/`, profile = `--user-data-dir=${join(folder, 'profile')}`;
-    browser = spawn('chromium', ['--headless', '--no-sandbox', '--disable-gpu', profile, url], { stdio: 'ignore', detached: true });
+    const url = `http://127.0.0.1:${server.address().port}/`;
+    const words = ['--headless', '--no-sandbox', '--disable-gpu', `--user-data-dir=${join(folder, 'profile')}`];
+    browser = spawn('chromium', [...words, url], { stdio: 'ignore', detached: true });
     browser.on('error', it => finish(() => reject(it)));
   });
   let browser;

@@ -1,4 +1,4 @@
-/** The users of examples/call, each run as its reader would run it: with the package installed beside them. */
+/** The users of examples/call, each run as its reader would run it, with the package installed. */
 import assert from 'node:assert/strict';
 import { spawnSync } from 'node:child_process';
 import { mkdirSync, mkdtempSync, rmSync, symlinkSync, writeFileSync } from 'node:fs';
@@ -16,7 +16,8 @@ symlinkSync(join(TOP, 'examples'), join(folder, 'examples'));
 
 const PATH = `${join(folder, 'node_modules/.bin')}:${process.env.PATH}`;
 const run = (...words) => {
-  const { stdout, stderr, status } = spawnSync(words[0], words.slice(1), { cwd: folder, encoding: 'utf8', env: { ...process.env, PATH } });
+  const options = { cwd: folder, encoding: 'utf8', env: { ...process.env, PATH } };
+  const { stdout, stderr, status } = spawnSync(words[0], words.slice(1), options);
   return [stdout, stderr, status];
 };
 const copied = name => {
@@ -32,23 +33,27 @@ test('the documents show them as they are', () => {
 });
 
 test('JavaScript', () => {
-  assert.deepEqual(run('node', copied('javascript.mjs')), ['weaker: https://other.cdn.example.net/ is now allowed\n', '', 0]);
+  const said = 'weaker: https://other.cdn.example.net/ is now allowed\n';
+  assert.deepEqual(run('node', copied('javascript.mjs')), [said, '', 0]);
 });
 
 test('TypeScript', { skip: !has('esbuild') && 'esbuild is missing' }, () => {
   copied('typescript.ts');
-  const made = run('esbuild', 'typescript.ts', '--format=esm', '--outfile=typescript.mjs', '--log-level=error');
-  assert.deepEqual(made, ['', '', 0]);
+  const words = ['typescript.ts', '--format=esm', '--outfile=typescript.mjs', '--log-level=error'];
+  assert.deepEqual(run('esbuild', ...words), ['', '', 0]);
   assert.deepEqual(run('node', 'typescript.mjs'), ['1 blocked by default-src\n2 allowed\n', '', 0]);
 });
 
 test('Python', { skip: !has('python3') && 'python3 is missing' }, () => {
-  assert.deepEqual(run('python3', copied('python.py')), ['img-src https://other.cdn.example.net/\n', '', 0]);
+  const said = 'img-src https://other.cdn.example.net/\n';
+  assert.deepEqual(run('python3', copied('python.py')), [said, '', 0]);
 });
 
 test('a shell', () => {
   const shell = (...words) => run('sh', copied('shell.sh'), ...words).slice(1);
   assert.deepEqual(shell('examples/stricter/new.txt', 'examples/stricter/old.txt'), ['', 0]);
-  assert.deepEqual(shell('examples/weaker/new.txt', 'examples/weaker/old.txt'), ['the header became weaker\n', 1]);
-  assert.deepEqual(shell('examples/nothing/new.txt', 'examples/nothing/old.txt'), ['there is no answer\n', 2]);
+  const weaker = shell('examples/weaker/new.txt', 'examples/weaker/old.txt');
+  assert.deepEqual(weaker, ['the header became weaker\n', 1]);
+  const nothing = shell('examples/nothing/new.txt', 'examples/nothing/old.txt');
+  assert.deepEqual(nothing, ['there is no answer\n', 2]);
 });
