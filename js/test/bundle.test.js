@@ -1,17 +1,15 @@
 /** The library without Node's parts: bundled for a browser and for a worker, and run there. */
 import assert from 'node:assert/strict';
 import { spawn, spawnSync } from 'node:child_process';
-import { mkdirSync, mkdtempSync, readFileSync, rmSync, symlinkSync, writeFileSync } from 'node:fs';
+import { mkdirSync, readFileSync, symlinkSync, writeFileSync } from 'node:fs';
 import { createServer } from 'node:http';
-import { tmpdir } from 'node:os';
 import { join } from 'node:path';
 import { gzipSync } from 'node:zlib';
 import test from 'node:test';
 import vm from 'node:vm';
-import { TOP, contentOf, has } from './shared.js';
+import { TOP, contentOf, has, temporaryFolder } from './shared.js';
 
-const folder = mkdtempSync(join(tmpdir(), 'guidecerise-test-'));
-test.after(() => rmSync(folder, { recursive: true, maxRetries: 10, retryDelay: 100 }));
+const folder = temporaryFolder();
 mkdirSync(join(folder, 'node_modules'));
 symlinkSync(join(TOP, 'js'), join(folder, 'node_modules/guidecerise'));
 const skip = !has('esbuild') && 'esbuild is missing: apt-get install esbuild';
@@ -78,7 +76,8 @@ const inChromium = code => new Promise((resolve, reject) => {
     response.end(content);
   }).listen(0, '127.0.0.1', () => {
     const url = `http://127.0.0.1:${server.address().port}/`;
-    const words = ['--headless', '--no-sandbox', '--disable-gpu', `--user-data-dir=${join(folder, 'profile')}`];
+    const profile = `--user-data-dir=${join(folder, 'profile')}`;
+    const words = ['--headless', '--no-sandbox', '--disable-gpu', profile];
     browser = spawn('chromium', [...words, url], { stdio: 'ignore', detached: true });
     browser.on('error', it => finish(() => reject(it)));
   });
@@ -93,7 +92,9 @@ const inChromium = code => new Promise((resolve, reject) => {
   };
 });
 
-test('in Chromium, on a page and in a worker', { skip: skip || !has('chromium') && 'chromium is missing' }, async () => {
+const skipChromium = skip || !has('chromium') && 'chromium is missing';
+
+test('in Chromium, on a page and in a worker', { skip: skipChromium }, async () => {
   const code = bundled(IN_CHROMIUM, '--platform=browser', '--format=iife', '--loader:.wasm=binary');
   assert.equal(await inChromium(code), `page: ${ANSWER}, worker: ${ANSWER}`);
 });

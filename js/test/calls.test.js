@@ -12,8 +12,8 @@ const READ_FAULT = 8;
 // The words of a call, with what the files hold in place of their names
 const resolved = (words, files) => words.map(it => files.find(([name]) => name === it)?.[1] ?? it);
 
-// Whether the typed call asks these words and files, and answers all that the program says. It answers how many
-// cases it compared, one or none.
+// Whether the typed call asks these words and files, and answers all that the program says. It answers how
+// many cases it compared, one or none.
 const same = (words, files) => {
   const output = engine.call(words, files), { code, text } = output;
   if (!(words[0] in PRINTED) || code === USAGE || code === READ_FAULT) return 0;
@@ -102,8 +102,7 @@ test('compare, check, differ and blocksNothing', () => {
   assert.deepEqual([directive, items[0].governing], ['img-src', 'img-src']);
   assert.match(url, /^https:/);
   assert.equal(calls.blocksNothing(engine, { origin, headers: one }), false);
-  const misspelt = ["Content-Security-Policies: img-src 'none'", "Content-Security-Policy: image-src 'none'"];
-  for (const it of ['', ...misspelt]) {
+  for (const it of ['', "Content-Security-Policies: img-src x", 'Content-Security-Policy: image-src x']) {
     assert.equal(calls.blocksNothing(engine, { origin, headers: it }), true, it);
   }
 });

@@ -1,14 +1,12 @@
 /** The users of examples/call, each run as its reader would run it, with the package installed. */
 import assert from 'node:assert/strict';
 import { spawnSync } from 'node:child_process';
-import { mkdirSync, mkdtempSync, rmSync, symlinkSync, writeFileSync } from 'node:fs';
-import { tmpdir } from 'node:os';
+import { mkdirSync, symlinkSync, writeFileSync } from 'node:fs';
 import { join } from 'node:path';
 import test from 'node:test';
-import { TOP, contentOf, has } from './shared.js';
+import { TOP, contentOf, has, temporaryFolder } from './shared.js';
 
-const folder = mkdtempSync(join(tmpdir(), 'guidecerise-test-'));
-test.after(() => rmSync(folder, { recursive: true }));
+const folder = temporaryFolder();
 mkdirSync(join(folder, 'node_modules/.bin'), { recursive: true });
 symlinkSync(join(TOP, 'js'), join(folder, 'node_modules/guidecerise'));
 symlinkSync('../guidecerise/bin/guidecerise.js', join(folder, 'node_modules/.bin/guidecerise'));

@@ -1,31 +1,33 @@
 /** The steps for build servers: the shell of each, over examples/ci. */
 import assert from 'node:assert/strict';
 import { spawnSync } from 'node:child_process';
-import { mkdtempSync, rmSync, symlinkSync, writeFileSync } from 'node:fs';
-import { tmpdir } from 'node:os';
+import { symlinkSync, writeFileSync } from 'node:fs';
 import { join } from 'node:path';
 import test from 'node:test';
-import { TOP, contentOf } from './shared.js';
+import { TOP, contentOf, temporaryFolder } from './shared.js';
 
-const folder = mkdtempSync(join(tmpdir(), 'guidecerise-test-'));
-test.after(() => rmSync(folder, { recursive: true }));
+const folder = temporaryFolder();
 symlinkSync(join(TOP, 'js/bin/guidecerise.js'), join(folder, 'guidecerise'));
 const accepted = join(folder, 'accepted.txt');
-writeFileSync(accepted, '# decided in review\nimg-src placeholders are data: URLs\nscript-src nothing yet\n');
+writeFileSync(accepted, '# decided in review\nimg-src icons are data: URLs\nscript-src nothing yet\n');
 
 // The text behind the last `|` of a file of YAML, which is the shell of a step
 const shellOf = path => contentOf(path).toString().split(/\|\n/).at(-1);
 const step = (path, environment) => {
-  const env = { ...process.env, PATH: `${folder}:${process.env.PATH}`, GITHUB_ACTION_PATH: TOP, ...environment };
-  const { stdout, stderr, status } = spawnSync('bash', ['-e', '-c', shellOf(path)], { cwd: TOP, encoding: 'utf8', env });
+  const PATH = `${folder}:${process.env.PATH}`;
+  const env = { ...process.env, PATH, GITHUB_ACTION_PATH: TOP, ...environment };
+  const ran = spawnSync('bash', ['-e', '-c', shellOf(path)], { cwd: TOP, encoding: 'utf8', env });
+  const { stdout, stderr, status } = ran;
   return { stdout, stderr, status };
 };
 
+const STRICTER = { NEW: 'examples/ci/stricter.txt' }, WEAKER = { NEW: 'examples/ci/weaker.txt' };
+const REASONS = /^Weaker, as accepted: .*\n.*img-src, icons are data: URLs\.\nscript-src is accepted without/m;
 const CASES = [
-  [{ NEW: 'examples/ci/stricter.txt' }, /^Not weaker: /m, 0],
-  [{ NEW: 'examples/ci/weaker.txt' }, /^Weaker: /m, 1],
-  [{ NEW: 'examples/ci/weaker.txt', ACCEPTED: accepted }, /^Weaker, as accepted: .*\n.*img-src, placeholders are data: URLs\.\nscript-src is accepted without need/m, 0],
-  [{ NEW: 'examples/ci/stricter.txt', OLD: 'examples/nothing/old.txt' }, /^No answer: .* blocks nothing/m, 15],
+  [STRICTER, /^Not weaker: /m, 0],
+  [WEAKER, /^Weaker: /m, 1],
+  [{ ...WEAKER, ACCEPTED: accepted }, REASONS, 0],
+  [{ ...STRICTER, OLD: 'examples/nothing/old.txt' }, /^No answer: .* blocks nothing/m, 15],
 ];
 
 for (const [given, said, code] of CASES) {
@@ -34,7 +36,7 @@ for (const [given, said, code] of CASES) {
     const github = step('action.yml', values);
     assert.match(github.stdout, said);
     assert.deepEqual([github.stderr, github.status], ['', code]);
-    const line = 'file=examples/ci/weaker.txt,line=1,title=img-src::img-src is weaker: image data: is now allowed';
+    const line = 'file=examples/ci/weaker.txt,line=1,title=img-src::img-src is weaker: image data: is now';
     const level = { '0': values.ACCEPTED ? '::warning ' : undefined, '1': '::error ' }[code];
     assert.equal(github.stdout.startsWith(`${level}${line}`), level !== undefined, github.stdout);
     const gitlab = step('packaging/gitlab.yml',
@@ -46,9 +48,8 @@ for (const [given, said, code] of CASES) {
 
 test('a line without a reason is refused', () => {
   writeFileSync(join(folder, 'bare.txt'), 'img-src\n');
-  const { stderr, status } = step('action.yml', {
-    ORIGIN: 'https://a.example', NEW: 'examples/ci/weaker.txt', OLD: 'examples/ci/old.txt', ACCEPTED: join(folder, 'bare.txt'),
-  });
+  const values = { ...WEAKER, ORIGIN: 'https://a.example', OLD: 'examples/ci/old.txt' };
+  const { stderr, status } = step('action.yml', { ...values, ACCEPTED: join(folder, 'bare.txt') });
   assert.match(stderr, /bare\.txt:1: no directive with a reason: "img-src"/);
   assert.equal(status, 2);
 });

@@ -1,7 +1,9 @@
 /** What the tests share: the engine, files of the repository, and answers in the program's words. */
 import { spawnSync } from 'node:child_process';
-import { readFileSync, readdirSync } from 'node:fs';
+import { mkdtempSync, readFileSync, readdirSync, rmSync } from 'node:fs';
+import { tmpdir } from 'node:os';
 import { join } from 'node:path';
+import test from 'node:test';
 import { fileURLToPath } from 'node:url';
 import { loadEngine } from '../node.js';
 
@@ -10,6 +12,17 @@ export const engine = await loadEngine();
 
 /** What a file of the repository holds. */
 export const contentOf = path => readFileSync(join(TOP, path));
+
+/** A folder that is gone after the tests of a file. */
+export const temporaryFolder = () => {
+  const folder = mkdtempSync(join(tmpdir(), 'guidecerise-test-'));
+  test.after(() => rmSync(folder, { recursive: true, maxRetries: 10, retryDelay: 100 }));
+  return folder;
+};
+
+/** How tsc reads a user of the package. */
+export const STRICT =
+  ['--noEmit', '--strict', '--target', 'ES2022', '--module', 'ES2022', '--moduleResolution', 'Node'];
 
 /** Whether a program is on the path. */
 export const has = name => spawnSync('sh', ['-c', `command -v ${name}`]).status === 0;
