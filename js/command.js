@@ -42,8 +42,8 @@ const callOf = ({ word, origins }, contents) => word.members.includes('lists')
  */
 const printed = ({ word: { word }, origins, paths, options }, answer, told, page) => {
   const { lines, mood, sentence, warnings, covers, status, findings } = told;
-  if (options.sarif) return json(sarifOf(findings, version()));
-  if (options.github) return [...findings.map(annotationOf), sentence, ...warnings, covers, ''].join('\n');
+  if (options.sarif) return json(sarifOf(findings(), version()));
+  if (options.github) return [...findings().map(annotationOf), sentence, ...warnings, covers, ''].join('\n');
   if (options.json) {
     const given = { ...origins, ...paths };
     return json({ schema: SCHEMA, word, given, status, sentence, warnings, covers, answer });

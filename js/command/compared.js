@@ -70,7 +70,7 @@ const tellWeaker = (differences, shown, { names, text, page, origin, accepted })
     warnings: warningsOf(differences, accepted),
     covers: `${shown} On a page of ${origin}. ${UNCOVERED}`,
     status: isWhole ? 0 : 1,
-    findings: differences.map(it => ({
+    findings: () => differences.map(it => ({
       rule: it.directive, level: isAccepted(it) ? 'warning' : 'error',
       file: names.new, line: lineOfPolicy(text('new')),
       message: `${it.directive} is weaker: ${plain(textOf(it))} is now allowed, which ${names.old} blocks`,
@@ -84,7 +84,7 @@ const tellWeaker = (differences, shown, { names, text, page, origin, accepted })
  * @returns {Told}
  */
 const tellNotWeaker = (proof, { program, origin, names, contents, accepted }) => {
-  const told = { lines: [], findings: [], covers: `On a page of ${origin}. ${UNCOVERED}` };
+  const told = { lines: [], findings: () => [], covers: `On a page of ${origin}. ${UNCOVERED}` };
   if (blocksNothing(program, { origin, headers: contents.old })) {
     return {
       ...told, mood: 'yellow', status: MEANS_NOTHING,
@@ -126,7 +126,7 @@ export const tellDifferences = (differences, asked) => differences.length === 0 
  */
 export const tellCheck = (answer, { names, origin, text }) => {
   const told = {
-    lines: [], warnings: [], findings: [],
+    lines: [], warnings: [], findings: () => [],
     covers: `For these two files, in this order, on a page of ${origin}. ${UNCOVERED}`,
   };
   if (answer.accepted) {
@@ -145,7 +145,7 @@ export const tellCheck = (answer, { names, origin, text }) => {
 export const tellEmbedding = (answer, { names, origin, embedder }) => {
   const { response, required } = names;
   const covers = `A response of ${origin}, framed by ${embedder}.`;
-  const told = { lines: [], warnings: [], findings: [], covers };
+  const told = { lines: [], warnings: [], findings: () => [], covers };
   if (answer.answer === 'added') {
     const sentence = `Show it, and enforce this on it too, as it lets you: ${answer.policy}`;
     return { ...told, mood: 'yellow', status: 0, sentence };
@@ -175,7 +175,7 @@ export const tellTidied = ({ headers, needed }, { names, origin, page, options }
     warnings: ['Before you send them: old browsers that know no nonces or no \'strict-dynamic\' need'
       + ' \'unsafe-inline\' and https: beside these. Where you have such visitors, put them back.'],
     covers: `On a page of ${origin}. ${options.all ? '' : '--all shows why each source stays.'}`.trimEnd(),
-    status: 0, findings: [],
+    status: 0, findings: () => [],
   };
 };
 
@@ -194,7 +194,7 @@ export const tellLearnt = ({ headers, notLearnt }, { names, origin }) => ({
     'Whatever was loaded is allowed, an attacker\'s script too: read the policy before you send it.',
   ],
   covers: `On a page of ${origin}. Not looked at: inline code, eval, forms, base URLs, framing.`,
-  status: 0, findings: [],
+  status: 0, findings: () => [],
 });
 
 /**
@@ -215,6 +215,6 @@ export const tellRelations = (relations, { names, origin, page }) => {
     mood: strictest.length > 0 ? 'green' : 'yellow',
     sentence: strictest.length === 0 ? 'None is the strictest: each allows what another blocks.'
       : `Strictest: ${strictest.join(' and ')}. What the others block is blocked there too.`,
-    warnings: [], covers: `On a page of ${origin}. ${UNCOVERED}`, status: 0, findings: [],
+    warnings: [], covers: `On a page of ${origin}. ${UNCOVERED}`, status: 0, findings: () => [],
   };
 };

@@ -171,7 +171,8 @@ const findingsOf = (rows, { text, names }) => {
  * @returns {Told}
  */
 export const tellVerdicts = (verdicts, asked) => {
-  const requests = requestsOf(asked), rows = rowsOf(verdicts, requests), findings = findingsOf(rows, asked);
+  const requests = requestsOf(asked), rows = rowsOf(verdicts, requests);
+  const findings = () => findingsOf(rows, asked);
   return { lines: tableOfRows(rows, asked), ...summed(verdicts, requests, asked), findings };
 };
 
@@ -228,7 +229,7 @@ export const tellReasons = (reasons, asked) => {
       ...kept.flatMap(it => [...reasonLines(it, requests[it.number - 1], asked), '']),
       ...left === 0 ? [] : [`And ${counted(left, 'request')} more: --all shows each.`, ''],
     ],
-    ...summed(reasons, requests, asked), findings: findingsOf(rows, asked),
+    ...summed(reasons, requests, asked), findings: () => findingsOf(rows, asked),
   };
 };
 
@@ -253,6 +254,7 @@ export const tellReports = ({ reports, counts }, asked) => {
     mood: 'yellow',
     sentence: reports.length === 0 ? 'A browser would report nothing of these requests.'
       : `A browser would send ${counted(reports.length, 'report')}: ${sums}.`,
-    warnings: [], covers: `${coverage(requestsOf(asked), asked)} Nothing was sent.`, status: 0, findings: [],
+    warnings: [], covers: `${coverage(requestsOf(asked), asked)} Nothing was sent.`,
+    status: 0, findings: () => [],
   };
 };

@@ -20,7 +20,7 @@ import { tellReasons, tellReports, tellVerdicts } from './judged.js';
 /**
  * What a person is told: lines, a sentence with its colour, warnings, and what the answer covers.
  * @typedef {{ lines: string[], mood: 'red' | 'yellow' | 'green', sentence: string, warnings: string[],
- *   covers: string, status: number, findings: Finding[] }} Told
+ *   covers: string, status: number, findings: () => Finding[] }} Told
  */
 
 /**

@@ -66,7 +66,8 @@ const INLINE = { kind: 'inline', type: 'script' };
 for (const [member, request] of Object.entries({
   url: { ...FETCH, url: '/x.js' }, urls: { ...FETCH, urls: [] }, response: { ...SCRIPT, response: 'x' },
   redirects: { ...SCRIPT, redirects: -1 }, nonce: { ...SCRIPT, nonce: 1 },
-  integrity: { ...SCRIPT, integrity: [] }, 'parser-inserted': { ...SCRIPT, 'parser-inserted': 'true' }, type: { ...INLINE, type: 'code', source: '' },
+  integrity: { ...SCRIPT, integrity: [] }, 'parser-inserted': { ...SCRIPT, 'parser-inserted': 'true' },
+  type: { ...INLINE, type: 'code', source: '' },
   source: INLINE, digests: { ...INLINE, digests: {} }, element: { ...INLINE, source: '', element: {} },
   ancestors: { kind: 'ancestors' }, page: { kind: 'ancestors', ancestors: [], page: 'x' },
   name: { kind: 'capability', name: 'cookies' },

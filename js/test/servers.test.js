@@ -22,7 +22,7 @@ const step = (path, environment) => {
 };
 
 const STRICTER = { NEW: 'examples/ci/stricter.txt' }, WEAKER = { NEW: 'examples/ci/weaker.txt' };
-const REASONS = /^Weaker, as accepted: .*\n.*img-src, icons are data: URLs\.\nscript-src is accepted without/m;
+const REASONS = /^Weaker, as accepted: .*\n.*img-src, icons are data: URLs\.\nscript-src is accepted w/m;
 const CASES = [
   [STRICTER, /^Not weaker: /m, 0],
   [WEAKER, /^Weaker: /m, 1],
