@@ -104,11 +104,12 @@ export class Engine {
    */
   call(words, files = []) {
     try {
-      for (const room of ROOMS) {
-        const output = callOnce(this.#module, words, files, room);
-        if (output.code !== WRITE_FAULT) return output;
+      let output = callOnce(this.#module, words, files, ROOMS[0]);
+      for (const room of ROOMS.slice(1)) {
+        if (output.code !== WRITE_FAULT) break;
+        output = callOnce(this.#module, words, files, room);
       }
-      return outputOf(WRITE_FAULT, new Uint8Array());
+      return output;
     } catch (error) {
       if (!(error instanceof RangeError)) throw error;
       return outputOf(NO_MEMORY, encoded('no memory\n'));
@@ -121,5 +122,7 @@ export class Engine {
  * @param {WebAssembly.Module | BufferSource} module
  * @returns {Promise<Engine>}
  */
-export const loadEngine = async module =>
-  new Engine(module instanceof WebAssembly.Module ? module : await WebAssembly.compile(module));
+export const loadEngine = async module => {
+  if (module === undefined) throw new TypeError('give loadEngine the module of engine.wasm, or its bytes');
+  return new Engine(module instanceof WebAssembly.Module ? module : await WebAssembly.compile(module));
+};

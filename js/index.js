@@ -40,8 +40,8 @@ export { CAPABILITIES, DESTINATIONS, INLINE_TYPES, KINDS } from './requests.js';
  * @returns {[string, string | Uint8Array]}
  */
 const fileOf = (name, content) => {
-  if (typeof content === 'string' || content instanceof Uint8Array) return [name, content];
   if (Array.isArray(content)) return [name, JSON.stringify(content)];
+  if (typeof content === 'string' || ArrayBuffer.isView(content)) return [name, content];
   throw new TypeError(`${name} is ${content === null ? 'null' : typeof content}: give a text or bytes`);
 };
 

@@ -44,6 +44,7 @@ test('a module, its bytes and a view of them give an engine', async () => {
     assert.match(loaded.call(['drill', '3']).text, /^drill 3 found\n/);
   }
   assert.deepEqual(WebAssembly.Module.imports(module), []);
+  await assert.rejects(loadEngine(), /give loadEngine the module/);
   const names = WebAssembly.Module.exports(module).map(it => it.name).sort();
   assert.deepEqual(names, ['csp_page', 'memory', 'page_take']);
 });
