@@ -37,8 +37,12 @@ export const describe = request => {
   return { what: KINDS[kind] ?? String(kind), of: told };
 };
 
-/** @param {any} request */
+/**
+ * The note of a request, or else what it is and of what.
+ * @param {any} request
+ */
 export const describeText = request => {
+  if (typeof request?.note === 'string') return request.note;
   const { what, of } = describe(request);
   return `${what} ${of}`.trimEnd();
 };

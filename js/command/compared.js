@@ -15,7 +15,7 @@ import { plain, table } from './page.js';
 /** The exit code of a yes that would mean nothing, since the old headers block nothing. */
 export const MEANS_NOTHING = 15;
 
-const UNCOVERED = 'Not compared: Trusted Types, upgrade-insecure-requests, and what only reports.';
+const UNCOVERED = 'Not compared: Trusted Types, upgrade-insecure-requests, report-only policies.';
 
 const red = (/** @type {string} */ text) => ({ text, colour: /** @type {const} */ ('red') });
 const yellow = (/** @type {string} */ text) => ({ text, colour: /** @type {const} */ ('yellow') });

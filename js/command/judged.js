@@ -126,7 +126,7 @@ const sentenceOf = (all, blocked, reported) => {
   if (all === 0) return 'No request was given, so nothing was judged.';
   const count = blocked === 0 ? 'None' : number(blocked), is = blocked > 1 ? 'are' : 'is';
   const more = blocked === 0 ? `But ${number(reported)}` : counted(reported, 'other');
-  const also = reported === 0 ? '' : ` ${more} would be, if what only reports were enforced.`;
+  const also = reported === 0 ? '' : ` ${more} would be, if report-only policies were enforced.`;
   return `${count} of ${counted(all, 'request')} ${is} blocked.${also}`;
 };
 

@@ -39,7 +39,7 @@ script-src   a string run as script                    script-src
 
 Weaker: examples/differ/new.txt allows what examples/differ/old.txt blocks.
 One request is shown for each directive; there may be more. On a page of https://a.example. \
-Not compared: Trusted Types, upgrade-insecure-requests, and what only reports.
+Not compared: Trusted Types, upgrade-insecure-requests, report-only policies.
 `);
   assert.equal(status, 1);
 });
@@ -54,7 +54,7 @@ test('a yes is never better than what was compared', () => {
   assert.match(none.stdout, /^No request was given, so nothing was judged\./);
   const files = ['examples/report-only/policy.txt', 'examples/report-only/requests.json'];
   const only = guidecerise(['judge', ORIGIN, ...files]);
-  assert.match(only.stdout, /None of 1 request is blocked\. But 1 would be, if what only reports were enf/);
+  assert.match(only.stdout, /None of 1 request is blocked\. But 1 would be, if report-only policies were enforced\./);
 });
 
 test('the proof that compare keeps is accepted', () => {
