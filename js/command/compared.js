@@ -79,22 +79,32 @@ const tellWeaker = (differences, shown, { names, text, page, origin, accepted })
 };
 
 /**
+ * What is told of a yes where the headers that had to be met block nothing, so that it would mean nothing.
+ * @param {Asked} asked
+ * @param {string} member the member of the call that has these headers
+ * @returns {Told | undefined}
+ */
+const tellNothing = ({ program, origin, names, contents }, member) => {
+  if (!blocksNothing(program, { origin, headers: contents[member] })) return undefined;
+  return {
+    lines: [], findings: () => [], mood: 'yellow', status: MEANS_NOTHING,
+    sentence: `No answer: ${names[member]} blocks nothing, so nothing is weaker than it.`,
+    warnings: [`See that ${names[member]} has a line Content-Security-Policy: and is spelt right.`],
+    covers: `On a page of ${origin}.`,
+  };
+};
+
+/**
  * @param {string} proof what is said of the proof
  * @param {Asked} asked
  * @returns {Told}
  */
-const tellNotWeaker = (proof, { program, origin, names, contents, accepted }) => {
-  const told = { lines: [], findings: () => [], covers: `On a page of ${origin}. ${UNCOVERED}` };
-  if (blocksNothing(program, { origin, headers: contents.old })) {
-    return {
-      ...told, mood: 'yellow', status: MEANS_NOTHING,
-      sentence: `No answer: ${names.old} blocks nothing, so nothing is weaker than it.`,
-      warnings: [`See that ${names.old} has a line Content-Security-Policy: and is spelt right.`],
-    };
-  }
-  return {
-    ...told, mood: 'green', status: 0, warnings: warningsOf([], accepted),
+const tellNotWeaker = (proof, asked) => {
+  const { origin, names, accepted } = asked;
+  return tellNothing(asked, 'old') ?? {
+    lines: [], findings: () => [], mood: 'green', status: 0,
     sentence: `Not weaker: ${names.new} blocks all that ${names.old} blocks, whatever is requested.${proof}`,
+    warnings: warningsOf([], accepted), covers: `On a page of ${origin}. ${UNCOVERED}`,
   };
 };
 
@@ -124,14 +134,15 @@ export const tellDifferences = (differences, asked) => differences.length === 0 
  * @param {Asked} asked
  * @returns {Told}
  */
-export const tellCheck = (answer, { names, origin, text }) => {
+export const tellCheck = (answer, asked) => {
+  const { names, origin, text } = asked;
   const told = {
     lines: [], warnings: [], findings: () => [],
     covers: `For these two files, in this order, on a page of ${origin}. ${UNCOVERED}`,
   };
   if (answer.accepted) {
     const sentence = `Accepted: ${names.new} blocks all that ${names.old} blocks, whatever is requested.`;
-    return { ...told, mood: 'green', status: 0, sentence };
+    return tellNothing(asked, 'old') ?? { ...told, mood: 'green', status: 0, sentence };
   }
   const broken = `${names.proof}:${answer.line} breaks a rule: ${textOfLine(text('proof'), answer.line)}`;
   return { ...told, mood: 'red', status: 1, sentence: `Rejected: ${broken}` };
@@ -142,8 +153,8 @@ export const tellCheck = (answer, { names, origin, text }) => {
  * @param {Asked} asked
  * @returns {Told}
  */
-export const tellEmbedding = (answer, { names, origin, embedder }) => {
-  const { response, required } = names;
+export const tellEmbedding = (answer, asked) => {
+  const { names: { response, required }, origin, embedder } = asked;
   const covers = `A response of ${origin}, framed by ${embedder}.`;
   const told = { lines: [], warnings: [], findings: () => [], covers };
   if (answer.answer === 'added') {
@@ -152,7 +163,7 @@ export const tellEmbedding = (answer, { names, origin, embedder }) => {
   }
   if (answer.answer === 'served') {
     const sentence = `Show it: ${response} blocks all that ${required} blocks.`;
-    return { ...told, mood: 'green', status: 0, sentence };
+    return tellNothing(asked, 'required') ?? { ...told, mood: 'green', status: 0, sentence };
   }
   const sentence = `Don't show it: ${response} allows what ${required} blocks, as ${textOf(answer)}`;
   return { ...told, mood: 'red', status: 1, sentence };

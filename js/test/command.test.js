@@ -48,13 +48,18 @@ test('a yes is never better than what was compared', () => {
   const nothing = guidecerise(['compare', ORIGIN, 'examples/nothing/new.txt', 'examples/nothing/old.txt']);
   assert.match(nothing.stdout, /^No answer: examples\/nothing\/old.txt blocks nothing/);
   assert.equal(nothing.status, 15);
+  const old = ['--old', 'examples/nothing/old.txt'], proof = file('nothing.proof', 'csp-proof 2\nend\n');
+  assert.equal(guidecerise(['check', ORIGIN, 'examples/nothing/new.txt', ...old, proof]).status, 15);
+  const required = file('required.txt', 'Content-Security-Policy: image-src x');
+  const embedded = guidecerise(['embed', ORIGIN, ORIGIN, required, 'examples/embed/served.txt']);
+  assert.match(embedded.stdout, /^No answer: .*required\.txt blocks nothing/);
   const empty = guidecerise(['judge', ORIGIN, '/dev/null', 'examples/first/requests.json']);
   assert.match(empty.stdout, /\/dev\/null blocks nothing at all/);
   const none = guidecerise(['judge', ORIGIN, 'examples/first/policy.txt', file('none.json', '[]')]);
   assert.match(none.stdout, /^No request was given, so nothing was judged\./);
   const files = ['examples/report-only/policy.txt', 'examples/report-only/requests.json'];
   const only = guidecerise(['judge', ORIGIN, ...files]);
-  assert.match(only.stdout, /None of 1 request is blocked\. But 1 would be, if report-only policies were enf/);
+  assert.match(only.stdout, /^None of 1 request is blocked\. But 1 would be, if report-only policies/m);
 });
 
 test('the proof that compare keeps is accepted', () => {
