@@ -30,9 +30,9 @@ const OPTIONS = /** @type {const} */ ({
 
 /**
  * @param {string} problem
- * @param {string} hint
+ * @param {Word} word
  */
-const usage = (problem, hint) => new Refusal(USAGE, { problem, hint });
+const misused = (problem, word) => new Refusal(USAGE, { problem, hint: `Usage: ${usageOf(word)}` });
 
 /** @param {string} text */
 const wordOf = text => {
@@ -40,21 +40,26 @@ const wordOf = text => {
   if (found !== undefined) return found;
   const near = WORDS.find(it => it.word.startsWith(text.toLowerCase().slice(0, 2)));
   const hint = near === undefined ? 'guidecerise --help has all words.' : `Write ${near.word}?`;
-  throw usage(`no word ${JSON.stringify(text)}`, hint);
+  throw new Refusal(USAGE, { problem: `no word ${JSON.stringify(text)}`, hint });
 };
 
 /**
  * @param {Word} word
  * @param {string[]} args
  */
-const parsed = ({ members }, args) => {
+const parsed = (word, args) => {
   const text = /** @type {const} */ ({ type: 'string' });
-  const named = members.filter(it => it !== 'lists').map(it => [it, text]);
-  const { values, positionals } = parseArgs({
-    args, allowPositionals: true, options: { ...Object.fromEntries(named), ...OPTIONS },
-  });
-  const options = /** @type {Options} */ (/** @type {unknown} */ (values));
-  return { given: /** @type {Record<string, string | undefined>} */ (values), positionals, options };
+  const members = Object.fromEntries(word.members.filter(it => it !== 'lists').map(it => [it, text]));
+  try {
+    const known = { ...members, ...OPTIONS };
+    const { values, positionals } = parseArgs({ args, allowPositionals: true, options: known });
+    const options = /** @type {Options} */ (/** @type {unknown} */ (values));
+    return { given: /** @type {Record<string, string | undefined>} */ (values), positionals, options };
+  } catch (error) {
+    const { code, message } = /** @type {NodeJS.ErrnoException} */ (error);
+    if (!code?.startsWith('ERR_PARSE_ARGS')) throw error;
+    throw misused(message.split('. To specify')[0], word);
+  }
 };
 
 /**
@@ -63,19 +68,29 @@ const parsed = ({ members }, args) => {
  * @param {Record<string, string | undefined>} given
  * @param {string[]} positionals
  */
-const placed = ({ members }, given, positionals) => {
-  const left = [...positionals];
+const placed = (word, given, positionals) => {
+  const { members } = word, left = [...positionals];
   /** @type {[string, string][]} */
   const values = [];
   for (const name of members.filter(it => it !== 'lists')) {
     const value = given[name] ?? left.shift();
-    if (value === undefined) throw new TypeError(`${name.toUpperCase()} is missing`);
+    if (value === undefined) throw misused(`${name.toUpperCase()} is missing`, word);
     values.push([name, value]);
   }
   if (members.includes('lists')) left.splice(0).forEach((it, n) => values.push([`list ${n + 1}`, it]));
-  if (left.length > 0) throw new TypeError(`one word too many: ${left[0]}`);
-  if (values.filter(([, it]) => it === '-').length > 1) throw new TypeError('- stands for two files');
+  if (left.length > 0) throw misused(`one word too many: ${left[0]}`, word);
+  if (values.filter(([, it]) => it === '-').length > 1) throw misused('- stands for two files', word);
   return values;
+};
+
+/**
+ * @param {Word} word
+ * @param {Options} options
+ */
+const refuseOptions = (word, { sarif, github, accepted, 'save-proof': path }) => {
+  if (accepted !== undefined && word.word !== 'differ') throw misused('--accepted goes with differ', word);
+  if (path !== undefined && word.word !== 'compare') throw misused('--save-proof goes with compare', word);
+  if ((sarif || github) && !word.finds) throw misused(`${word.word} finds nothing that has a line`, word);
 };
 
 /**
@@ -84,23 +99,13 @@ const placed = ({ members }, given, positionals) => {
  * @returns {Line}
  */
 export const lineOf = (first, rest) => {
-  const word = wordOf(first);
-  try {
-    const { given, positionals, options } = parsed(word, rest);
-    if (options.help) return { word, origins: {}, paths: {}, options };
-    const isShown = options.sarif || options.github, isSaved = options['save-proof'] !== undefined;
-    const isAccepted = options.accepted !== undefined;
-    if (isAccepted && first !== 'differ') throw new TypeError('--accepted goes with differ');
-    if (isShown && !word.finds) throw new TypeError(`${first} finds nothing that has a line`);
-    if (isSaved && first !== 'compare') throw new TypeError('--save-proof goes with compare');
-    const values = placed(word, given, positionals);
-    const origins = values.filter(([name]) => ORIGINS.includes(name));
-    const paths = values.filter(([name]) => !ORIGINS.includes(name));
-    return { word, origins: Object.fromEntries(origins), paths: Object.fromEntries(paths), options };
-  } catch (error) {
-    if (!(error instanceof TypeError)) throw error;
-    throw usage(error.message.split('. To specify')[0], `Usage: ${usageOf(word)}`);
-  }
+  const word = wordOf(first), { given, positionals, options } = parsed(word, rest);
+  if (options.help) return { word, origins: {}, paths: {}, options };
+  refuseOptions(word, options);
+  const values = placed(word, given, positionals);
+  const origins = values.filter(([name]) => ORIGINS.includes(name));
+  const paths = values.filter(([name]) => !ORIGINS.includes(name));
+  return { word, origins: Object.fromEntries(origins), paths: Object.fromEntries(paths), options };
 };
 
 const UNREAD = /** @type {Record<string, string>} */ ({
