@@ -1,0 +1,68 @@
+/** The texts of --help, which fit a terminal of 80 columns. */
+import { MEMBERS, WORDS } from './words.js';
+
+/**
+ * The options, each with the words that take it, or none where all do.
+ * @type {[option: string, summary: string, takes?: (word: import('./words.js').Word) => boolean][]}
+ */
+const OPTIONS = [
+  ['--all', 'each row, however many there are'],
+  ['--json', 'JSON in place of a text for people'],
+  ['--sarif', 'SARIF, for servers that show findings beside the code', it => it.finds === true],
+  ['--github', 'an annotation of GitHub for each finding', it => it.finds === true],
+  ['--save-proof FILE', 'where the proof is kept', it => it.word === 'compare'],
+  ['--accepted FILE', 'directives that may become weaker, each with its reason', it => it.word === 'differ'],
+];
+
+/** @param {typeof OPTIONS} options */
+const listed = options =>
+  options.map(([option, summary]) => `  ${option.padEnd(17)}  ${summary}\n`).join('');
+
+const CODES = `Exit codes:
+  0   nothing is blocked, not weaker, accepted, or it may be shown
+  1   something is blocked, weaker, rejected, or it may not be shown
+  2   the command line is wrong         8   a file can't be read
+  3   the origin is wrong               9   the output can't be written
+  4   a header file is wrong            10  there is no memory
+  5   a file is too large               13  not one required policy
+  6   the request file is wrong         15  the old headers block nothing,
+  7   the proof is no proof                 so a yes would mean nothing
+                                        70  the command itself failed
+`;
+
+/** @param {import('./words.js').Word} word */
+export const usageOf = ({ word, members }) => `guidecerise ${word} ${members.join(' ').toUpperCase()}`;
+
+/** @param {import('./words.js').Word} word */
+export const helpOf = word => `${usageOf(word)}
+
+Tells ${word.summary}.
+
+${word.members.map(it => `  ${it.toUpperCase().padEnd(9)} ${MEMBERS[it]}`).join('\n')}
+
+${word.members.includes('lists') ? '' : `Each may be given by its name too, as --origin, in any order.
+`}A file - is standard input.
+
+${listed(OPTIONS.filter(([, , takes]) => takes === undefined || takes(word)))}
+${CODES}`;
+
+const width = Math.max(...WORDS.map(it => it.word.length));
+
+export const help = `guidecerise tells what a Content Security Policy does. A proved engine answers.
+
+  guidecerise WORD ..       WORD --help tells what it takes
+
+${WORDS.map(({ word, summary }) => `  ${word.padEnd(width)}  ${summary}`).join('\n')}
+  ${'csp'.padEnd(width)}  the program itself: the same words, bytes and exit codes
+
+  guidecerise judge https://www.example headers.txt requests.json
+  guidecerise compare https://www.example --new new.txt --old old.txt
+
+It reads files alone, and opens no connection.
+
+${listed(OPTIONS.filter(([, , takes]) => takes === undefined))}  --version          the version
+
+GUIDECERISE_PROGRAM may name the program built for this machine. It is asked in
+place of the module, and quicker where a file is large.
+
+${CODES}`;

@@ -1,0 +1,84 @@
+/** The words of the command: what each takes, whom it asks, and how its answer is told. */
+import * as calls from '../index.js';
+import {
+  tellCheck, tellComparison, tellDifferences, tellEmbedding, tellLearnt, tellRelations, tellTidied,
+} from './compared.js';
+import { tellReasons, tellReports, tellVerdicts } from './judged.js';
+
+/**
+ * What was asked: the origins, of each file its name and what it holds, and what is wanted of the answer.
+ * @typedef {{ program: calls.Program, origin: string, embedder: string, names: Record<string, string>,
+ *   contents: Record<string, Uint8Array>, text: (member: string) => string, options: { all: boolean },
+ *   accepted: Map<string, string>, page: import('./page.js').Page }} Asked
+ */
+
+/**
+ * @typedef {{ rule: string, level: 'error' | 'warning', file: string, line: number, message: string
+ *   }} Finding
+ */
+
+/**
+ * What a person is told: lines, a sentence with its colour, warnings, and what the answer covers.
+ * @typedef {{ lines: string[], mood: 'red' | 'yellow' | 'green', sentence: string, warnings: string[],
+ *   covers: string, status: number, findings: () => Finding[] }} Told
+ */
+
+/**
+ * A word: its summary, the members of its call in their order, whom it asks, how the answer is told, and
+ * whether it finds something that has a file and a line.
+ * @typedef {{ word: string, summary: string, members: string[],
+ *   ask: (program: calls.Program, given: any) => any, tell: (answer: any, asked: Asked) => Told,
+ *   finds?: boolean }} Word
+ */
+
+/** @type {Word[]} */
+export const WORDS = [
+  {
+    word: 'judge', summary: 'which requests the headers block, and by which directive', finds: true,
+    members: ['origin', 'headers', 'requests'], ask: calls.judge, tell: tellVerdicts,
+  }, {
+    word: 'why', summary: 'the same, and which word allows a request, or nearly does', finds: true,
+    members: ['origin', 'headers', 'requests'], ask: calls.why, tell: tellReasons,
+  }, {
+    word: 'report', summary: 'what a browser would report of the requests',
+    members: ['origin', 'headers', 'requests'], ask: calls.report, tell: tellReports,
+  }, {
+    word: 'compare', summary: 'whether new headers are weaker than old ones; if not, a proof', finds: true,
+    members: ['origin', 'new', 'old'], ask: calls.compare, tell: tellComparison,
+  }, {
+    word: 'differ', summary: 'each directive under which the new headers are weaker', finds: true,
+    members: ['origin', 'new', 'old'], ask: calls.differ, tell: tellDifferences,
+  }, {
+    word: 'check', summary: 'whether such a proof is right',
+    members: ['origin', 'new', 'old', 'proof'], ask: calls.check, tell: tellCheck,
+  }, {
+    word: 'embed', summary: 'whether who requires a policy of a frame may show a response',
+    members: ['embedder', 'origin', 'required', 'response'], ask: calls.embed, tell: tellEmbedding,
+  }, {
+    word: 'tidy', summary: 'shorter headers that allow the same',
+    members: ['origin', 'headers'], ask: calls.tidy, tell: tellTidied,
+  }, {
+    word: 'learn', summary: 'a first policy, which allows what the requests load',
+    members: ['origin', 'requests'], ask: calls.learn, tell: tellLearnt,
+  }, {
+    word: 'order', summary: 'which of 2 to 16 headers are weaker than which',
+    members: ['origin', 'lists'], ask: calls.order, tell: tellRelations,
+  },
+];
+
+/** The members that are said on the command line; all others are files. */
+export const ORIGINS = ['origin', 'embedder'];
+
+/** What each member is. */
+export const MEMBERS = /** @type {Record<string, string>} */ ({
+  origin: 'the origin of the page, as https://www.example, or null',
+  embedder: 'the origin of the page that frames the response',
+  headers: 'the header lines, as curl -s -D - -o /dev/null URL prints them',
+  requests: 'a JSON array of what the page loads, runs and does',
+  new: 'the new header lines',
+  old: 'the old header lines',
+  proof: 'a proof, as compare --save-proof writes it',
+  required: 'the header line that the embedder requires',
+  response: 'the header lines of the response',
+  lists: 'files of header lines; each is compared with each',
+});

@@ -1,0 +1,4 @@
+// The one part of Node that the library calls, so that its types are made without those of Node.
+declare module 'node:fs/promises' {
+  export function readFile(path: URL): Promise<Uint8Array>;
+}
