@@ -153,7 +153,8 @@ export const learn = (program, { origin, requests }) =>
   learntOf(ask(program, 'learn', { origin }, { requests }));
 
 /**
- * Of each two of 2 to 16 headers, numbered from 1, whether the first allows what the second blocks.
+ * Of each two of 2 to 16 headers, numbered from 1, whether the first is weaker: whether it allows a request that
+ * the second blocks.
  * @param {Program} program
  * @param {{ origin: string, lists: readonly Headers[] }} given
  * @returns {Relation[]}
