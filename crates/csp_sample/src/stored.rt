@@ -7,7 +7,7 @@
 
 use anyhow::Context;
 use csp_desk::{Lines, Reporter, Tally};
-use csp_io::{FileInputs, MemoryInputs, MemorySink};
+use csp_io::{FileInputs, Inputs, MemoryInputs, MemorySink};
 use csp_model::{Bytes, List, Memory, Text};
 use csp_run::{Status, exit_code, run};
 use std::alloc::Global;
@@ -116,10 +116,8 @@ fn run_over_files(
     words: &str,
     out: &mut MemorySink,
 ) -> Result<Status, Memory> {
-    let words = texts(alloc, words)?;
-    let mut desk = desk(alloc)?;
     let mut inputs = FileInputs::new(rt, alloc);
-    Ok(run(alloc, &words, &mut inputs, out, &mut desk))
+    run_words(alloc, words, &mut inputs, out)
 }
 
 fn run_in_memory(
@@ -134,24 +132,29 @@ fn run_in_memory(
         let bytes = Bytes::new(alloc, spelled(alloc, content)?.as_bytes())?;
         held.push((Text::new(alloc, name)?, bytes))?;
     }
-    let words = texts(alloc, head.words)?;
-    let mut desk = desk(alloc)?;
     let mut inputs = MemoryInputs::new(held, PIECE, numbers(alloc, head.failing_read)?);
-    Ok(run(alloc, &words, &mut inputs, out, &mut desk))
+    Ok(run_words(alloc, head.words, &mut inputs, out)?)
 }
 
-// One reporter of lines and one of counts, as the program has.
-fn desk(alloc: Global) -> Result<Vec<Box<dyn Reporter>>, Memory> {
+// Does what the words say, with one reporter of lines and one of counts, as the program has.
+fn run_words<I: Inputs>(
+    alloc: Global,
+    words: &str,
+    inputs: &mut I,
+    out: &mut MemorySink,
+) -> Result<Status, Memory> {
+    let words = texts(alloc, words)?;
     let mut desk: Vec<Box<dyn Reporter>> = Vec::new(alloc);
     desk.push(Box::new(alloc, Lines::new(alloc))?)?;
     desk.push(Box::new(alloc, Tally::new(alloc))?)?;
-    Ok(desk)
+    Ok(run(alloc, &words, inputs, out, &mut desk))
 }
 
-fn numbers(alloc: Global, number: Option<u64>) -> Result<List<u64>, Memory> {
+// The number of the call that fails, if one does.
+fn numbers(alloc: Global, failing: Option<u64>) -> Result<List<u64>, Memory> {
     let mut made = List::new(alloc);
-    for number in number {
-        made.push(number)?;
+    if let Some(call) = failing {
+        made.push(call)?;
     }
     Ok(made)
 }
