@@ -7,6 +7,7 @@ import { runProgram } from './command/native.js';
 import { pageOf, wrapped } from './command/page.js';
 import { programOf, withProgress } from './command/program.js';
 import { annotationOf, sarifOf } from './command/sarif.js';
+import { ownFile } from './own.js';
 import { Refusal } from './refusal.js';
 
 /** @typedef {import('./command/line.js').Line} Line */
@@ -19,7 +20,7 @@ const WRITE_FAULT = 9;
 // The version of what --json prints. A member may be added to it; what else changes makes it another.
 const SCHEMA = 1;
 
-const version = () => readFileSync(new URL('VERSION', import.meta.url), 'utf8').trim();
+const version = () => readFileSync(ownFile('VERSION', '../VERSION'), 'utf8').trim();
 
 /** @param {unknown} value */
 const json = value => JSON.stringify(value, null, 2) + '\n';

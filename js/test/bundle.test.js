@@ -1,7 +1,7 @@
 /** The library without Node's parts: bundled for a browser and for a worker, and run there. */
 import assert from 'node:assert/strict';
 import { spawn, spawnSync } from 'node:child_process';
-import { mkdirSync, readFileSync, symlinkSync, writeFileSync } from 'node:fs';
+import { copyFileSync, cpSync, readFileSync, writeFileSync } from 'node:fs';
 import { createServer } from 'node:http';
 import { join } from 'node:path';
 import { gzipSync } from 'node:zlib';
@@ -10,8 +10,9 @@ import vm from 'node:vm';
 import { TOP, contentOf, has, temporaryFolder } from './shared.js';
 
 const folder = temporaryFolder();
-mkdirSync(join(folder, 'node_modules'));
-symlinkSync(join(TOP, 'js'), join(folder, 'node_modules/guidecerise'));
+const installed = join(folder, 'node_modules/guidecerise');
+cpSync(join(TOP, 'js'), installed, { recursive: true });
+copyFileSync(join(TOP, 'dist/engine.wasm'), join(installed, 'engine.wasm'));
 const skip = !has('esbuild') && 'esbuild is missing: apt-get install esbuild';
 
 const LIBRARY = `
@@ -47,7 +48,7 @@ for (const [name, options] of Object.entries({
     const code = bundled(LIBRARY, '--minify', ...options);
     const context = vm.createContext({ TextEncoder, TextDecoder, WebAssembly, URL });
     vm.runInContext(code, context);
-    assert.equal(await context.asked(await WebAssembly.compile(contentOf('js/engine.wasm'))), ANSWER);
+    assert.equal(await context.asked(await WebAssembly.compile(contentOf('dist/engine.wasm'))), ANSWER);
     t.diagnostic(`${code.length} bytes, ${gzipSync(code).length} compressed`);
     assert.ok(code.length < 20_000);
   });

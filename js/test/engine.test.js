@@ -37,7 +37,7 @@ test('what the documents show is answered so', () => {
 });
 
 test('a module, its bytes and a view of them give an engine', async () => {
-  const bytes = contentOf('js/engine.wasm'), module = await WebAssembly.compile(bytes);
+  const bytes = contentOf('dist/engine.wasm'), module = await WebAssembly.compile(bytes);
   for (const given of [module, bytes, new Uint8Array(bytes).buffer]) {
     const loaded = await loadEngine(given);
     assert.ok(loaded instanceof Engine);
@@ -53,7 +53,7 @@ test('an answer that is longer than the first room for it comes whole', async ()
   const hosts = Array.from({ length: 1000 }, (_, n) => `https://h${n}.example`).join(' ');
   const images = Array.from({ length: 100 }, () => ({ kind: 'fetch', destination: 'image', url: 'data:,' }));
   const files = [['p', `Content-Security-Policy: img-src ${hosts}`], ['r', JSON.stringify(images)]];
-  const loaded = await loadEngine(contentOf('js/engine.wasm'));
+  const loaded = await loadEngine(contentOf('dist/engine.wasm'));
   const { code, bytes, text } = loaded.call(['report', 'https://a.example', 'p', 'r'], files);
   assert.equal(code, 0);
   assert.ok(bytes.length > 1 << 20);
