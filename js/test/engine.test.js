@@ -7,13 +7,13 @@ import { Engine, loadEngine } from '../engine.js';
 import { TOP, ask, contentOf } from './shared.js';
 
 test('what the gate keeps of the program is answered byte for byte', () => {
-  const source = contentOf('crates/csp_sample/src/commands.rt').toString();
-  const runs = [...source.matchAll(/\(\s*"([^"]+)",\s*"([a-z]+ https:[^"]+)",?\s*\)/g)];
+  const data = 'crates/csp_sample/data';
+  const runs = [...contentOf(`${data}/examples.runs`).toString().matchAll(/^=== (.*)$/gm)];
   const kept = contentOf('crates/csp_sample/stdout').toString();
   assert.ok(runs.length >= 20);
-  for (const [, name, line] of runs) {
-    const { code, text } = ask(line.split(' '), join(TOP, 'crates/csp_sample/data'));
-    assert.ok(kept.includes(`${name}, exit code ${code}:\n${text}`), `${name}: ${line}\n${text}`);
+  for (const [row, line] of runs) {
+    const { code, text } = ask(line.split(' '), join(TOP, data));
+    assert.ok(kept.includes(`${row}\nexit code ${code}\n${text}`), `${line}\n${text}`);
   }
 });
 
