@@ -1,5 +1,5 @@
-//! Tests of `csp_run::run` as tables: what it answers and writes over files and a sink in memory, what
-//! reporters tell, and a read, a write, a reporter and an allocation that fail. Beside them stand those of
+//! Tests of `csp_run::run` that the stored runs of `csp_sample` can't be: reporters that are lent, an allocation
+//! that fails, long logs, and a request file that is cut before each of its bytes. Beside them stand those of
 //! the calls that it is made of: of checks that are read, printed and judged, and of inputs and sinks.
 //!
 //! Nothing stands on this crate. What a proved clause says of every input is not tested again.
