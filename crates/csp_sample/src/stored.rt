@@ -1,5 +1,6 @@
 //! Stored runs: each row of the files `data/*.runs` is a call of `run`, and what the calls write is compared with
-//! the file `stdout`. Its texts were written by hand, but for the proofs and requests that the documents' examples show.
+//! the file `stdout`. Its texts were written by hand, but for the proofs and requests that the documents' examples
+//! show.
 //!
 //! A row is a line `=== WORDS`, lines that say what fails and what is shown, and the files in memory, each behind a
 //! line `--- NAME`. Where a row has no such line, the files are those of `data/`. In a file `<<3 x text>>` stands for
