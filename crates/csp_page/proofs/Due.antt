@@ -1,10 +1,13 @@
 -- What is due with a code that no want of memory gives is an answer.
-use Rattle.std.proofs.Common.{◌≡◌, ◌≢◌, ◌<◌, ◌≤◌, ◌⊎◌, ℕ, zero, suc, Bool, true, false, List, [], ◌∷◌, ◌++◌, map}
-use Rattle.std.proofs.Common.{length, take, get_or, Option, Some, None, Err, inl, inr, refl, sym, ap, subst, ◌∙◌, arith}
+use Rattle.std.proofs.Common.{◌≡◌, ◌≢◌, ◌<◌, ◌≤◌, ◌+◌, ◌⊎◌, ℕ, zero, suc, Bool, true, false, List, [], ◌∷◌, ◌++◌, map}
+use Rattle.std.proofs.Common.{length, take, drop, get_or, slice_index_or, Option, Some, None, Err, inl, inr, refl, sym, ap, subst, ◌∙◌, arith}
 use Rattle.std.proofs.lemmas.Bool.{false≢true}
-use Rattle.std.proofs.lemmas.List.{get_or-map, length-map, length-take-le, take_all, take-take}
-use Rattle.std.specs.Prelude.{Contains, IsUtf8}
+use Rattle.std.proofs.lemmas.Bool.Decides.{nat_tests}
+use Rattle.std.proofs.lemmas.List.Elements.{All-drop}
+use Rattle.std.proofs.lemmas.List.{get_or_default, get_or-map, length-map, length-take-le, take_all, take-take}
+use Rattle.std.specs.Prelude.{Contains, IsUtf8, nat_lt}
 use Rattle.csp_desk.specs.declared.reporter.Kind.TheVariants.{Lines, Tally}
+use Rattle.csp_io.specs.Starts.{Start, MissingAreUnread}
 use Rattle.csp_io.specs.Told.{GrewBy, GrewByPrefix, Rose}
 use Rattle.csp_output.specs.Statuses.{exit_code}
 use Rattle.csp_output.specs.declared.status.Status.{Status}
@@ -31,12 +34,21 @@ missing (Some bytes) now f g same rose =
     let none : faults_with now g ≡ 0 = ap (λ (o : Option (List ℕ)). faults_with o g) same in
     absurd (no_rise (subst (λ (n : ℕ). Rose 0 n) none rose))
 
+-- what was read of names that aren't there stays so at files of the same bytes, and for the later starts
+pub still_missing : (now before : List ℕ → Option (List ℕ)) (n : ℕ) (log : List Start)
+    → ((name : List ℕ) → now name ≡ before name) → MissingAreUnread now log
+    → MissingAreUnread before (drop n log)
+still_missing now before n log same all =
+    All-drop (λ (s : Start). before s.name ≡ None → (s.bytes ≡ []) × (s.ended ≡ false)) n log
+    (λ k d below none. all k d below (same (slice_index_or log k d).name ∙ none))
+
 -- Ends
 
 -- what is known of the files and the desk of a page's call
 pub record IsOfPage (w : World) (desk : Desk) (contents : List ℕ → Option (List ℕ)) : Type 0 where
   pub files : (n : List ℕ) → w.contents n ≡ contents n
   pub failed : (n : List ℕ) → Rose (w.faults_before n) (w.faults_now n) → contents n ≡ None
+  pub missing : MissingAreUnread contents w.log
   pub kinds : desk.kinds ≡ Lines ∷ Tally ∷ []
   pub may_refuse : desk.may_refuse ≡ false ∷ false ∷ []
   pub held : desk.held_before ≡ [] ∷ [] ∷ []
@@ -51,6 +63,7 @@ due_answer w desk words end code contents copy page due real code_is text_is = r
   end = end;
   files = page.files;
   failed = page.failed;
+  missing = page.missing;
   kinds = page.kinds;
   may_refuse = page.may_refuse;
   held = page.held;
@@ -241,6 +254,7 @@ over_same words words' a b code text same files got =
       end = got.end;
       files = λ n. got.files n ∙ files n;
       failed = λ n rose. sym (files n) ∙ got.failed n rose;
+      missing = still_missing a b 0 got.world.log files got.missing;
       kinds = got.kinds;
       may_refuse = got.may_refuse;
       held = got.held;
@@ -286,3 +300,31 @@ some_bad f items place d within bad = (
   get_or-map f items place d (f (get_or items place d)) within,
   bad,
 )
+
+-- the texts of the first ones are
+abbrev pub GoodSoFar : {W : Type 0} → (W → List ℕ) → List W → ℕ → Type 0
+GoodSoFar {W} f items count = (k : ℕ) (d : W) → k < count → IsUtf8 (f (get_or items k d))
+
+same_or_below : (k n : ℕ) → k < n + 1 → (k < n) ⊎ (k ≡ n)
+same_or_below k n below = elim (nat_lt k n) as (λ b. nat_lt k n ≡ b → (k < n) ⊎ (k ≡ n)) [
+  | true ↦ λ is. inl (grind (arith, nat_tests, is))
+  | false ↦ λ is. inr (grind (arith, nat_tests, is, below))
+] refl
+
+-- and that of the next one
+pub good_more : {W : Type 0} (f : W → List ℕ) (items : List W) (count : ℕ) (d : W) → count < length items
+    → GoodSoFar f items count → IsUtf8 (f (get_or items count d)) → GoodSoFar f items (count + 1)
+good_more f items count d within good next = λ k e below. elim (same_or_below k count below) [
+  | inl before ↦ good k e before
+  | inr same ↦
+      subst (λ (n : ℕ). IsUtf8 (f (get_or items n e))) (sym same)
+      (subst (λ w. IsUtf8 (f w)) (get_or_default items count d e within) next)
+]
+
+-- so none isn't
+pub none_bad : {W : Type 0} (f : W → List ℕ) (items : List W) (count : ℕ) → length items ≤ count
+    → GoodSoFar f items count → HasBad (map f items) → ⊥
+none_bad f [] count all good (k, text, below, is, bad) = omega (arith, below)
+none_bad f (w ∷ ws) count all good (k, text, below, is, bad) =
+    let within : k < length (w ∷ ws) = subst (λ (n : ℕ). k < n) (length-map (w ∷ ws) f) below in
+    bad (subst IsUtf8 (sym (get_or-map f (w ∷ ws) k w text within) ∙ is) (good k w (omega (arith, within, all))))

@@ -1,6 +1,7 @@
 -- What a page's call gives.
 use Rattle.std.specs.Prelude.{◌≡◌, ◌≢◌, ◌<◌, ◌≤◌, ℕ, false, List, [], ◌∷◌, length, take, Option, None, Any, IsUtf8}
 use Rattle.csp_desk.specs.declared.reporter.Kind.TheVariants.{Lines, Tally}
+use Rattle.csp_io.specs.Starts.{MissingAreUnread}
 use Rattle.csp_io.specs.Told.{Rose}
 use Rattle.csp_output.specs.Statuses.{exit_code}
 use Rattle.csp_page.specs.declared.File.{File}
@@ -24,9 +25,9 @@ file_of file = (file.name.now, file.bytes.now)
 abbrev pub HasBad : List (List ℕ) → Type 0
 HasBad texts = Any (λ text. ¬ (IsUtf8 text)) texts
 
--- The code and the text are those of an end that the program may come to by these words, over files of these bytes, of
--- which none that is there has failed, and with a desk of one reporter of lines and one of counts, which held nothing
--- and never refuse a violation.
+-- The code and the text are those of an end that the program may come to by these words, over files of these bytes, and
+-- with a desk of one reporter of lines and one of counts, which held nothing and never refuse a violation. No file that is
+-- there has failed. Of one that isn't there no byte was read, and no end was found.
 pub record IsPageAnswer (words : List (List ℕ)) (contents : List ℕ → Option (List ℕ)) (code : ℕ) (text : List ℕ)
     : Type 0 where
   pub world : World
@@ -34,6 +35,7 @@ pub record IsPageAnswer (words : List (List ℕ)) (contents : List ℕ → Optio
   pub end : End
   pub files : (n : List ℕ) → world.contents n ≡ contents n
   pub failed : (n : List ℕ) → Rose (world.faults_before n) (world.faults_now n) → contents n ≡ None
+  pub missing : MissingAreUnread contents world.log
   pub kinds : desk.kinds ≡ Lines ∷ Tally ∷ []
   pub may_refuse : desk.may_refuse ≡ false ∷ false ∷ []
   pub held : desk.held_before ≡ [] ∷ [] ∷ []

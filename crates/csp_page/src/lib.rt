@@ -1,13 +1,14 @@
 //! What a page calls: the program over words and files in memory.
 #![tactic(auto)]
 
-ghost use Rattle.std.specs.Prelude.{◌≡◌, ◌≢◌, ◌≤◌, ◌⊎◌, ℕ, List as Items, IfOk, IsErrOf, IsUtf8};
+ghost use Rattle.std.specs.Prelude.{◌≡◌, ◌≢◌, ◌≤◌, ◌⊎◌, ℕ, List as Items, IfOk, OnOk, IsErrOf, IsUtf8};
 ghost use Rattle.std.specs.Prelude.{length, map, min, take};
 ghost use Rattle.csp_io.specs.Files.{contents_of};
 ghost use Rattle.csp_page.specs.Files.{page_contents};
 ghost use Rattle.csp_page.specs.Page.{HasBad, IsCutAnswer, IsGiven, IsPageAnswer, file_of, name_of, word_of};
 
 mod files;
+pub mod laws;
 mod sink;
 #[cfg(test)]
 mod tests;
@@ -71,8 +72,10 @@ pub extern "C" fn csp_page(
     // 11: never, since neither reporter refuses a violation.
     ensures never_refused { result ≢ 11 }
 
-    // 14: a word or the name of a file isn't UTF-8.
+    // 14: a word or the name of a file isn't UTF-8. Unless memory runs out, each such call gets it.
     ensures bad_words { result ≡ 14 → HasBad (map word_of words.now) ⊎ HasBad (map name_of files.now) }
+    ensures each_bad_word { HasBad (map word_of words.now) ⊎ HasBad (map name_of files.now)
+        → (result ≡ 14) ⊎ (result ≡ 10) }
     ensures within { written.new ≤ length out.new }
 {
     *written = 0;
@@ -132,6 +135,8 @@ fn answered(
         (λ got. IsGiven (map word_of words.now) (contents_of (map file_of files.now)) room got.0 got.1) }
     ensures bad { IsErrOf result Unfit.Text
         → HasBad (map word_of words.now) ⊎ HasBad (map name_of files.now) }
+    ensures good_words { OnOk result (HasBad (map word_of words.now) → ⊥) }
+    ensures good_names { OnOk result (HasBad (map name_of files.now) → ⊥) }
 {
     let words = words_of(alloc, words)?;
     let mut inputs = inputs_of(alloc, files)?;
@@ -158,6 +163,7 @@ fn run_words(
 fn text_of(alloc: Global, bytes: &[u8]) -> Result<Text, Unfit>
     ensures text { IfOk result (λ text. text ≡ bytes.now) }
     ensures bad { IsErrOf result Unfit.Text → ¬ (IsUtf8 bytes.now) }
+    ensures good { OnOk result (IsUtf8 bytes.now) }
 {
     match str::from_utf8(bytes) {
         Ok(text) => Ok(Text::new(alloc, text)?),
@@ -168,6 +174,7 @@ fn text_of(alloc: Global, bytes: &[u8]) -> Result<Text, Unfit>
 fn words_of(alloc: Global, words: &[Word<'_>]) -> Result<List<Text>, Unfit>
     ensures made { IfOk result (λ made. made ≡ map word_of words.now) }
     ensures bad { IsErrOf result Unfit.Text → HasBad (map word_of words.now) }
+    ensures good { OnOk result (HasBad (map word_of words.now) → ⊥) }
 {
     let mut made = List::new(alloc);
     for word in words {
@@ -179,6 +186,7 @@ fn words_of(alloc: Global, words: &[Word<'_>]) -> Result<List<Text>, Unfit>
 fn files_of(alloc: Global, files: &[File<'_>]) -> Result<List<(Text, Bytes)>, Unfit>
     ensures made { IfOk result (λ made. made ≡ map file_of files.now) }
     ensures bad { IsErrOf result Unfit.Text → HasBad (map name_of files.now) }
+    ensures good { OnOk result (HasBad (map name_of files.now) → ⊥) }
 {
     let mut made = List::new(alloc);
     for file in files {
@@ -191,6 +199,7 @@ fn inputs_of(alloc: Global, files: &[File<'_>]) -> Result<PageInputs, Unfit>
     ensures contents { IfOk result (λ inputs. (n : Items ℕ)
         → page_contents inputs n ≡ contents_of (map file_of files.now) n) }
     ensures bad { IsErrOf result Unfit.Text → HasBad (map name_of files.now) }
+    ensures good { OnOk result (HasBad (map name_of files.now) → ⊥) }
 {
     Ok(PageInputs::new(alloc, files_of(alloc, files)?))
 }

@@ -1,6 +1,6 @@
 use Rattle.std.proofs.Common.{refl, ◌∙◌, inl, inr}
 use denote.Param.Object.{read_made}
-use Rattle.csp_page.proofs.Due.{given, missing, two}
+use Rattle.csp_page.proofs.Due.{given, missing, still_missing, two}
 use Rattle.csp_page.proofs.run_words.OwnLists.{own-1}
 use Rattle.csp_page.proofs.run_words.Goals as goal
 
@@ -18,6 +18,7 @@ returns c =
     (record {
       files = λ n. refl;
       failed = λ n rose. missing _ _ _ _ (c.run-status.ensures.contents n) rose;
+      missing = still_missing _ _ _ _ c.run-status.ensures.contents c.run-status.new.inputs.files.missing;
       kinds = two _ _ _ _ _ _ _ _ c.new-desk.ensures.items c.in_ok-push.ensures.items c.in_ok-push-2.ensures.items
           (read_made own-1 _ (inl tt) refl _ (λ j w. j.1.kind w) _ _ _ c.into_dyn_box.ensures.1)
           (read_made own-1 _ (inr (inl tt)) refl _ (λ j w. j.1.kind w) _ _ _ c.into_dyn_box-in_ok-new-2.ensures.1);
