@@ -1,17 +1,21 @@
 /** The command `guidecerise`: asks what the command line says, and prints the answer. */
 import { readFileSync, writeFileSync } from 'node:fs';
 import { acceptedIn } from './command/accepted.js';
+import { isHeaders, marksIn, readHeaderFile } from './command/headers.js';
 import { help, helpOf } from './command/help.js';
 import { lineOf, read } from './command/line.js';
 import { runProgram } from './command/native.js';
 import { pageOf, wrapped } from './command/page.js';
 import { programOf, withProgress } from './command/program.js';
 import { annotationOf, sarifOf } from './command/sarif.js';
+import { isRequestFile, siteOf, sourcesOf } from './command/sources.js';
 import { ownFile } from './own.js';
 import { Refusal } from './refusal.js';
 
 /** @typedef {import('./command/line.js').Line} Line */
 /** @typedef {import('./command/words.js').Told} Told */
+/** @typedef {import('./command/headers.js').HeaderFile} HeaderFile */
+/** @typedef {import('./command/headers.js').Remark} Remark */
 /** @typedef {Record<string, string | undefined>} Environment */
 
 const USAGE = 2;
@@ -28,30 +32,57 @@ const json = value => JSON.stringify(value, null, 2) + '\n';
 /**
  * The members of a call: the origins, and what the files hold.
  * @param {Line} line
- * @param {Record<string, Buffer>} contents
+ * @param {Record<string, string | Uint8Array>} contents
  */
 const callOf = ({ word, origins }, contents) => word.members.includes('lists')
   ? { ...origins, lists: Object.values(contents) }
   : { ...origins, ...contents };
+
+/** @param {Remark} remark */
+const remarkText = ({ path, line, said }) => `${path}${line === undefined ? '' : `:${line}`}: ${said}`;
 
 /**
  * What is printed of an answer.
  * @param {Line} line
  * @param {unknown} answer
  * @param {Told} told
+ * @param {Remark[]} remarks how the files were read, and what is marked in them
  * @param {import('./command/page.js').Page} page
  */
-const printed = ({ word: { word }, origins, paths, options }, answer, told, page) => {
-  const { lines, mood, sentence, warnings, covers, status, findings } = told;
+const printed = ({ word: { word }, origins, paths, sources, options }, answer, told, remarks, page) => {
+  const { first, lines, mood, sentence, warnings, covers, unseen = [], steps = [], status, findings } = told;
   if (options.sarif) return json(sarifOf(findings(), version()));
-  if (options.github) return [...findings().map(annotationOf), sentence, ...warnings, covers, ''].join('\n');
-  if (options.json) {
-    const given = { ...origins, ...paths };
-    return json({ schema: SCHEMA, word, given, status, sentence, warnings, covers, answer });
+  const notes = remarks.map(remarkText), begin = first === undefined ? [] : [first];
+  if (options.github) {
+    return [...findings().map(annotationOf), ...begin, ...notes, sentence, ...warnings, covers, ...unseen, '']
+      .join('\n');
   }
-  const said = wrapped(sentence, page).map(it => page.paint(it, mood));
-  return [...lines, ...said, ...[...warnings, covers].flatMap(it => wrapped(it, page)), ''].join('\n');
+  if (options.json) {
+    const given = { ...origins, ...paths, ...requestsOf({ sources }) };
+    const all = { schema: SCHEMA, word, given, status, sentence, warnings: [...begin, ...warnings], covers };
+    return json({ ...all, remarks, unseen, answer });
+  }
+  const paragraph = (/** @type {string} */ it, /** @type {typeof mood} */ colour) =>
+    wrapped(it, page).map(line => page.paint(line, colour));
+  const marked = remarks.flatMap(it => {
+    const all = wrapped(remarkText(it), page, '  ');
+    return it.isMark ? all.map(line => page.paint(line, 'yellow')) : all;
+  });
+  return [
+    ...begin.flatMap(it => [...paragraph(it, 'yellow'), '']), ...marked, ...marked.length > 0 ? [''] : [],
+    ...lines, ...paragraph(sentence, mood), ...[...warnings, covers].flatMap(it => wrapped(it, page)),
+    ...listed('Known in part, or not looked at:', unseen, page),
+    ...steps.length > 0 ? ['', ...steps.flatMap(it => wrapped(it, page, '   '))] : [], '',
+  ].join('\n');
 };
+
+/**
+ * @param {string} head
+ * @param {string[]} rows
+ * @param {import('./command/page.js').Page} page
+ */
+const listed = (head, rows, page) =>
+  rows.length === 0 ? [] : [head, ...rows.flatMap(it => wrapped(`- ${it}`, page, '  '))];
 
 /**
  * @param {string} path
@@ -67,25 +98,90 @@ const save = (path, proof) => {
 };
 
 /**
+ * The header files of a line, read.
+ * @param {Line} line
+ */
+const headersOf = async ({ paths }) => {
+  const files = /** @type {Record<string, HeaderFile>} */ ({});
+  for (const [name, path] of Object.entries(paths)) {
+    if (isHeaders(name)) files[name] = await readHeaderFile(name, path, read(name, path));
+  }
+  return files;
+};
+
+/**
+ * The answer about the pages that stand in files.
+ * @param {Line} line
+ * @param {ReturnType<typeof sourcesOf>} sources
+ * @param {Record<string, HeaderFile>} headers
+ * @param {Environment} environment
+ */
+const answeredOfSite = async ({ word, origins, options }, sources, headers, environment) => {
+  const { ofSite = () => { throw new Error(`${word.word} takes no pages`); } } = word;
+  const events = (options.events ?? []).map(path => ({ name: path, text: read('events', path).toString() }));
+  const { url } = options, { origin } = origins, { headers: given } = headers;
+  const site = await siteOf(sources, events, { url, origin, lines: given?.lines });
+  const program = await programOf(environment.GUIDECERISE_PROGRAM), page = pageOf(process.stdout, environment);
+  const { answer, told } = withProgress(() => ofSite({ program, site, options, page }));
+  const marked = given === undefined ? site.pages : [];
+  const remarks = [...given?.remarks ?? [], ...marked.flatMap(it => marksIn([...it.lines, ...it.meta], it.file))];
+  return { answer, told, remarks, page };
+};
+
+/**
  * @param {Line} line
  * @param {Environment} environment
  */
 const answered = async (line, environment) => {
-  const { word, origins, paths, options } = line, page = pageOf(process.stdout, environment);
-  const files = Object.entries(paths).map(([name, path]) => [name, read(name, path)]);
-  const contents = /** @type {Record<string, Buffer>} */ (Object.fromEntries(files));
+  const { word, origins, options } = line, headers = await headersOf(line), sources = sourcesOf(line.sources);
+  const isWhole = [...word.members].every(it => it in origins || it in headers || it === 'requests');
+  const isExact = isWhole && isRequestFile(sources.files) && options.events === undefined;
+  if (line.sources.length > 0 && !isExact) {
+    const { answer, told, remarks, page } = await answeredOfSite(line, sources, headers, environment);
+    return { text: printed(line, answer, told, remarks, page), status: told.status };
+  }
+  return answeredOfFiles(line, sources.files, headers, environment);
+};
+
+/**
+ * The answer about files that the engine reads as they are.
+ * @param {Line} line
+ * @param {import('./command/sources.js').Source[]} sources
+ * @param {Record<string, HeaderFile>} headers
+ * @param {Environment} environment
+ */
+const answeredOfFiles = async (line, sources, headers, environment) => {
+  const { word, origins, options } = line, page = pageOf(process.stdout, environment);
+  const [requests] = sources, names = { ...line.paths, ...requests ? { requests: requests.path } : {} };
+  const contentOf = (/** @type {string} */ name, /** @type {string} */ path) =>
+    name === 'requests' ? requests.bytes : headers[name]?.content ?? read(name, path);
+  const contents = Object.fromEntries(Object.entries(names).map(([name, path]) => [name, contentOf(name, path)]));
+  const lines = Object.fromEntries(Object.entries(headers).map(([name, it]) => [name, it.line]));
   const accepted = options.accepted === undefined ? new Map() : acceptedIn(options.accepted);
   const program = await programOf(environment.GUIDECERISE_PROGRAM);
   const [answer, told] = withProgress(() => {
     const got = word.ask(program, callOf(line, contents)), { origin, embedder = '' } = origins;
     const text = (/** @type {string} */ name) => contents[name].toString();
-    const asked = { program, origin, embedder, names: paths, contents, text, options, accepted, page };
-    return [got, word.tell(got, asked)];
+    return [got, word.tell(got, { program, origin, embedder, names, contents, lines, text, options, accepted, page })];
   });
-  const path = options['save-proof'];
+  const path = options['save-proof'], remarks = Object.values(headers).flatMap(it => it.remarks);
   if (path !== undefined && answer.proof !== undefined) save(path, answer.proof);
-  return { text: printed(line, answer, told, page), status: told.status };
+  return { text: printed(line, answer, told, remarks, page), status: told.status };
 };
+
+/**
+ * What stands for requests, as programs are told: a path, or the paths.
+ * @param {Pick<Line, 'sources'>} line
+ */
+const requestsOf = ({ sources }) =>
+  sources.length === 0 ? {} : { requests: sources.length === 1 ? sources[0] : sources };
+
+/**
+ * The path of a member of the call; what is no member is a path itself.
+ * @param {string} file
+ * @param {Line} [line]
+ */
+const pathOf = (file, line) => line?.paths[file] ?? (file === 'requests' ? line?.sources[0] : file);
 
 /**
  * What is said where there is no answer: for people on standard error, for programs on standard output.
@@ -94,10 +190,10 @@ const answered = async (line, environment) => {
  */
 const refused = (refusal, line) => {
   const { status, code, file, line: at, request, member, got, allowed, problem, hint = '' } = refusal;
-  const path = line?.paths[file ?? ''];
+  const path = file === undefined ? undefined : pathOf(file, line);
   if (line?.options.json) {
     const told = { code, file, path, line: at, request, member, got, allowed, problem, hint };
-    const given = { ...line.origins, ...line.paths };
+    const given = { ...line.origins, ...line.paths, ...requestsOf(line) };
     return { text: json({ schema: SCHEMA, word: line.word.word, given, status, refusal: told }), status };
   }
   const place = path === undefined ? '' : `${path}${at === undefined ? '' : `:${at}`}: `;

@@ -31,13 +31,6 @@ const byOf = ({ items }) => items.filter(it => it.disposition === 'enforce')
   .map(({ governing, policy }) => governing + (policy > 0 ? `, ${ordinal(policy)} policy` : '')).join('; ');
 
 /**
- * The line of the first policy that is enforced.
- * @param {string} headers
- */
-const lineOfPolicy = headers =>
-  Math.max(1, headers.split('\n').findIndex(it => /^(meta-)?content-security-policy:/i.test(it)) + 1);
-
-/**
  * What is to be known beside the rows: nonces that differ, and what was accepted, needed or not.
  * @param {Difference[]} differences
  * @param {Map<string, string>} accepted
@@ -59,7 +52,7 @@ const warningsOf = (differences, accepted) => {
  * @param {Asked} asked
  * @returns {Told}
  */
-const tellWeaker = (differences, shown, { names, text, page, origin, accepted }) => {
+const tellWeaker = (differences, shown, { names, lines: { new: line }, page, origin, accepted }) => {
   const isAccepted = (/** @type {Difference} */ it) => accepted.has(it.directive);
   const rows = differences.map(it => [(isAccepted(it) ? yellow : red)(it.directive), textOf(it), byOf(it)]);
   const isWhole = differences.every(isAccepted);
@@ -72,7 +65,7 @@ const tellWeaker = (differences, shown, { names, text, page, origin, accepted })
     status: isWhole ? 0 : 1,
     findings: () => differences.map(it => ({
       rule: it.directive, level: isAccepted(it) ? 'warning' : 'error',
-      file: names.new, line: lineOfPolicy(text('new')),
+      file: names.new, line,
       message: `${it.directive} is weaker: ${plain(textOf(it))} is now allowed, which ${names.old} blocks`,
     })),
   };
@@ -192,7 +185,7 @@ export const tellTidied = ({ headers, needed }, { names, origin, page, options }
 
 /**
  * @param {import('../index.js').Learnt} answer
- * @param {Asked} asked
+ * @param {Pick<Asked, 'names' | 'origin'>} asked
  * @returns {Told}
  */
 export const tellLearnt = ({ headers, notLearnt }, { names, origin }) => ({

@@ -19,10 +19,10 @@ import { plain, table, wrapped } from './page.js';
  */
 
 // More rows than these are summed up, if the whole isn't asked for.
-const MANY = 20;
+export const MANY = 20;
 
 /** @param {number} count */
-const number = count => count.toLocaleString('en');
+export const number = count => count.toLocaleString('en');
 
 /**
  * A count and its noun, as `1 request` and `2 requests`.
@@ -40,12 +40,12 @@ export const ordinal = policy => ['first', 'second', 'third'][policy] ?? `${poli
  */
 const requestsOf = ({ text }) => JSON.parse(text('requests'));
 
-const BLOCKED = { text: 'blocked', colour: /** @type {const} */ ('red') };
-const REPORTED = { text: 'reported', colour: /** @type {const} */ ('yellow') };
-const ALLOWED = { text: 'allowed', colour: /** @type {const} */ ('green') };
+export const BLOCKED = { text: 'blocked', colour: /** @type {const} */ ('red') };
+export const REPORTED = { text: 'reported', colour: /** @type {const} */ ('yellow') };
+export const ALLOWED = { text: 'allowed', colour: /** @type {const} */ ('green') };
 
 /** @param {{ disposition: string }} item */
-const answerOf = ({ disposition }) => disposition === 'enforce' ? BLOCKED : REPORTED;
+export const answerOf = ({ disposition }) => disposition === 'enforce' ? BLOCKED : REPORTED;
 
 /**
  * One row of each key, and how many there are, the most frequent first.
@@ -53,7 +53,7 @@ const answerOf = ({ disposition }) => disposition === 'enforce' ? BLOCKED : REPO
  * @param {T[]} rows
  * @param {(row: T) => string} keyOf
  */
-const grouped = (rows, keyOf) => {
+export const grouped = (rows, keyOf) => {
   /** @type {Map<string, { row: T, count: number }>} */
   const groups = new Map();
   for (const row of rows) {
@@ -75,7 +75,7 @@ const rowsOf = (verdicts, requests) => verdicts.flatMap(({ number, items }) =>
  * How many rows of a sum aren't shown.
  * @param {number} left
  */
-const leftOut = left => `${left > 0 ? `And ${counted(left, 'row')} more. ` : ''}--all shows each of them.`;
+export const leftOut = left => `${left > 0 ? `And ${counted(left, 'row')} more. ` : ''}--all shows each of them.`;
 
 /**
  * @param {Row[]} rows
@@ -122,7 +122,7 @@ const coverage = (requests, { names, origin }) => {
 };
 
 /** @type {(all: number, blocked: number, reported: number) => string} */
-const sentenceOf = (all, blocked, reported) => {
+export const sentenceOf = (all, blocked, reported) => {
   if (all === 0) return 'No request was given, so nothing was judged.';
   const count = blocked === 0 ? 'None' : number(blocked), is = blocked > 1 ? 'are' : 'is';
   const more = blocked === 0 ? `But ${number(reported)}` : counted(reported, 'other');
@@ -190,7 +190,7 @@ const BUT = /** @type {Record<string, string>} */ ({
  * @param {import('../answers.js').Ground} ground
  * @param {boolean} several
  */
-const groundText = ({ policy, directive, blocks, token, near }, several) => {
+export const groundText = ({ policy, directive, blocks, token, near }, several) => {
   const who = several ? `${ordinal(policy)} policy: ` : '';
   if (directive === '-') return `${who}no directive decides this`;
   if (!blocks) return `${who}${directive} allows it${token === undefined ? '' : ` by ${token}`}`;
@@ -235,11 +235,12 @@ export const tellReasons = (reasons, asked) => {
 
 /**
  * @param {ReturnType<typeof import('../index.js').report>} answer
- * @param {Asked} asked
+ * @param {Pick<Asked, 'page' | 'options'>} asked
+ * @param {string} covers
  * @returns {Told}
  */
-export const tellReports = ({ reports, counts }, asked) => {
-  const { page, options } = asked, isWhole = reports.length <= MANY || options.all;
+export const toldReports = ({ reports, counts }, { page, options }, covers) => {
+  const isWhole = reports.length <= MANY || options.all;
   /** @param {import('../index.js').Report} report */
   const cells = report => [report.disposition, report['effective-directive'], report['blocked-uri']];
   const head = ['disposition', 'directive', 'blocked'];
@@ -254,7 +255,13 @@ export const tellReports = ({ reports, counts }, asked) => {
     mood: 'yellow',
     sentence: reports.length === 0 ? 'A browser would report nothing of these requests.'
       : `A browser would send ${counted(reports.length, 'report')}: ${sums}.`,
-    warnings: [], covers: `${coverage(requestsOf(asked), asked)} Nothing was sent.`,
-    status: 0, findings: () => [],
+    warnings: [], covers: `${covers} Nothing was sent.`, status: 0, findings: () => [],
   };
 };
+
+/**
+ * @param {ReturnType<typeof import('../index.js').report>} answer
+ * @param {Asked} asked
+ */
+export const tellReports = (answer, asked) =>
+  toldReports(answer, asked, coverage(requestsOf(asked), asked));

@@ -1,5 +1,5 @@
 /** Reads the command line: the word, its members and its options. */
-import { readFileSync } from 'node:fs';
+import { existsSync, readFileSync } from 'node:fs';
 import { parseArgs } from 'node:util';
 import { Refusal } from '../refusal.js';
 import { usageOf } from './help.js';
@@ -10,12 +10,13 @@ import { ORIGINS, WORDS } from './words.js';
 /**
  * What is wanted of the answer.
  * @typedef {{ all: boolean, json: boolean, sarif: boolean, github: boolean, help: boolean,
- *   'save-proof'?: string, accepted?: string }} Options
+ *   'save-proof'?: string, accepted?: string, url?: string, events?: string[] }} Options
  */
 
 /**
- * The line, read: the word, the origins and the paths of the files by their members' names, and the options.
- * @typedef {{ word: Word, origins: Record<string, string>, paths: Record<string, string>,
+ * The line, read: the word, the origins and the paths of the files by their members' names, the files that
+ * stand for requests, and the options.
+ * @typedef {{ word: Word, origins: Record<string, string>, paths: Record<string, string>, sources: string[],
  *   options: Options }} Line
  */
 
@@ -26,6 +27,7 @@ const OPTIONS = /** @type {const} */ ({
   all: { type: 'boolean', default: false }, json: { type: 'boolean', default: false },
   sarif: { type: 'boolean', default: false }, github: { type: 'boolean', default: false },
   help: { type: 'boolean', default: false }, 'save-proof': { type: 'string' }, accepted: { type: 'string' },
+  url: { type: 'string' }, events: { type: 'string', multiple: true },
 });
 
 /**
@@ -62,32 +64,53 @@ const parsed = (word, args) => {
   }
 };
 
+/** @param {Word} word whether files of many forms stand for its requests */
+export const takesSources = word => word.members.includes('requests');
+
+/**
+ * Whether the positionals are files for requests alone, so that each page has its own origin and headers.
+ * @param {Word} word
+ * @param {string[]} positionals
+ */
+const areSources = (word, [first = '-', ...rest]) => takesSources(word)
+  && first !== 'null' && (existsSync(first) || !/^[a-z][a-z0-9+.-]*:/i.test(first) && rest.length < 2);
+
 /**
  * The members and their values: those that are named, and for the others the positionals in their order.
+ * What is left of those stands for requests or lists.
  * @param {Word} word
  * @param {Record<string, string | undefined>} given
  * @param {string[]} positionals
  */
 const placed = (word, given, positionals) => {
-  const { members } = word, left = [...positionals];
+  const { members } = word, left = [...positionals], isOpen = areSources(word, positionals);
   /** @type {[string, string][]} */
   const values = [];
   for (const name of members.filter(it => it !== 'lists')) {
-    const value = given[name] ?? left.shift();
-    if (value === undefined) throw misused(`${name.toUpperCase()} is missing`, word);
-    values.push([name, value]);
+    const isSource = name === 'requests' && given[name] === undefined && left.length > 0;
+    const value = given[name] ?? (isOpen || isSource ? undefined : left.shift());
+    if (value !== undefined) values.push([name, value]);
+    else if (!isOpen && !isSource) throw misused(`${name.toUpperCase()} is missing`, word);
   }
   if (members.includes('lists')) left.splice(0).forEach((it, n) => values.push([`list ${n + 1}`, it]));
+  const sources = takesSources(word) ? left.splice(0) : [];
   if (left.length > 0) throw misused(`one word too many: ${left[0]}`, word);
-  if (values.filter(([, it]) => it === '-').length > 1) throw misused('- stands for two files', word);
-  return values;
+  const isEmpty = sources.length === 0 && given.requests === undefined;
+  if (takesSources(word) && isEmpty) throw misused('REQUESTS is missing', word);
+  const paths = [...values.map(([, it]) => it), ...sources];
+  if (paths.filter(it => it === '-').length > 1) throw misused('- stands for two files', word);
+  return { values, sources };
 };
 
 /**
  * @param {Word} word
  * @param {Options} options
  */
-const refuseOptions = (word, { sarif, github, accepted, 'save-proof': path }) => {
+const refuseOptions = (word, { sarif, github, accepted, url, events, 'save-proof': path }) => {
+  if (url !== undefined && !takesSources(word)) throw misused('--url goes with requests', word);
+  if (events !== undefined && !['judge', 'why'].includes(word.word)) {
+    throw misused('--events goes with judge and why', word);
+  }
   if (accepted !== undefined && word.word !== 'differ') throw misused('--accepted goes with differ', word);
   if (path !== undefined && word.word !== 'compare') throw misused('--save-proof goes with compare', word);
   if ((sarif || github) && !word.finds) throw misused(`${word.word} finds nothing that has a line`, word);
@@ -100,12 +123,13 @@ const refuseOptions = (word, { sarif, github, accepted, 'save-proof': path }) =>
  */
 export const lineOf = (first, rest) => {
   const word = wordOf(first), { given, positionals, options } = parsed(word, rest);
-  if (options.help) return { word, origins: {}, paths: {}, options };
+  if (options.help) return { word, origins: {}, paths: {}, sources: [], options };
   refuseOptions(word, options);
-  const values = placed(word, given, positionals);
+  const { values, sources } = placed(word, given, positionals);
   const origins = values.filter(([name]) => ORIGINS.includes(name));
-  const paths = values.filter(([name]) => !ORIGINS.includes(name));
-  return { word, origins: Object.fromEntries(origins), paths: Object.fromEntries(paths), options };
+  const paths = Object.fromEntries(values.filter(([name]) => !ORIGINS.includes(name)));
+  const { requests, ...others } = paths, all = requests === undefined ? sources : [requests, ...sources];
+  return { word, origins: Object.fromEntries(origins), paths: others, sources: all, options };
 };
 
 const UNREAD = /** @type {Record<string, string>} */ ({
@@ -122,7 +146,9 @@ export const read = (file, path) => {
     return readFileSync(path === '-' ? 0 : path);
   } catch (error) {
     const { code = '' } = /** @type {NodeJS.ErrnoException} */ (error);
-    const hint = /^(https?:|null$)/.test(path) ? 'An origin stands here in place of a file.' : undefined;
+    const isHost = /^[\w-]+(\.[\w-]+)+(:\d+)?$/.test(path) && code === 'ENOENT';
+    const hint = /^(https?:|null$)/.test(path) ? 'An origin stands here in place of a file.'
+      : isHost ? `An origin begins with its scheme: https://${path}` : undefined;
     throw new Refusal(READ_FAULT, { file, problem: UNREAD[code] ?? `it can't be read (${code})`, hint });
   }
 };

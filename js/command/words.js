@@ -4,12 +4,15 @@ import {
   tellCheck, tellComparison, tellDifferences, tellEmbedding, tellLearnt, tellRelations, tellTidied,
 } from './compared.js';
 import { tellReasons, tellReports, tellVerdicts } from './judged.js';
+import { judgeSite, learnSite, reportSite, whySite } from './sites.js';
 
 /**
- * What was asked: the origins, of each file its name and what it holds, and what is wanted of the answer.
+ * What was asked: the origins, of each file its name and what the engine is given of it, of each header
+ * file the line of its first policy, and what is wanted of the answer.
  * @typedef {{ program: calls.Program, origin: string, embedder: string, names: Record<string, string>,
- *   contents: Record<string, Uint8Array>, text: (member: string) => string, options: { all: boolean },
- *   accepted: Map<string, string>, page: import('./page.js').Page }} Asked
+ *   contents: Record<string, string | Uint8Array>, lines: Record<string, number>,
+ *   text: (member: string) => string, options: { all: boolean }, accepted: Map<string, string>,
+ *   page: import('./page.js').Page }} Asked
  */
 
 /**
@@ -18,17 +21,20 @@ import { tellReasons, tellReports, tellVerdicts } from './judged.js';
  */
 
 /**
- * What a person is told: lines, a sentence with its colour, warnings, and what the answer covers.
- * @typedef {{ lines: string[], mood: 'red' | 'yellow' | 'green', sentence: string, warnings: string[],
- *   covers: string, status: number, findings: () => Finding[] }} Told
+ * What a person is told: what comes first, lines, a sentence with its colour, warnings, what the answer
+ * covers, what was not looked at, and what to do.
+ * @typedef {{ first?: string, lines: string[], mood: 'red' | 'yellow' | 'green', sentence: string,
+ *   warnings: string[], covers: string, unseen?: string[], steps?: string[], status: number,
+ *   findings: () => Finding[] }} Told
  */
 
 /**
- * A word: its summary, the members of its call in their order, whom it asks, how the answer is told, and
- * whether it finds something that has a file and a line.
+ * A word: its summary, the members of its call in their order, whom it asks, how the answer is told,
+ * whether it finds something that has a file and a line, and what is told of the pages of a site where
+ * files of other forms stand for requests.
  * @typedef {{ word: string, summary: string, members: string[],
  *   ask: (program: calls.Program, given: any) => any, tell: (answer: any, asked: Asked) => Told,
- *   finds?: boolean }} Word
+ *   finds?: boolean, ofSite?: import('./sites.js').OfSite }} Word
  */
 
 /** @type {Word[]} */
@@ -36,12 +42,15 @@ export const WORDS = [
   {
     word: 'judge', summary: 'which requests the headers block, and by which directive', finds: true,
     members: ['origin', 'headers', 'requests'], ask: calls.judge, tell: tellVerdicts,
+    ofSite: judgeSite,
   }, {
     word: 'why', summary: 'the same, and which word allows a request, or nearly does', finds: true,
     members: ['origin', 'headers', 'requests'], ask: calls.why, tell: tellReasons,
+    ofSite: whySite,
   }, {
     word: 'report', summary: 'what a browser would report of the requests',
     members: ['origin', 'headers', 'requests'], ask: calls.report, tell: tellReports,
+    ofSite: reportSite,
   }, {
     word: 'compare', summary: 'whether new headers are weaker than old ones; if not, a proof', finds: true,
     members: ['origin', 'new', 'old'], ask: calls.compare, tell: tellComparison,
@@ -60,6 +69,7 @@ export const WORDS = [
   }, {
     word: 'learn', summary: 'a first policy, which allows what the requests load',
     members: ['origin', 'requests'], ask: calls.learn, tell: tellLearnt,
+    ofSite: learnSite,
   }, {
     word: 'order', summary: 'which of 2 to 16 headers are weaker than which',
     members: ['origin', 'lists'], ask: calls.order, tell: tellRelations,

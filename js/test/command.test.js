@@ -46,13 +46,13 @@ Not compared: Trusted Types, upgrade-insecure-requests, report-only policies.
 
 test('a yes is never better than what was compared', () => {
   const nothing = guidecerise(['compare', ORIGIN, 'examples/nothing/new.txt', 'examples/nothing/old.txt']);
-  assert.match(nothing.stdout, /^No answer: examples\/nothing\/old.txt blocks nothing/);
+  assert.match(nothing.stdout, /^No answer: examples\/nothing\/old.txt blocks nothing/m);
   assert.equal(nothing.status, 15);
   const old = ['--old', 'examples/nothing/old.txt'], proof = file('nothing.proof', 'csp-proof 2\nend\n');
   assert.equal(guidecerise(['check', ORIGIN, 'examples/nothing/new.txt', ...old, proof]).status, 15);
   const required = file('required.txt', 'Content-Security-Policy: image-src x');
   const embedded = guidecerise(['embed', ORIGIN, ORIGIN, required, 'examples/embed/served.txt']);
-  assert.match(embedded.stdout, /^No answer: .*required\.txt blocks nothing/);
+  assert.match(embedded.stdout, /^No answer: .*required\.txt blocks nothing/m);
   const empty = guidecerise(['judge', ORIGIN, '/dev/null', 'examples/first/requests.json']);
   assert.match(empty.stdout, /\/dev\/null blocks nothing at all/);
   const none = guidecerise(['judge', ORIGIN, 'examples/first/policy.txt', file('none.json', '[]')]);
@@ -85,7 +85,8 @@ test('more rows than fit are summed up', () => {
 
 test('JSON of an answer and of a refusal', () => {
   const told = JSON.parse(guidecerise([...BLOCKED, '--json']).stdout);
-  const members = ['schema', 'word', 'given', 'status', 'sentence', 'warnings', 'covers', 'answer'];
+  const members = ['schema', 'word', 'given', 'status', 'sentence', 'warnings', 'covers', 'remarks', 'unseen',
+    'answer'];
   assert.deepEqual(Object.keys(told), members);
   assert.deepEqual([told.schema, told.word, told.status], [1, 'judge', 1]);
   const item = { policy: 0, disposition: 'enforce', effective: 'img-src', governing: 'img-src' };

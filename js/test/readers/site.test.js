@@ -47,7 +47,7 @@ test('one header stands for all pages, but not for frames', () => {
 });
 
 test('pages of HTML need an address', () => {
-  const message = 'pages of HTML need the address at which they are served: "". '
+  const message = 'index.html: pages of HTML need the address at which they are served: "". '
     + 'Give the address of the folder, as https://www.example/.';
   assert.throws(() => readSite(files, { parse }), { name: 'ReadingError', message });
 });

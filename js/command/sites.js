@@ -1,0 +1,270 @@
+/** What is said of the pages of a site, by page and in sum: judge, why, report and learn. */
+import { describe, describeText, hostOf } from '../describe.js';
+import * as calls from '../index.js';
+import { ENFORCED, WITHOUT_POLICY } from '../readers/har.js';
+import { questionsOf } from '../readers/site.js';
+import { Refusal } from '../refusal.js';
+import { askOfPage } from '../sites.js';
+import { tellLearnt } from './compared.js';
+import { BLOCKED, REPORTED, MANY, answerOf, counted, groundText, grouped, leftOut, number, ordinal, toldReports,
+} from './judged.js';
+import { plain, table, wrapped } from './page.js';
+
+/**
+ * @typedef {import('../readers/site.js').Site} Site
+ * @typedef {import('../readers/site.js').SitePage} SitePage
+ * @typedef {import('./words.js').Told} Told
+ * @typedef {import('../index.js').Verdict} Verdict
+ * @typedef {import('../index.js').Reason} Reason
+ */
+
+/**
+ * @template {Verdict} Answer
+ * @typedef {import('../sites.js').PageAnswer<Answer>} PageAnswer
+ */
+
+/**
+ * @typedef {{ program: calls.Program, site: Site, options: { all: boolean }, page: import('./page.js').Page
+ *   }} Asked
+ * @typedef {(asked: Asked) => { answer: unknown, told: Told }} OfSite
+ */
+
+const USAGE = 2;
+
+/** The exit code of a yes that would mean nothing. */
+const MEANS_NOTHING = 15;
+
+/** @param {SitePage} page */
+const nameOf = ({ url, file, role, frameOf }) => {
+  if (url === '') return file;
+  const framed = role === 'frame' ? `, framed by ${frameOf}` : role === 'worker' ? `, a worker of ${frameOf}` : '';
+  return `${url}${framed} (${file})`;
+};
+
+/**
+ * A text with how sure it is that the page does it.
+ * @param {import('../readers/html.js').Piece} piece
+ */
+const textOf = ({ request, possible }) => `${describeText(request)}${possible ? ' (if it comes to that)' : ''}`;
+
+/** @param {calls.Item} item @param {boolean} several */
+const byOf = ({ policy, governing }, several) => governing + (several ? `, ${ordinal(policy)} policy` : '');
+
+/**
+ * The rows of a page: each policy that doesn't allow a piece.
+ * @param {PageAnswer<Verdict>} answer
+ */
+const rowsOf = ({ judged }) => judged.flatMap(({ piece, answer: { items } }) =>
+  items.map(item => ({ piece, item })));
+
+/**
+ * @param {ReturnType<typeof rowsOf>} rows
+ * @param {Asked} asked
+ */
+const tableOf = (rows, { page, options }) => {
+  const several = new Set(rows.map(({ item }) => item.policy)).size > 1;
+  if (rows.length <= MANY || options.all) {
+    const cells = rows.map(({ piece, item }) => [answerOf(item), textOf(piece), byOf(item, several)]);
+    return table(['answer', 'request', 'by'], cells, page);
+  }
+  const of = (/** @type {typeof rows[0]} */ { piece: { request } }) =>
+    `${describe(request).what} ${request.kind === 'inline' ? '' : hostOf(request)}`.trim();
+  const groups = grouped(rows, it => [it.item.disposition, byOf(it.item, several), of(it)].join(' '));
+  const cells = groups.slice(0, MANY)
+    .map(({ row, count }) => [number(count), answerOf(row.item), of(row), byOf(row.item, several)]);
+  return [...table(['times', 'answer', 'requests', 'by'], cells, page), leftOut(groups.length - MANY)];
+};
+
+/** @param {PageAnswer<Verdict>} answer */
+const countsOf = ({ judged }) => ({
+  all: judged.length,
+  blocked: judged.filter(it => it.answer.blocked).length,
+  reported: judged.filter(it => !it.answer.blocked && it.answer.items.length > 0).length,
+  possible: judged.filter(it => it.answer.blocked && it.piece.possible).length,
+});
+
+/** @param {PageAnswer<Verdict>[]} answers */
+const summed = answers => answers.map(countsOf).reduce((sum, it) => ({
+  all: sum.all + it.all, blocked: sum.blocked + it.blocked, reported: sum.reported + it.reported,
+  possible: sum.possible + it.possible,
+}), { all: 0, blocked: 0, reported: 0, possible: 0 });
+
+/** @param {PageAnswer<Verdict>[]} answers */
+const sentenceOf = answers => {
+  const { all, blocked, reported, possible } = summed(answers);
+  if (all === 0) return 'Nothing that a policy decides stands in these files, so nothing was judged.';
+  const where = answers.length > 1 ? ` on ${number(answers.length)} pages, frames and workers` : '';
+  const count = blocked === 0 ? 'None' : number(blocked), is = blocked > 1 ? 'are' : 'is';
+  const sure = possible === 0 ? '' : ` ${number(possible)} of them may not come to that:`
+    + ' the page names them, and a browser may do without.';
+  const more = blocked === 0 ? `But ${number(reported)}` : counted(reported, 'other');
+  const also = reported === 0 ? '' : ` ${more} would be, if report-only policies were enforced.`;
+  return `${count} of ${counted(all, 'request')}${where} ${is} blocked.${sure}${also}`;
+};
+
+/**
+ * A line for each page with its counts.
+ * @param {PageAnswer<Verdict>[]} answers
+ * @param {Asked} asked
+ */
+const pagesTable = (answers, { page }) => {
+  if (answers.length < 2) return [];
+  const cells = answers.map(it => {
+    const { all, blocked, reported } = countsOf(it);
+    const red = blocked > 0 ? { text: number(blocked), colour: BLOCKED.colour } : '0';
+    const yellow = reported > 0 ? { text: number(reported), colour: REPORTED.colour } : '0';
+    return [red, yellow, number(all), nameOf(it.page)];
+  });
+  return [...table(['blocked', 'reported', 'of', 'page'], cells, page), ''];
+};
+
+/** @param {string} said a remark of several pages is told once */
+const asLine = said => said.charAt(0).toUpperCase() + said.slice(1);
+
+/**
+ * What was not looked at, or is known only in part: a line each, with the pages that it is said of.
+ * @param {Site} site
+ */
+const unseenOf = ({ pages, left, events }) => {
+  const said = /** @type {Map<string, Set<string>>} */ (new Map());
+  const add = (/** @type {string} */ file, /** @type {string} */ text) => said.set(text, (said.get(text) ?? new Set()).add(file));
+  for (const it of pages) {
+    const name = it.url || it.file;
+    for (const text of it.unseen) add(name, text);
+    for (const { line, said: text } of it.left) add(name, line === undefined ? text : `line ${line}: ${text}`);
+  }
+  for (const it of events) for (const text of it.unseen) add(it.file, text);
+  for (const { file, line, said: text } of left) add(file, line === undefined ? text : `line ${line}: ${text}`);
+  const isOne = pages.length + left.length < 2;
+  return [...said].map(([text, where]) => {
+    const names = where.size > 1 ? `${number(where.size)} pages` : [...where][0];
+    return isOne || where.size === pages.length ? text : `${names}: ${text}`;
+  });
+};
+
+const STEPS = [
+  'To record a page without its policy in Chromium:',
+  ...WITHOUT_POLICY.chromium.map((it, n) => `${n + 1}. ${it}`),
+  'In Firefox:', ...WITHOUT_POLICY.firefox.map((it, n) => `${n + 1}. ${it}`),
+];
+
+/**
+ * What is told of every answer about a site.
+ * @param {Site} site
+ */
+const commonOf = site => {
+  const enforced = site.pages.filter(it => it.isEnforced), origins = new Set(site.pages.map(it => it.origin));
+  return {
+    first: enforced.length > 0 ? `${asLine(ENFORCED)}. See below how to record without it.` : undefined,
+    covers: `Looked at: ${counted(site.pages.length, 'page')} of ${[...origins].join(', ')}.`,
+    unseen: unseenOf(site), steps: enforced.length > 0 ? STEPS : [],
+  };
+};
+
+/**
+ * @param {PageAnswer<Verdict>[]} answers
+ * @param {Asked} asked
+ * @param {string[]} lines
+ * @returns {Told}
+ */
+const toldOf = (answers, { site }, lines) => {
+  const { all, blocked, reported } = summed(answers), isVoid = answers.filter(it => it.isVoid);
+  const common = commonOf(site), isGood = common.first === undefined && isVoid.length === 0;
+  return {
+    ...common, lines, sentence: sentenceOf(answers),
+    mood: blocked > 0 ? 'red' : reported > 0 || all === 0 || !isGood ? 'yellow' : 'green',
+    warnings: isVoid.map(it => `${nameOf(it.page)}: no enforced policy decides anything there.`),
+    status: blocked > 0 ? 1 : common.first === undefined ? 0 : MEANS_NOTHING,
+    findings: () => answers.flatMap(it => rowsOf(it).map(({ piece, item }) => ({
+      rule: item.effective, level: item.disposition === 'enforce' ? 'error' : 'warning',
+      file: it.page.file, line: piece.line ?? 1,
+      message: `${plain(textOf(piece))} is ${answerOf(item).text} by ${item.governing}`
+        + ` of the ${ordinal(item.policy)} policy`,
+    }))),
+  };
+};
+
+/**
+ * The answer for programs.
+ * @param {PageAnswer<Verdict>[]} answers
+ */
+const plainAnswer = answers => answers.map(({ page: { file, url, origin, role = 'page', isEnforced }, judged }) => ({
+  file, url, origin, role, recordedUnderPolicy: isEnforced ?? false,
+  items: judged.map(({ piece: { request, line, column, possible = false }, answer }) =>
+    ({ ...answer, request, line, column, possible })),
+}));
+
+/** @type {OfSite} */
+export const judgeSite = asked => {
+  const answers = asked.site.pages.map(it => askOfPage(asked.program, it, calls.judge));
+  const lines = answers.flatMap(it => {
+    const rows = rowsOf(it), title = asked.page.paint(plain(nameOf(it.page)), 'bold');
+    return rows.length === 0 ? [] : [...answers.length > 1 ? [title] : [], ...tableOf(rows, asked), ''];
+  });
+  const told = toldOf(answers, asked, [...lines, ...pagesTable(answers, asked)]);
+  return { answer: plainAnswer(answers), told };
+};
+
+/**
+ * @param {import('../sites.js').Judged<Reason>} judged
+ * @param {Asked} asked
+ */
+const reasonLines = ({ piece, answer: { items, policies } }, { page }) => {
+  const said = answerOf(items[0]);
+  const [first, ...more] = wrapped(`${said.text}: ${textOf(piece)}`, page, '  ');
+  const grounds = policies.map(it => `    ${groundText(it, policies.length > 1)}`);
+  return [
+    first.replace(said.text, it => page.paint(it, said.colour)), ...more,
+    ...grounds.flatMap(it => wrapped(it, page, '      ')),
+  ];
+};
+
+/** @type {OfSite} */
+export const whySite = asked => {
+  const answers = asked.site.pages.map(it => askOfPage(asked.program, it, calls.why));
+  const lines = answers.flatMap(it => {
+    const all = it.judged.filter(of => of.answer.items.length > 0);
+    const kept = asked.options.all ? all : all.slice(0, MANY), left = all.length - kept.length;
+    const title = asked.page.paint(plain(nameOf(it.page)), 'bold');
+    return all.length === 0 ? [] : [
+      ...answers.length > 1 ? [title] : [], ...kept.flatMap(of => reasonLines(of, asked)),
+      ...left === 0 ? [] : [`And ${counted(left, 'request')} more: --all shows each.`], '',
+    ];
+  });
+  const told = toldOf(answers, asked, [...lines, ...pagesTable(answers, asked)]);
+  return { answer: plainAnswer(answers), told };
+};
+
+/** @type {OfSite} */
+export const reportSite = asked => {
+  const { program, site } = asked, reports = /** @type {calls.Report[]} */ ([]);
+  const counts = /** @type {Record<string, number>} */ ({});
+  for (const { origin, policy, pieces, text } of site.pages.flatMap(questionsOf)) {
+    const requests = text ?? JSON.stringify(pieces.map(it => it.request));
+    const one = calls.report(program, { origin, headers: policy, requests });
+    reports.push(...one.reports);
+    for (const [name, count] of Object.entries(one.counts)) counts[name] = (counts[name] ?? 0) + count;
+  }
+  const answer = { reports, counts }, common = commonOf(site);
+  return { answer, told: { ...common, ...toldReports(answer, asked, common.covers) } };
+};
+
+/** @type {OfSite} */
+export const learnSite = asked => {
+  const { program, site } = asked, pages = site.pages.filter(it => it.role === undefined || it.role === 'page');
+  const [origin, ...others] = [...new Set(pages.map(it => it.origin))];
+  if (others.length > 0) {
+    const problem = `pages of several origins, of which each has a policy of its own: ${origin}, ${others.join(', ')}`;
+    throw new Refusal(USAGE, { problem, hint: 'Give the files of one.' });
+  }
+  const requests = pages.flatMap(it => it.pieces).map(it => it.request);
+  const answer = calls.learn(program, { origin, requests: /** @type {any} */ (requests) });
+  const apart = site.pages.filter(it => !pages.includes(it));
+  const common = commonOf(site), unseen = [
+    ...apart.length > 0
+      ? [`what frames and workers load, of which there are ${apart.length}: left out, since they have policies of their own`]
+      : [], ...common.unseen,
+  ];
+  const told = tellLearnt(answer, { origin, names: { requests: 'these files' } });
+  return { answer, told: { ...common, ...told, unseen } };
+};
