@@ -8,6 +8,8 @@ import {
 } from './answers.js';
 import { refusalOf } from './refusal.js';
 
+export { audit } from './audit.js';
+export { weaker } from './weaker.js';
 export { Engine, loadEngine } from './engine.js';
 export { Refusal } from './refusal.js';
 export { CAPABILITIES, DESTINATIONS, INLINE_TYPES, KINDS } from './requests.js';
@@ -24,6 +26,9 @@ export { CAPABILITIES, DESTINATIONS, INLINE_TYPES, KINDS } from './requests.js';
 /** @typedef {import('./answers.js').Learnt} Learnt */
 /** @typedef {import('./answers.js').Relation} Relation */
 /** @typedef {import('./requests.js').Request} Request */
+/** @typedef {import('./audit.js').Audit} Audit */
+/** @typedef {import('./weaker.js').Weakening} Weakening */
+/** @typedef {import('./accepted.js').Accepted} Accepted */
 
 /**
  * Whatever answers as the program does: an `Engine`, or the program itself.
