@@ -1,0 +1,21 @@
+/** What to think of before a proposal is sent to browsers. */
+import { NONCE } from './items.js';
+
+const PAGES = 'Whatever the given pages load and run is allowed: if an attacker may have changed them, what he '
+  + 'put there is allowed too.';
+const REPORTS = 'A report may tell of an attack that the policy stopped: look at each source first.';
+const A_NONCE = `${NONCE} stands for a value that is new in each response, in the header and in the page. One `
+  + 'that stays the same protects nothing.';
+const LONG = 'The header is longer than 4,000 bytes, which some servers and proxies refuse.';
+const TRIAL = 'Send it as Content-Security-Policy-Report-Only first, and look at the reports.';
+
+/**
+ * @param {{ form: string, headers: string, items: readonly import('./items.js').Item[] }} proposed
+ */
+export const cautionsOf = ({ form, headers, items }) => [
+  ...form !== 'addition' || items.some(it => !it.isReport) ? [PAGES] : [],
+  ...items.some(it => it.isReport) ? [REPORTS] : [],
+  ...headers.includes(`'nonce-${NONCE}'`) ? [A_NONCE] : [],
+  ...headers.length > 4000 ? [LONG] : [],
+  TRIAL,
+];
