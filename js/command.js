@@ -8,6 +8,8 @@ import { runProgram } from './command/native.js';
 import { pageOf, wrapped } from './command/page.js';
 import { programOf, withProgress } from './command/program.js';
 import { annotationOf, sarifOf } from './command/sarif.js';
+import { tellSent } from './command/reported.js';
+import { requestsText, writeRequests } from './command/requests.js';
 import { isRequestFile, siteOf, sourcesOf } from './command/sources.js';
 import { ownFile } from './own.js';
 import { Refusal } from './refusal.js';
@@ -109,6 +111,9 @@ const headersOf = async ({ paths }) => {
   return files;
 };
 
+/** @returns {never} */
+const noWord = () => { throw new Error('no word of this command does that'); };
+
 /**
  * The answer about the pages that stand in files.
  * @param {Line} line
@@ -117,7 +122,7 @@ const headersOf = async ({ paths }) => {
  * @param {Environment} environment
  */
 const answeredOfSite = async ({ word, origins, options }, sources, headers, environment) => {
-  const { ofSite = () => { throw new Error(`${word.word} takes no pages`); } } = word;
+  const { ofSite = noWord } = word;
   const events = (options.events ?? []).map(path => ({ name: path, text: read('events', path).toString() }));
   const { url } = options, { origin } = origins, { headers: given } = headers;
   const site = await siteOf(sources, events, { url, origin, lines: given?.lines });
@@ -133,7 +138,13 @@ const answeredOfSite = async ({ word, origins, options }, sources, headers, envi
  * @param {Environment} environment
  */
 const answered = async (line, environment) => {
-  const { word, origins, options } = line, headers = await headersOf(line), sources = sourcesOf(line.sources);
+  const { word, origins, options } = line, headers = await headersOf(line);
+  if (word.word === 'reports') return answeredOfReports(line, headers.headers, environment);
+  const sources = sourcesOf(line.sources);
+  if (word.word === 'requests') {
+    const site = await siteOf(sources, [], { url: options.url, origin: 'null', lines: [] });
+    return { text: requestsText(site.pages.flatMap(it => it.pieces), options.ndjson), status: 0 };
+  }
   const isWhole = [...word.members].every(it => it in origins || it in headers || it === 'requests');
   const isExact = isWhole && isRequestFile(sources.files) && options.events === undefined;
   if (line.sources.length > 0 && !isExact) {
@@ -144,6 +155,19 @@ const answered = async (line, environment) => {
 };
 
 /**
+ * @param {Line} line
+ * @param {HeaderFile | undefined} headers
+ * @param {Environment} environment
+ */
+const answeredOfReports = async (line, headers, environment) => {
+  const { options, sources: paths } = line, page = pageOf(process.stdout, environment);
+  if (options.ndjson) return { text: '', status: await writeRequests(paths, process.stdout) };
+  const program = await programOf(environment.GUIDECERISE_PROGRAM);
+  const { answer, told } = await tellSent({ program, paths, headers: headers?.content, page, options });
+  return { text: printed(line, answer, told, headers?.remarks ?? [], page), status: told.status };
+};
+
+/**
  * The answer about files that the engine reads as they are.
  * @param {Line} line
  * @param {import('./command/sources.js').Source[]} sources
@@ -151,7 +175,8 @@ const answered = async (line, environment) => {
  * @param {Environment} environment
  */
 const answeredOfFiles = async (line, sources, headers, environment) => {
-  const { word, origins, options } = line, page = pageOf(process.stdout, environment);
+  const { word: { ask = noWord, tell = noWord }, origins, options } = line;
+  const page = pageOf(process.stdout, environment);
   const [requests] = sources, names = { ...line.paths, ...requests ? { requests: requests.path } : {} };
   const contentOf = (/** @type {string} */ name, /** @type {string} */ path) =>
     name === 'requests' ? requests.bytes : headers[name]?.content ?? read(name, path);
@@ -160,9 +185,9 @@ const answeredOfFiles = async (line, sources, headers, environment) => {
   const accepted = options.accepted === undefined ? new Map() : acceptedIn(options.accepted);
   const program = await programOf(environment.GUIDECERISE_PROGRAM);
   const [answer, told] = withProgress(() => {
-    const got = word.ask(program, callOf(line, contents)), { origin, embedder = '' } = origins;
+    const got = ask(program, callOf(line, contents)), { origin, embedder = '' } = origins;
     const text = (/** @type {string} */ name) => contents[name].toString();
-    return [got, word.tell(got, { program, origin, embedder, names, contents, lines, text, options, accepted, page })];
+    return [got, tell(got, { program, origin, embedder, names, contents, lines, text, options, accepted, page })];
   });
   const path = options['save-proof'], remarks = Object.values(headers).flatMap(it => it.remarks);
   if (path !== undefined && answer.proof !== undefined) save(path, answer.proof);

@@ -10,7 +10,7 @@ import { ORIGINS, WORDS } from './words.js';
 /**
  * What is wanted of the answer.
  * @typedef {{ all: boolean, json: boolean, sarif: boolean, github: boolean, help: boolean,
- *   'save-proof'?: string, accepted?: string, url?: string, events?: string[] }} Options
+ *   ndjson: boolean, 'save-proof'?: string, accepted?: string, url?: string, events?: string[] }} Options
  */
 
 /**
@@ -28,6 +28,7 @@ const OPTIONS = /** @type {const} */ ({
   sarif: { type: 'boolean', default: false }, github: { type: 'boolean', default: false },
   help: { type: 'boolean', default: false }, 'save-proof': { type: 'string' }, accepted: { type: 'string' },
   url: { type: 'string' }, events: { type: 'string', multiple: true },
+  ndjson: { type: 'boolean', default: false },
 });
 
 /**
@@ -51,7 +52,8 @@ const wordOf = text => {
  */
 const parsed = (word, args) => {
   const text = /** @type {const} */ ({ type: 'string' });
-  const members = Object.fromEntries(word.members.filter(it => it !== 'lists').map(it => [it, text]));
+  const names = [...word.members, ...word.optional ?? []].filter(it => !MANY.includes(it));
+  const members = Object.fromEntries(names.map(it => [it, text]));
   try {
     const known = { ...members, ...OPTIONS };
     const { values, positionals } = parseArgs({ args, allowPositionals: true, options: known });
@@ -64,8 +66,11 @@ const parsed = (word, args) => {
   }
 };
 
+// The members that are many files
+const MANY = ['lists', 'reports'];
+
 /** @param {Word} word whether files of many forms stand for its requests */
-export const takesSources = word => word.members.includes('requests');
+const takesSources = word => word.members.includes('requests');
 
 /**
  * Whether the positionals are files for requests alone, so that each page has its own origin and headers.
@@ -73,7 +78,7 @@ export const takesSources = word => word.members.includes('requests');
  * @param {string[]} positionals
  */
 const areSources = (word, [first = '-', ...rest]) => takesSources(word)
-  && first !== 'null' && (existsSync(first) || !/^[a-z][a-z0-9+.-]*:/i.test(first) && rest.length < 2);
+  && (word.members[0] === 'requests' || first !== 'null' && (existsSync(first) || !/^[a-z][a-z0-9+.-]*:/i.test(first) && rest.length < 2));
 
 /**
  * The members and their values: those that are named, and for the others the positionals in their order.
@@ -86,17 +91,18 @@ const placed = (word, given, positionals) => {
   const { members } = word, left = [...positionals], isOpen = areSources(word, positionals);
   /** @type {[string, string][]} */
   const values = [];
-  for (const name of members.filter(it => it !== 'lists')) {
+  for (const name of members.filter(it => !MANY.includes(it))) {
     const isSource = name === 'requests' && given[name] === undefined && left.length > 0;
     const value = given[name] ?? (isOpen || isSource ? undefined : left.shift());
     if (value !== undefined) values.push([name, value]);
     else if (!isOpen && !isSource) throw misused(`${name.toUpperCase()} is missing`, word);
   }
   if (members.includes('lists')) left.splice(0).forEach((it, n) => values.push([`list ${n + 1}`, it]));
-  const sources = takesSources(word) ? left.splice(0) : [];
+  for (const name of word.optional ?? []) if (given[name] !== undefined) values.push([name, given[name]]);
+  const isMany = takesSources(word) || members.includes('reports'), sources = isMany ? left.splice(0) : [];
   if (left.length > 0) throw misused(`one word too many: ${left[0]}`, word);
   const isEmpty = sources.length === 0 && given.requests === undefined;
-  if (takesSources(word) && isEmpty) throw misused('REQUESTS is missing', word);
+  if (isMany && isEmpty) throw misused(`${members[members.length - 1].toUpperCase()} is missing`, word);
   const paths = [...values.map(([, it]) => it), ...sources];
   if (paths.filter(it => it === '-').length > 1) throw misused('- stands for two files', word);
   return { values, sources };
@@ -106,7 +112,10 @@ const placed = (word, given, positionals) => {
  * @param {Word} word
  * @param {Options} options
  */
-const refuseOptions = (word, { sarif, github, accepted, url, events, 'save-proof': path }) => {
+const refuseOptions = (word, { sarif, github, accepted, url, events, ndjson, 'save-proof': path }) => {
+  if (ndjson && !['requests', 'reports'].includes(word.word)) {
+    throw misused('--ndjson goes with requests and reports', word);
+  }
   if (url !== undefined && !takesSources(word)) throw misused('--url goes with requests', word);
   if (events !== undefined && !['judge', 'why'].includes(word.word)) {
     throw misused('--events goes with judge and why', word);

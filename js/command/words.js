@@ -29,11 +29,11 @@ import { judgeSite, learnSite, reportSite, whySite } from './sites.js';
  */
 
 /**
- * A word: its summary, the members of its call in their order, whom it asks, how the answer is told,
- * whether it finds something that has a file and a line, and what is told of the pages of a site where
- * files of other forms stand for requests.
- * @typedef {{ word: string, summary: string, members: string[],
- *   ask: (program: calls.Program, given: any) => any, tell: (answer: any, asked: Asked) => Told,
+ * A word: its summary, the members of its call in their order, those that may be left out, whom it asks,
+ * how the answer is told, whether it finds something that has a file and a line, and what is told of the
+ * pages of a site where files of other forms stand for requests.
+ * @typedef {{ word: string, summary: string, members: string[], optional?: string[],
+ *   ask?: (program: calls.Program, given: any) => any, tell?: (answer: any, asked: Asked) => Told,
  *   finds?: boolean, ofSite?: import('./sites.js').OfSite }} Word
  */
 
@@ -51,6 +51,12 @@ export const WORDS = [
     word: 'report', summary: 'what a browser would report of the requests',
     members: ['origin', 'headers', 'requests'], ask: calls.report, tell: tellReports,
     ofSite: reportSite,
+  }, {
+    word: 'reports', summary: 'what browsers sent as violation reports, counted', members: ['reports'],
+    optional: ['headers'],
+  }, {
+    word: 'requests', summary: 'the requests that stand in recordings and pages, as JSON',
+    members: ['requests'],
   }, {
     word: 'compare', summary: 'whether new headers are weaker than old ones; if not, a proof', finds: true,
     members: ['origin', 'new', 'old'], ask: calls.compare, tell: tellComparison,
@@ -83,8 +89,9 @@ export const ORIGINS = ['origin', 'embedder'];
 export const MEMBERS = /** @type {Record<string, string>} */ ({
   origin: 'the origin of the page, as https://www.example, or null',
   embedder: 'the origin of the page that frames the response',
-  headers: 'the header lines, as curl -s -D - -o /dev/null URL prints them',
-  requests: 'a JSON array of what the page loads, runs and does',
+  headers: 'the headers: what curl -i prints, a value, or a line of a configuration',
+  requests: 'HARs, HTML, folders, or a JSON array of what the page loads and runs',
+  reports: 'logs of report bodies, as JSON in any form, or gzip; - is standard input',
   new: 'the new header lines',
   old: 'the old header lines',
   proof: 'a proof, as compare --save-proof writes it',
