@@ -5,6 +5,8 @@ import { ENFORCED, WITHOUT_POLICY } from '../readers/har.js';
 import { questionsOf } from '../readers/site.js';
 import { Refusal } from '../refusal.js';
 import { askOfPage } from '../sites.js';
+import { besideBrowser } from '../beside.js';
+import { keyOf } from '../readers/hops.js';
 import { tellLearnt } from './compared.js';
 import { BLOCKED, REPORTED, MANY, answerOf, counted, groundText, grouped, leftOut, number, ordinal, toldReports,
 } from './judged.js';
@@ -185,14 +187,51 @@ const toldOf = (answers, { site }, lines) => {
 };
 
 /**
+ * What browsers say themselves, beside the answers, and which pages they say something of.
+ * @param {PageAnswer<Verdict>[]} answers
+ * @param {Site} site
+ */
+const browserOf = (answers, { events }) => {
+  const rows = events.flatMap(it => it.rows), beside = besideBrowser(answers, rows);
+  return { beside, said: new Set(beside.filter(it => it.isSame).map(it => it.piece)), isAny: events.length > 0 };
+};
+
+/**
+ * The rows where a browser and the engine differ.
+ * @param {PageAnswer<Verdict>[]} answers
+ * @param {Asked} asked
+ */
+const differences = (answers, { site, page }) => {
+  const { beside, said, isAny } = browserOf(answers, site);
+  if (!isAny) return { lines: [], warnings: [] };
+  const more = beside.filter(it => !it.isSame).map(({ violation: { directive, blocked, line, sample }, piece }) =>
+    [piece === undefined ? 'not read' : 'allowed', 'blocked', directive,
+      [blocked, line === undefined ? '' : `line ${line}`, sample].filter(it => it !== '').join(' ')]);
+  const pages = new Set(beside.map(it => keyOf(it.violation.page)));
+  const less = answers.filter(it => pages.has(keyOf(it.page.url)) || pages.has('')).flatMap(it => it.judged)
+    .filter(({ piece, answer }) => answer.items.length > 0 && !said.has(piece))
+    .map(({ piece, answer: { items } }) => [answerOf(items[0]).text, 'says nothing', items[0].effective, textOf(piece)]);
+  const rows = [...more, ...less], sum = counted(beside.length, 'violation');
+  return {
+    lines: rows.length === 0 ? []
+      : [...table(['engine', 'browser', 'directive', 'where they differ'], rows, page), ''],
+    warnings: [`The browser tells ${sum}; ${number(beside.length - more.length)} of them stand above too.`],
+  };
+};
+
+/**
  * The answer for programs.
  * @param {PageAnswer<Verdict>[]} answers
+ * @param {Set<import('../readers/html.js').Piece | undefined>} [said] what a browser says is blocked
  */
-const plainAnswer = answers => answers.map(({ page: { file, url, origin, role = 'page', isEnforced }, judged }) => ({
-  file, url, origin, role, recordedUnderPolicy: isEnforced ?? false,
-  items: judged.map(({ piece: { request, line, column, possible = false }, answer }) =>
-    ({ ...answer, request, line, column, possible })),
-}));
+const plainAnswer = (answers, said) => answers.map(({ page, judged }) => {
+  const { file, url, origin, role = 'page', isEnforced: recordedUnderPolicy = false } = page;
+  const items = judged.map(({ piece, answer }) => {
+    const { request, line, column, possible = false } = piece;
+    return { ...answer, request, line, column, possible, ...said ? { browser: said.has(piece) } : {} };
+  });
+  return { file, url, origin, role, recordedUnderPolicy, items };
+});
 
 /** @type {OfSite} */
 export const judgeSite = asked => {
@@ -201,8 +240,30 @@ export const judgeSite = asked => {
     const rows = rowsOf(it), title = asked.page.paint(plain(nameOf(it.page)), 'bold');
     return rows.length === 0 ? [] : [...answers.length > 1 ? [title] : [], ...tableOf(rows, asked), ''];
   });
-  const told = toldOf(answers, asked, [...lines, ...pagesTable(answers, asked)]);
-  return { answer: plainAnswer(answers), told };
+  return answeredBeside(answers, asked, lines);
+};
+
+/**
+ * The answer with what browsers say beside it.
+ * @param {PageAnswer<Verdict>[]} answers
+ * @param {Asked} asked
+ * @param {string[]} lines
+ */
+const answeredBeside = (answers, asked, lines) => {
+  const differ = differences(answers, asked), { beside, said } = browserOf(answers, asked.site);
+  const told = toldOf(answers, asked, [...lines, ...differ.lines, ...pagesTable(answers, asked)]);
+  const browser = beside.filter(it => !it.isSame).map(({ violation, piece }) =>
+    ({ ...violation, request: piece?.request ?? null }));
+  const pages = plainAnswer(answers, asked.site.events.length > 0 ? said : undefined);
+  const isAlone = browser.some(it => it.disposition !== 'report');
+  return {
+    answer: { pages, browserAlone: browser },
+    told: {
+      ...told, warnings: [...differ.warnings, ...told.warnings],
+      mood: isAlone ? 'red' : browser.length > 0 && told.mood === 'green' ? 'yellow' : told.mood,
+      status: isAlone ? 1 : told.status,
+    },
+  };
 };
 
 /**
@@ -231,8 +292,7 @@ export const whySite = asked => {
       ...left === 0 ? [] : [`And ${counted(left, 'request')} more: --all shows each.`], '',
     ];
   });
-  const told = toldOf(answers, asked, [...lines, ...pagesTable(answers, asked)]);
-  return { answer: plainAnswer(answers), told };
+  return answeredBeside(answers, asked, lines);
 };
 
 /** @type {OfSite} */
