@@ -4,7 +4,7 @@
     tools/judge_dask.py SCHEDULER ORIGIN POLICY FILE..
 
 SCHEDULER is the scheduler's address, as tcp://127.0.0.1:8786. Each FILE has a description a line, as
-`jq -c '.[]' requests.json` prints those of a request file. The workers read POLICY and the files, and run
+`guidecerise requests --ndjson` prints them. The workers read POLICY and the files, and run
 the program, so all of them have to stand under the same names on all machines. The program is $CSP, or
 `csp` on the path of this command, or the repository's ./csp.
 

@@ -1,4 +1,4 @@
-"""Verdicts beside their requests, streams of descriptions, and the folders examples/har and examples/ci."""
+"""Streams of requests, and the folders examples/har and examples/ci."""
 
 import json
 import os
@@ -7,74 +7,7 @@ import subprocess
 import tempfile
 from pathlib import Path
 
-from .hars import har
-from .trial import ENVIRONMENT, ORIGIN, PROGRAM, TOOLS, TOP, fetch, judge, point, run
-
-IMAGES = (
-    "Content-Security-Policy: img-src https://a.example\n"
-    "Content-Security-Policy-Report-Only: img-src 'none'\n"
-)
-
-
-JUDGED = [
-    fetch("image", "https://u@b.example:8443/x.png?q", note="the logo"),
-    fetch("image", "https://a.example/1", "https://b.example:8443/2"),
-    fetch("image", {"scheme": "https", "host": "b.example", "path": "/"}),
-    {"kind": "inline", "type": "script", "source": "x()"},
-    fetch("image", "https://a.example/y.png"),
-    fetch("image", {"scheme": "data"}),
-    {"kind": "ancestors", "ancestors": ["https://p.example", "null"]},
-]
-READABLE = """\
-1 blocked 0:enforce:img-src/img-src 1:report:img-src/img-src  the logo
-2 blocked 1:report:img-src/img-src 0:enforce:img-src/img-src 1:report:img-src/img-src  @
-3 blocked 0:enforce:img-src/img-src 1:report:img-src/img-src  https://b.example
-4 allowed  script
-5 allowed 1:report:img-src/img-src  https://a.example/y.png
-6 blocked 0:enforce:img-src/img-src 1:report:img-src/img-src  data:
-7 allowed  https://p.example -> null
-
-   times  disposition  policy  directive                        host
-       1  enforce           0  img-src/img-src                  a.example->b.example:8443
-       1  enforce           0  img-src/img-src                  b.example
-       1  enforce           0  img-src/img-src                  b.example:8443
-       1  enforce           0  img-src/img-src                  data:
-       2  report            1  img-src/img-src                  a.example->b.example:8443
-       1  report            1  img-src/img-src                  a.example
-       1  report            1  img-src/img-src                  b.example
-       1  report            1  img-src/img-src                  b.example:8443
-       1  report            1  img-src/img-src                  data:
-""".replace(
-    "@", "https://a.example/1 -> https://b.example:8443/2"
-)
-
-
-def verdicts_are_readable():
-    """Lines of `judge` for a request file, for a stream, and for another file."""
-    lines = [line + "\n" for line in judge(json.dumps(JUDGED), IMAGES)[1]]
-    with tempfile.TemporaryDirectory() as folder:
-        file, stream = Path(folder) / "requests.json", Path(folder) / "stream"
-        file.write_text(json.dumps(JUDGED))
-        stream.write_text("".join(json.dumps(request) + "\n" for request in JUDGED[3:5]))
-
-        def verdicts(requests, given):
-            return run(str(TOOLS / "verdicts"), str(requests), given=given)
-
-        point(
-            "verdicts beside requests, and items counted", (1, READABLE, ""), verdicts(file, "".join(lines))
-        )
-        for name, other in (("fewer", lines[:-1]), ("more", [*lines, "8 allowed\n"])):
-            status, _, said = verdicts(file, "".join(other))
-            refused = (2, "verdicts: not as many verdicts as descriptions\n")
-            point(f"{name} verdicts than requests", refused, (status, said))
-        refused = (2, "", "verdicts: this is no verdict: bad origin\n")
-        point("what isn't a verdict", refused, verdicts(file, "bad origin\n"))
-        text = "1 allowed  script\n2 allowed  https://a.example/y.png\n"
-        point(
-            "a stream of which none is blocked", (0, text, ""), verdicts(stream, "1 allowed\n2 allowed\n")
-        )
-        point("a file that isn't there", 2, verdicts(Path(folder) / "none", "")[0])
-
+from .trial import ENVIRONMENT, ORIGIN, PROGRAM, TOOLS, TOP, fetch, guidecerise, point, run
 
 IMAGE = '{"kind":"fetch","destination":"image","url":"https://%s.example/"}'
 
@@ -155,8 +88,7 @@ SHOP_VERDICTS = {
 
 
 def the_example_is_so():
-    text = (SHOP / "page.har").read_text()
-    _, requests, said = har(text)
+    _, requests, _ = guidecerise("requests", str(SHOP / "page.har"))
     expected = []
     for line in SHOP_REQUESTS.split("\n")[1:-1]:
         destination, *urls = line.removesuffix(" parser").split()
@@ -166,31 +98,13 @@ def the_example_is_so():
     bare = [{name: value for name, value in one.items() if name != "note"} for one in json.loads(requests)]
     point("examples/har: the requests", expected, bare)
     point("examples/har: requests.json", (SHOP / "requests.json").read_text(), requests)
-    point(
-        "examples/har: what is said",
-        [
-            "left out, since a request file has no destination json: https://shop.example/strings/en.json",
-            "left out, since prefetches aren't judged: https://shop.example/checkout",
-            "taken for image, with no Sec-Fetch-Dest: https://shop.example/favicon.ico",
-            "left out, since nothing tells what it was for: https://shop.example/track?id=7",
-            "frames, whose own requests are in the HAR too and are judged as the page's: 2",
-        ],
-        said,
-    )
-    point(
-        "examples/har: policy.txt",
-        (SHOP / "policy.txt").read_text(),
-        har(text, "--arg", "part", "policy")[1],
-    )
-    judged = run(
-        PROGRAM, "judge", "https://shop.example", str(SHOP / "policy.txt"), str(SHOP / "requests.json")
-    )
+    judged = run(PROGRAM, "judge", "https://shop.example", str(SHOP / "policy.txt"), str(SHOP / "requests.json"))
     expected = [SHOP_VERDICTS.get(at, f"{at} allowed") for at in range(1, 24)]
-    point(
-        "examples/har: the verdicts of the present header",
-        (1, expected),
-        (judged[0], judged[1].splitlines()),
-    )
+    point("examples/har: the verdicts of the present header", (1, expected), (judged[0], judged[1].splitlines()))
+    status, output, _ = guidecerise("judge", str(SHOP / "page.har"), "--json")
+    items = json.loads(output)["answer"]["pages"][0]["items"]
+    point("examples/har: the same of the HAR itself", (1, [10, 14, 22]),
+          (status, [one["number"] for one in items if one["blocked"]]))
 
 
 STEP = str(TOP / "examples/ci/stricter")
@@ -237,5 +151,5 @@ def steps_of_a_build_server():
         point("no proof without a yes", False, proof.exists())
 
 
-POINTS = [verdicts_are_readable, streams_are_judged]
+POINTS = [streams_are_judged]
 EXAMPLES = [the_example_is_so, steps_of_a_build_server]

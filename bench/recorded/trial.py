@@ -1,16 +1,15 @@
 """What the points stand on: running commands, the program's answers, and the lines that are printed."""
 
-import json
 import os
 import shutil
 import subprocess
-import tempfile
 from pathlib import Path
 
 TOP = Path(__file__).resolve().parents[2]
 TOOLS = TOP / "tools"
 PROGRAM = os.environ.get("CSP") or shutil.which("csp") or subprocess.run(
     [TOP / "csp", "--program"], stdout=subprocess.PIPE, text=True).stdout.strip()
+GUIDECERISE = ["node", "--import", str(TOP / "js/test/debian.js"), str(TOP / "js/bin/guidecerise.js")]
 ORIGIN = "https://a.example"
 ENVIRONMENT = {**os.environ, "CSP": PROGRAM}
 counts = {"passed": 0, "failed": 0}
@@ -32,19 +31,9 @@ def run(*words, given=""):
     return done.returncode, done.stdout, done.stderr
 
 
-def judge(requests, policy="Content-Security-Policy: default-src 'none'\n", origin=ORIGIN):
-    """The status and the lines of the program for the text of a request file and that of a policy file."""
-    with tempfile.NamedTemporaryFile("w", suffix=".txt") as file:
-        file.write(policy)
-        file.flush()
-        status, lines, _ = run(PROGRAM, "judge", origin, file.name, "/dev/stdin", given=requests)
-    return status, lines.splitlines()
-
-
-def is_read(name, requests):
-    """A point: the program reads this request file, and answers a line for each of its descriptions."""
-    status, lines = judge(requests)
-    point(f"{name}, read by the program", (True, len(json.loads(requests))), (status in (0, 1), len(lines)))
+def guidecerise(*words, given=""):
+    """The same of the command in js/, with Debian's parse5 where none is installed."""
+    return run(*GUIDECERISE, *words, given=given)
 
 
 def fetch(destination, *urls, **members):

@@ -1,7 +1,9 @@
 /** The header files of a call, in whatever form people have them, as header lines for the engine. */
 import { ReadingError } from '../readers/error.js';
+import { readHar } from '../readers/har.js';
 import { readHeaders } from '../readers/headers.js';
 import { marksOf, policiesOf } from '../readers/marks.js';
+import { kindOf } from '../readers/site.js';
 import { Refusal } from '../refusal.js';
 import { htmlParser } from './parser.js';
 
@@ -62,6 +64,23 @@ export const marksIn = (lines, path) => {
 };
 
 /**
+ * The headers of the pages in a recording, which have to be the same on all of them.
+ * @param {string} text
+ * @returns {Promise<import('../readers/headers.js').Headers>}
+ */
+const ofRecording = async text => {
+  const pages = readHar(text, { parse: await htmlParser() }).pages.filter(it => it.role === 'page');
+  const [first, ...others] = pages.map(({ url, lines, meta }) => ({ url, lines: [...lines, ...meta] }));
+  const other = others.find(it => it.lines.join('\n') !== first.lines.join('\n'));
+  if (other !== undefined) {
+    const write = `Give the headers of one page: they differ on ${first.url} and ${other.url}`;
+    throw new ReadingError({ said: 'the pages of this recording have different headers', write });
+  }
+  const said = `read as the headers of ${first.url} in a recording`;
+  return { lines: first.lines, taken: [{ line: 1, said }], left: [] };
+};
+
+/**
  * @param {string} member
  * @param {string} path
  * @param {Uint8Array} bytes
@@ -71,8 +90,9 @@ export const readHeaderFile = async (member, path, bytes) => {
   const text = new TextDecoder().decode(bytes), plain = isPlain(text);
   if (text.trim() === '') return { content: bytes, lines: [], line: 1, remarks: [] };
   try {
-    const parse = /<[a-z!]/i.test(text) ? await htmlParser() : undefined;
-    const { lines, taken, left } = readHeaders(text, { parse });
+    const isHar = kindOf({ name: path, text }) === 'har';
+    const parse = !isHar && /<[a-z!]/i.test(text) ? await htmlParser() : undefined;
+    const { lines, taken, left } = isHar ? await ofRecording(text) : readHeaders(text, { parse });
     const isExact = plain && normal(text.split('\n')) === normal(lines);
     const isRefused = !plain && lines.length === 0 && left.length > 1;
     const remarks = [

@@ -1,6 +1,8 @@
 /** The texts of --help, which fit a terminal of 80 columns. */
 import { MEMBERS, WORDS } from './words.js';
 
+const takesRequests = (/** @type {import('./words.js').Word} */ it) => it.members.includes('requests');
+
 /**
  * The options, each with the words that take it, or none where all do.
  * @type {[option: string, summary: string, takes?: (word: import('./words.js').Word) => boolean][]}
@@ -10,6 +12,13 @@ const OPTIONS = [
   ['--json', 'JSON in place of a text for people'],
   ['--sarif', 'SARIF, for servers that show findings beside the code', it => it.finds === true],
   ['--github', 'an annotation of GitHub for each finding', it => it.finds === true],
+  ['--headers FILE', 'one header for all pages, in place of each one\'s own',
+    it => it.ofSite !== undefined && it.members.includes('headers')],
+  ['--url URL', 'the address of the HTML file, or of the folder of HTML', takesRequests],
+  ['--events FILE', 'what the browser said: its console, or copied events',
+    it => it.word === 'judge' || it.word === 'why'],
+  ['--headers FILE', 'which of the reports these headers would still cause', it => it.word === 'reports'],
+  ['--ndjson', 'a request a line', it => it.word === 'requests' || it.word === 'reports'],
   ['--save-proof FILE', 'where the proof is kept', it => it.word === 'compare'],
   ['--accepted FILE', 'directives that may become weaker, each with its reason', it => it.word === 'differ'],
 ];
@@ -25,13 +34,18 @@ const CODES = `Exit codes:
   3   the origin is wrong               9   the output can't be written
   4   a header file is wrong            10  there is no memory
   5   a file is too large               13  not one required policy
-  6   the request file is wrong         15  the old headers block nothing,
-  7   the proof is no proof                 so a yes would mean nothing
-                                        70  the command itself failed
+  6   the request file is wrong         15  a yes would mean nothing: the old
+  7   the proof is no proof                 headers block nothing, or a policy
+                                            was enforced during the recording
+  70  the command itself failed         16  not all was read as reports
 `;
 
 /** @param {import('./words.js').Word} word */
-export const usageOf = ({ word, members }) => `guidecerise ${word} ${members.join(' ').toUpperCase()}`;
+export const usageOf = ({ word, members, ofSite }) => {
+  const usage = `guidecerise ${word} ${members.join(' ').toUpperCase()}`;
+  const more = members.includes('headers') ? ' [--headers FILE]' : '';
+  return ofSite === undefined ? usage : `${usage}\n  or:  guidecerise ${word} REQUESTS..${more}`;
+};
 
 /** @param {import('./words.js').Word} word */
 export const helpOf = word => `${usageOf(word)}
@@ -40,7 +54,7 @@ Tells ${word.summary}.
 
 ${word.members.map(it => `  ${it.toUpperCase().padEnd(9)} ${MEMBERS[it]}`).join('\n')}
 
-${word.members.includes('lists') ? '' : `Each may be given by its name too, as --origin, in any order.
+${word.members.some(it => ['lists', 'reports'].includes(it)) ? '' : `Each may be given by its name too, as --origin, in any order.
 `}A file - is standard input.
 
 ${listed(OPTIONS.filter(([, , takes]) => takes === undefined || takes(word)))}

@@ -22,7 +22,7 @@ import { plain, table, wrapped } from './page.js';
 export const MANY = 20;
 
 /** @param {number} count */
-export const number = count => count.toLocaleString('en');
+export const number = count => String(count).replace(/\B(?=(\d{3})+$)/g, ',');
 
 /**
  * A count and its noun, as `1 request` and `2 requests`.

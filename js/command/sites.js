@@ -170,7 +170,8 @@ const commonOf = site => {
  * @returns {Told}
  */
 const toldOf = (answers, { site }, lines) => {
-  const { all, blocked, reported } = summed(answers), isVoid = answers.filter(it => it.isVoid);
+  const { all, blocked, reported } = summed(answers);
+  const isVoid = answers.filter(it => it.isVoid && it.judged.length > 0);
   const common = commonOf(site), isGood = common.first === undefined && isVoid.length === 0;
   return {
     ...common, lines, sentence: sentenceOf(answers),
@@ -325,6 +326,7 @@ export const learnSite = asked => {
       ? [`what frames and workers load, of which there are ${apart.length}: left out, since they have policies of their own`]
       : [], ...common.unseen,
   ];
-  const told = tellLearnt(answer, { origin, names: { requests: 'these files' } });
-  return { answer, told: { ...common, ...told, unseen } };
+  const told = tellLearnt(answer, { origin, names: {} });
+  const sentence = 'This policy allows the loads that stand in these files, and no others.';
+  return { answer, told: { ...common, ...told, sentence, unseen } };
 };
