@@ -10,8 +10,9 @@ const OPTIONS = [
   ['--json', 'JSON in place of a text for people'],
   ['--sarif', 'SARIF, for servers that show findings beside the code', it => it.finds === true],
   ['--github', 'an annotation of GitHub for each finding', it => it.finds === true],
-  ['--save-proof FILE', 'where the proof is kept', it => it.word === 'compare'],
-  ['--accepted FILE', 'directives that may become weaker, each with its reason', it => it.word === 'differ'],
+  ['--save-proof FILE', 'where the proof is kept', it => it.proofs !== undefined],
+  ['--accepted FILE', 'what may be new, each with its reason', it => it.word === 'weaker'],
+  ['--folder FOLDER', 'all pairs new.txt and old.txt below a folder', it => it.word === 'weaker'],
 ];
 
 /** @param {typeof OPTIONS} options */
@@ -19,14 +20,16 @@ const listed = options =>
   options.map(([option, summary]) => `  ${option.padEnd(17)}  ${summary}\n`).join('');
 
 const CODES = `Exit codes:
-  0   nothing is blocked, not weaker, accepted, or it may be shown
-  1   something is blocked, weaker, rejected, or it may not be shown
+  0   nothing is blocked, not weaker, accepted, it may be shown, or markup
+      runs no code by itself
+  1   something is blocked, weaker, rejected, it may not be shown, or markup
+      could run code
   2   the command line is wrong         8   a file can't be read
   3   the origin is wrong               9   the output can't be written
   4   a header file is wrong            10  there is no memory
   5   a file is too large               13  not one required policy
-  6   the request file is wrong         15  the old headers block nothing,
-  7   the proof is no proof                 so a yes would mean nothing
+  6   the request file is wrong         15  the headers block nothing, so a
+  7   the proof is no proof                 yes would mean nothing
                                         70  the command itself failed
 `;
 
