@@ -92,6 +92,8 @@ const placed = (word, given, positionals) => {
   const { members } = word, left = [...positionals], isOpen = areSources(word, positionals);
   /** @type {[string, string][]} */
   const values = [];
+  const isTwice = given.folder !== undefined && (given.new ?? given.old) !== undefined;
+  if (isTwice) throw misused('--folder stands in place of --new and --old', word);
   const files = given.folder === undefined ? members : members.filter(it => ORIGINS.includes(it));
   for (const name of files.filter(it => !MANY.includes(it))) {
     const isSource = name === 'requests' && given[name] === undefined && left.length > 0;

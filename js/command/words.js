@@ -63,7 +63,7 @@ export const WORDS = [
     word: 'audit', summary: 'what an attacker could do who writes markup into the page', finds: true,
     members: ['origin', 'headers'], ask: calls.audit, tell: tellAudit,
   }, {
-    word: 'weaker', summary: 'whether new headers are weaker than old ones, and what no proof covers',
+    word: 'weaker', summary: 'whether new headers are weaker, with what no proof covers',
     finds: true, members: ['origin', 'new', 'old'], ask: calls.weaker, tell: tellWeakening, proofs: proofsOf,
   }, {
     word: 'compare', summary: 'whether new headers are weaker than old ones; if not, a proof', finds: true,
