@@ -23,10 +23,12 @@ import { questionsOf } from './questions.js';
  */
 
 /**
- * Something that is tried. `sentence` is the answer, `request` the one that decided, `policies` what each
- * policy says of it, `runs` whether it would run what the attacker wrote, `with` what it takes besides markup.
- * @typedef {{ id: string, group: import('./questions.js').Group, question: string, can: Can, sentence: string,
- *   request: Request, policies: Ground[], stops: Stop[], runs: boolean, with?: string }} Row
+ * Something that is tried: an `action`, `from` or to some place. `sentence` is the answer and `because` its
+ * ground, `request` the one that decided, `policies` what each policy says of it, `runs` whether it would run
+ * what the attacker wrote, `with` what it takes besides markup.
+ * @typedef {{ id: string, group: import('./questions.js').Group, action: string, from?: string,
+ *   question: string, can: Can, sentence: string, because: string, request: Request, policies: Ground[],
+ *   stops: Stop[], runs: boolean, with?: string }} Row
  */
 
 /**
@@ -242,12 +244,14 @@ class Stopping {
  * @returns {Row}
  */
 const rowOf = (asked, policies, question, withStops) => {
-  const { id, group, subject, ability, runs } = question;
+  const { id, group, subject, action, from, runs } = question, what = from === undefined ? action : `${action} ${from}`;
   const { can, request, reason } = asked.about(headersOf(policies), question);
-  const said = `${upper(subject)} ${can === 'no' ? "couldn't" : 'could'} ${ability}`;
+  const said = `${upper(subject)} ${can === 'no' ? "couldn't" : 'could'} ${what}`;
+  const because = becauseOf(reason, policies);
   return {
-    id, group, question: `Could ${subject} ${ability}?`, can, sentence: `${said}: ${becauseOf(reason, policies)}.`,
-    request, policies: reason.policies, runs, ...question.with === undefined ? {} : { with: question.with },
+    id, group, action, ...from && { from }, question: `Could ${subject} ${what}?`, can,
+    sentence: `${said}: ${because}.`, because, request, policies: reason.policies, runs,
+    ...question.with && { with: question.with },
     stops: withStops && can !== 'no' ? new Stopping(asked, policies, question).all() : [],
   };
 };

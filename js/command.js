@@ -1,6 +1,8 @@
 /** The command `guidecerise`: asks what the command line says, and prints the answer. */
 import { readFileSync, writeFileSync } from 'node:fs';
+import { dirname, join } from 'node:path';
 import { acceptedIn } from './command/accepted.js';
+import { answersIn } from './command/folder.js';
 import { isHeaders, marksIn, readHeaderFile } from './command/headers.js';
 import { help, helpOf } from './command/help.js';
 import { lineOf, read } from './command/line.js';
@@ -11,6 +13,7 @@ import { annotationOf, sarifOf } from './command/sarif.js';
 import { tellSent } from './command/reported.js';
 import { requestsText, writeRequests } from './command/requests.js';
 import { isRequestFile, siteOf, sourcesOf } from './command/sources.js';
+import { tellPairs } from './command/weakened.js';
 import { ownFile } from './own.js';
 import { Refusal } from './refusal.js';
 
@@ -88,7 +91,7 @@ const listed = (head, rows, page) =>
 
 /**
  * @param {string} path
- * @param {string} proof
+ * @param {string | Uint8Array} proof
  */
 const save = (path, proof) => {
   try {
@@ -138,6 +141,7 @@ const answeredOfSite = async ({ word, origins, options }, sources, headers, envi
  * @param {Environment} environment
  */
 const answered = async (line, environment) => {
+  if (line.options.folder !== undefined) return answeredOfFolder(line, line.options.folder, environment);
   const { word, origins, options } = line, headers = await headersOf(line);
   if (word.word === 'reports') return answeredOfReports(line, headers.headers, environment);
   const sources = sourcesOf(line.sources);
@@ -168,6 +172,26 @@ const answeredOfReports = async (line, headers, environment) => {
 };
 
 /**
+ * The answer about all pairs of a folder. A proof is kept beside each.
+ * @param {Line} line
+ * @param {string} folder
+ * @param {Environment} environment
+ */
+const answeredOfFolder = async (line, folder, environment) => {
+  const { origins: { origin }, options } = line, page = pageOf(process.stdout, environment);
+  const accepted = options.accepted === undefined ? [] : acceptedIn(options.accepted);
+  const program = await programOf(environment.GUIDECERISE_PROGRAM);
+  const pairs = await answersIn(program, folder, { origin, accepted }), told = tellPairs(pairs, page);
+  const name = options['save-proof'];
+  for (const it of pairs) {
+    const proofs = name === undefined || !('answer' in it) ? [] : line.word.proofs?.(it.answer, name) ?? [];
+    for (const [file, content] of proofs) save(join(dirname(it.new), file), content);
+  }
+  const remarks = pairs.flatMap(it => it.remarks);
+  return { text: printed(line, pairs, told, remarks, page), status: told.status };
+};
+
+/**
  * The answer about files that the engine reads as they are.
  * @param {Line} line
  * @param {import('./command/sources.js').Source[]} sources
@@ -182,15 +206,15 @@ const answeredOfFiles = async (line, sources, headers, environment) => {
     name === 'requests' ? requests.bytes : headers[name]?.content ?? read(name, path);
   const contents = Object.fromEntries(Object.entries(names).map(([name, path]) => [name, contentOf(name, path)]));
   const lines = Object.fromEntries(Object.entries(headers).map(([name, it]) => [name, it.line]));
-  const accepted = options.accepted === undefined ? new Map() : acceptedIn(options.accepted);
+  const accepted = options.accepted === undefined ? {} : { accepted: acceptedIn(options.accepted) };
   const program = await programOf(environment.GUIDECERISE_PROGRAM);
   const [answer, told] = withProgress(() => {
-    const got = ask(program, callOf(line, contents)), { origin, embedder = '' } = origins;
-    const text = (/** @type {string} */ name) => contents[name].toString();
-    return [got, tell(got, { program, origin, embedder, names, contents, lines, text, options, accepted, page })];
+    const call = { ...callOf(line, contents), ...accepted }, { origin, embedder = '' } = origins;
+    const got = ask(program, call), text = (/** @type {string} */ name) => contents[name].toString();
+    return [got, tell(got, { program, origin, embedder, names, contents, lines, text, options, page })];
   });
   const path = options['save-proof'], remarks = Object.values(headers).flatMap(it => it.remarks);
-  if (path !== undefined && answer.proof !== undefined) save(path, answer.proof);
+  if (path !== undefined) for (const it of word.proofs?.(answer, path) ?? []) save(...it);
   return { text: printed(line, answer, told, remarks, page), status: told.status };
 };
 

@@ -10,10 +10,10 @@ import { tokensOf } from './policies.js';
 
 /**
  * What is tried. `starts` is the directive that would stop it where no other decides. One of `tries` has to be
- * allowed, and all of `needs`. `runs` says that it runs what the attacker wrote, `with` what it takes
- * besides markup.
- * @typedef {{ id: string, group: Group, subject: string, ability: string, starts: string, tries: Request[],
- *   needs: Request[], runs: boolean, with?: string }} Question
+ * allowed, and all of `needs`. `action` is done `from`, or to, some place. `runs` says that it runs what the
+ * attacker wrote, `with` what it takes besides markup.
+ * @typedef {{ id: string, group: Group, subject: string, action: string, from?: string, starts: string,
+ *   tries: Request[], needs: Request[], runs: boolean, with?: string }} Question
  */
 
 /**
@@ -114,9 +114,9 @@ const INLINE = /** @type {const} */ ([
  * @returns {Question[]}
  */
 const inline = ({ code }) => inlineOf(code).map((request, n) => {
-  const [id, ability, starts] = INLINE[n], runs = starts === 'script-src';
+  const [id, action, starts] = INLINE[n], runs = starts === 'script-src';
   return {
-    id, group: 'inline', subject: MARKUP, ability, starts, tries: [request], needs: runs ? [SCRIPTS] : [], runs,
+    id, group: 'inline', subject: MARKUP, action, starts, tries: [request], needs: runs ? [SCRIPTS] : [], runs,
   };
 });
 
@@ -126,7 +126,7 @@ const LOADED = /** @type {const} */ ([
   ['style', 'load a style sheet', 'style-src', 'x.css', 'style'],
   ['iframe', 'show a frame', 'frame-src', 'x.html', 'frame'],
   ['object', 'load an <object> or <embed>', 'object-src', 'x.pdf', 'object'],
-  ['image', 'load an image, and send data by its URL,', 'img-src', 'x.png', 'image'],
+  ['image', 'load an image', 'img-src', 'x.png', 'image'],
 ]);
 const SCHEMES = ['https', 'http', 'data', 'blob'];
 
@@ -138,8 +138,8 @@ const from = scheme => scheme === 'data' || scheme === 'blob' ? `from a ${scheme
  * @param {Attacker} attacker
  * @returns {Question[]}
  */
-const loads = attacker => LOADED.flatMap(([destination, ability, starts, name, group]) => SCHEMES.map(scheme => ({
-  id: `${group} ${scheme}:`, group, subject: MARKUP, ability: `${ability} ${from(scheme)}`, starts,
+const loads = attacker => LOADED.flatMap(([destination, action, starts, name, group]) => SCHEMES.map(scheme => ({
+  id: `${group} ${scheme}:`, group, subject: MARKUP, action, from: from(scheme), starts,
   tries: attacker.urls(scheme, name).map(url => /** @type {Request} */ ({
     kind: 'fetch', destination, url, ...destination === 'script' ? { 'parser-inserted': true } : {},
   })),
@@ -153,8 +153,8 @@ const loads = attacker => LOADED.flatMap(([destination, ability, starts, name, g
  */
 const connections = attacker => [...SCHEMES, 'wss', 'ws'].map(scheme => ({
   id: `connection ${scheme}:`, group: 'connection', subject: SCRIPT, starts: 'connect-src',
-  ability: scheme === 'data' || scheme === 'blob' ? `fetch ${from(scheme)}`
-    : `send data to any host over ${scheme}`,
+  ...scheme === 'data' || scheme === 'blob' ? { action: 'fetch', from: from(scheme) }
+    : { action: 'send data', from: `to any host over ${scheme}` },
   tries: attacker.urls(scheme, 'x').map(url => ({ kind: 'fetch', destination: '', url })), needs: [SCRIPTS],
   runs: false,
 }));
@@ -166,23 +166,24 @@ const connections = attacker => [...SCHEMES, 'wss', 'ws'].map(scheme => ({
 const places = attacker => ['https', 'http'].flatMap(scheme => [
   /** @type {Question} */ ({
     id: `form ${scheme}:`, group: 'form', subject: MARKUP, starts: 'form-action',
-    ability: `send a form to any host over ${scheme}`, runs: false,
+    action: 'send a form', from: `to any host over ${scheme}`, runs: false,
     tries: attacker.urls(scheme, 'x').map(url => ({ kind: 'form', url })),
     needs: [{ kind: 'capability', name: 'forms' }],
   }), {
     id: `base ${scheme}:`, group: 'base', subject: MARKUP, starts: 'base-uri',
-    ability: `send the page's relative URLs to any host over ${scheme}, by <base>`, runs: false,
+    action: 'move the page\'s relative URLs, by <base>,', from: `to any host over ${scheme}`, runs: false,
     tries: attacker.urls(scheme, '').map(url => ({ kind: 'base', url })), needs: [],
   }, {
     id: `framing ${scheme}:`, group: 'framing', subject: SITE, starts: 'frame-ancestors',
-    ability: `show this page in a frame, over ${scheme}`, runs: false,
+    action: 'show this page in a frame', from: `from any host over ${scheme}`, runs: false,
     tries: attacker.urls(scheme, '').map(url => ({ kind: 'ancestors', ancestors: [url] })), needs: [],
   },
 ]);
 
 /** @type {Question} */
 const OPAQUE_FRAMING = {
-  id: 'framing null', group: 'framing', subject: SITE, ability: 'show this page in a frame, from a page without an origin',
+  id: 'framing null', group: 'framing', subject: SITE, action: 'show this page in a frame',
+  from: 'from a page without an origin',
   starts: 'frame-ancestors', tries: [{ kind: 'ancestors', ancestors: ['null'] }], needs: [], runs: false,
 };
 
@@ -192,13 +193,15 @@ const OPAQUE_FRAMING = {
  */
 const scriptOf = url => ({ kind: 'fetch', destination: 'script', url, 'parser-inserted': true });
 
+const SOURCE = /^(?:(https?|wss?):\/\/)?((?:\*\.)?[a-z0-9-]+(?:\.[a-z0-9-]+)*)(?::(\d+|\*))?(\/\S*)?$/i;
+
 /**
  * A URL that a source matches, or none: of a star its first host, of a folder a file in it.
  * @param {string} token
  * @param {string} origin
  */
 const urlOf = (token, origin) => {
-  const source = /^(?:(https?|wss?):\/\/)?((?:\*\.)?[a-z0-9-]+(?:\.[a-z0-9-]+)*)(?::(\d+|\*))?(\/\S*)?$/i.exec(token);
+  const source = SOURCE.exec(token);
   if (source === null) return [];
   const [, scheme = /^https?(?=:)/.exec(origin)?.[0] ?? 'https', host, port = '*', path = '/'] = source;
   const at = host.replace(/^\*/, 'any') + (port === '*' ? '' : `:${port}`);
@@ -221,7 +224,8 @@ const named = (policies, origin) => {
     const isOwn = url === own[0], { host } = new URL(url);
     return {
       id: isOwn ? 'own script' : `script ${url}`, group: isOwn ? 'own origin' : 'named host', subject: MARKUP,
-      ability: isOwn ? 'run a file of the page\'s own origin, as an upload' : `run a script from ${host}, as ${url}`,
+      action: isOwn ? 'run a file of the page\'s own origin' : 'run a script of a host that the policy names',
+      from: isOwn ? 'as an upload' : `as ${url}`,
       starts: 'script-src', tries: [scriptOf(url)], needs: [SCRIPTS], runs: true,
       with: `a file of the attacker's on ${host}`,
     };
@@ -233,14 +237,14 @@ const named = (policies, origin) => {
  * @returns {Question[]}
  */
 const running = attacker => [
-  ['eval', 'run a string as script, by eval', [{ kind: 'eval' }]],
-  ['WebAssembly', 'compile WebAssembly', [{ kind: 'wasm' }]],
-  ['added script', 'add a script from any host', [...attacker.urls('https', 'x.js'), ...attacker.urls('http', 'x.js')]
-    .map(url => ({ kind: 'fetch', destination: 'script', url, 'parser-inserted': false }))],
-  ['added script data:', 'add a script from a data: URL',
-    [{ kind: 'fetch', destination: 'script', url: 'data:', 'parser-inserted': false }]],
-].map(([id, ability, tries]) => /** @type {Question} */ ({
-  id, group: 'running script', subject: SCRIPT, ability, starts: 'script-src', tries, needs: [SCRIPTS], runs: false,
+  { id: 'eval', action: 'run a string as script, by eval', tries: [{ kind: 'eval' }] },
+  { id: 'WebAssembly', action: 'compile WebAssembly', tries: [{ kind: 'wasm' }] },
+  ...SCHEMES.map(scheme => ({
+    id: `added script ${scheme}:`, action: 'add a script', from: from(scheme),
+    tries: attacker.urls(scheme, 'x.js').map(url => ({ ...scriptOf(url), 'parser-inserted': false })),
+  })),
+].map(it => /** @type {Question} */ ({
+  ...it, group: 'running script', subject: SCRIPT, starts: 'script-src', needs: [SCRIPTS], runs: false,
 }));
 
 /**
@@ -248,8 +252,9 @@ const running = attacker => [
  * @returns {Question[]}
  */
 const workers = origin => [...origin === 'null' ? [] : [`${origin}/upload/x.js`], 'data:', 'blob:'].map(url => ({
-  id: `worker ${url.startsWith('http') ? 'own origin' : url}`, group: 'worker', subject: SCRIPT, starts: 'worker-src',
-  ability: `start a worker from ${url.startsWith('http') ? 'the page\'s own origin' : `a ${url} URL`}`, runs: false,
+  id: `worker ${url.startsWith('http') ? 'own' : url}`, group: 'worker', subject: SCRIPT, starts: 'worker-src',
+  action: 'start a worker', from: `from ${url.startsWith('http') ? 'the page\'s own origin' : `a ${url} URL`}`,
+  runs: false,
   tries: [{ kind: 'fetch', destination: 'worker', url }], needs: [{ kind: 'worker-start' }],
 }));
 

@@ -1,4 +1,4 @@
-"""Streams of requests, and the folders examples/har and examples/ci."""
+"""Streams of requests, and the folder examples/har."""
 
 import json
 import os
@@ -107,49 +107,5 @@ def the_example_is_so():
           (status, [one["number"] for one in items if one["blocked"]]))
 
 
-STEP = str(TOP / "examples/ci/stricter")
-NEW, WEAKER, OLD = (str(TOP / "examples/ci" / name) for name in ("stricter.txt", "weaker.txt", "old.txt"))
-UNENFORCED = {
-    "empty": "",
-    "of an error": "HTTP/2 403\nserver: x\n",
-    "with a misspelt header": "Content-Security-Policies: img-src 'none'\n",
-    "without a directive": "Content-Security-Policy: ;\n",
-    "that only reports": "Content-Security-Policy-Report-Only: img-src 'none'\n",
-}
-
-
-def steps_of_a_build_server():
-    """Headers that are stricter and weaker, files that enforce nothing, and no answer."""
-    with tempfile.TemporaryDirectory() as folder:
-        proof, file, slow = (Path(folder) / name for name in ("proof", "file", "slow"))
-        text = (
-            f"the new header, {NEW}, blocks all that the old one, {OLD}, blocks: the proof is in {proof}\n"
-        )
-        point("a stricter header", (0, text, ""), run(STEP, ORIGIN, NEW, OLD, str(proof)))
-        point(
-            "its proof is kept", (0, "accepted\n", ""), run(PROGRAM, "check", ORIGIN, NEW, OLD, str(proof))
-        )
-        proof.unlink()
-        status, said, _ = run(STEP, ORIGIN, WEAKER, OLD, str(proof))
-        lines = said.splitlines()
-        text = f"the new header, {WEAKER}, allows what the old one, {OLD}, blocks:"
-        point("a weaker header", (1, text), (status, lines[0]))
-        shown = ("data", "url data:", "second blocked 0:enforce:img-src/img-src")
-        point("its request is printed", shown, (json.loads(lines[1])["url"]["scheme"], *lines[2:]))
-        for name, text in UNENFORCED.items():
-            file.write_text(text)
-            for words in ((str(file), OLD), (NEW, str(file))):
-                status, _, said = run(STEP, ORIGIN, *words, str(proof))
-                refused = (2, f"{file}: no enforced policy stands in it\n")
-                point(f"a file {name}", refused, (status, said))
-        refused = (3, "", "no answer, status 3: bad origin\n")
-        point("an origin that is none", refused, run(STEP, "a.example", NEW, OLD, str(proof)))
-        slow.write_text("#!/bin/sh\nexec sleep 5\n")
-        slow.chmod(0o755)
-        came = run("env", f"CSP={slow}", "LIMIT=0.2", STEP, ORIGIN, NEW, OLD, str(proof))
-        point("an answer that takes too long", (124, "", "no answer within 0.2 seconds\n"), came)
-        point("no proof without a yes", False, proof.exists())
-
-
 POINTS = [streams_are_judged]
-EXAMPLES = [the_example_is_so, steps_of_a_build_server]
+EXAMPLES = [the_example_is_so]

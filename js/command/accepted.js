@@ -1,26 +1,29 @@
-/** The directives that may become weaker, each with a reason: a file with a line for each. */
+/** What may be new, each with a reason: a file with a line for each. */
 import { readFileSync } from 'node:fs';
+import { isUncovered } from '../uncovered.js';
 import { Refusal } from '../refusal.js';
 
 const USAGE = 2;
 const READ_FAULT = 8;
+const HINT = 'Write a directive, a source and the reason, as: img-src data: icons are data: URLs';
 
 /**
  * @param {string} path
  * @param {string} line
  * @param {number} number
- * @returns {[string, string][]}
+ * @returns {import('../accepted.js').Accepted[]}
  */
 const entryOf = (path, line, number) => {
   if (/^\s*(#|$)/.test(line)) return [];
-  const [, directive, reason] = /^\s*([a-z-]+)\s+(\S.*?)\s*$/.exec(line) ?? [];
-  if (directive !== undefined) return [[directive, reason]];
-  const problem = `${path}:${number}: no directive with a reason: ${JSON.stringify(line)}`;
-  throw new Refusal(USAGE, { problem, hint: 'Write a directive and the reason, as: img-src the new host' });
+  const [directive, ...words] = line.trim().split(/\s+/), isBare = isUncovered(directive);
+  const reason = words.slice(isBare ? 0 : 1).join(' ');
+  if (reason !== '') return [{ directive, ...isBare ? {} : { source: words[0] }, reason }];
+  const problem = `${path}:${number}: no reason stands in this: ${JSON.stringify(line)}`;
+  throw new Refusal(USAGE, { problem, hint: HINT });
 };
 
 /**
- * The directives and their reasons. Empty lines and lines that begin with # say nothing.
+ * What a file accepts. Empty lines and lines that begin with # say nothing.
  * @param {string} path
  */
 export const acceptedIn = path => {
@@ -31,5 +34,5 @@ export const acceptedIn = path => {
     const { code } = /** @type {NodeJS.ErrnoException} */ (error);
     throw new Refusal(READ_FAULT, { problem: `${path}: it can't be read (${code})` });
   }
-  return new Map(text.split('\n').flatMap((line, n) => entryOf(path, line, n + 1)));
+  return text.split('\n').flatMap((line, n) => entryOf(path, line, n + 1));
 };

@@ -18,7 +18,6 @@ export const MEANS_NOTHING = 15;
 const UNCOVERED = 'Not compared: Trusted Types, upgrade-insecure-requests, report-only policies.';
 
 const red = (/** @type {string} */ text) => ({ text, colour: /** @type {const} */ ('red') });
-const yellow = (/** @type {string} */ text) => ({ text, colour: /** @type {const} */ ('yellow') });
 
 /** @param {Shown} shown */
 const textOf = ({ request, url }) => {
@@ -31,20 +30,11 @@ const byOf = ({ items }) => items.filter(it => it.disposition === 'enforce')
   .map(({ governing, policy }) => governing + (policy > 0 ? `, ${ordinal(policy)} policy` : '')).join('; ');
 
 /**
- * What is to be known beside the rows: nonces that differ, and what was accepted, needed or not.
+ * What is to be known beside the rows: that nonces differ.
  * @param {Difference[]} differences
- * @param {Map<string, string>} accepted
  */
-const warningsOf = (differences, accepted) => {
-  const hasNonce = differences.some(({ request }) => 'nonce' in request && request.nonce);
-  const weaker = new Set(differences.map(it => it.directive));
-  return [
-    ...hasNonce ? ['The nonces differ. To compare the rest, write one nonce into both files.'] : [],
-    ...[...accepted].map(([directive, reason]) => weaker.has(directive)
-      ? `Accepted, whatever else it now allows: ${directive}, ${reason}.`
-      : `${directive} is accepted without need: it isn't weaker.`),
-  ];
-};
+const warningsOf = differences => differences.some(({ request }) => 'nonce' in request && request.nonce)
+  ? ['The nonces differ: guidecerise weaker takes them for those of two responses.'] : [];
 
 /**
  * @param {Difference[]} differences
@@ -52,20 +42,14 @@ const warningsOf = (differences, accepted) => {
  * @param {Asked} asked
  * @returns {Told}
  */
-const tellWeaker = (differences, shown, { names, lines: { new: line }, page, origin, accepted }) => {
-  const isAccepted = (/** @type {Difference} */ it) => accepted.has(it.directive);
-  const rows = differences.map(it => [(isAccepted(it) ? yellow : red)(it.directive), textOf(it), byOf(it)]);
-  const isWhole = differences.every(isAccepted);
+const tellWeaker = (differences, shown, { names, lines: { new: line }, page, origin }) => {
+  const rows = differences.map(it => [red(it.directive), textOf(it), byOf(it)]);
   return {
     lines: [...table(['weaker', 'now allowed', 'blocked before by'], rows, page), ''],
-    mood: isWhole ? 'yellow' : 'red',
-    sentence: `Weaker${isWhole ? ', as accepted' : ''}: ${names.new} allows what ${names.old} blocks.`,
-    warnings: warningsOf(differences, accepted),
-    covers: `${shown} On a page of ${origin}. ${UNCOVERED}`,
-    status: isWhole ? 0 : 1,
+    mood: 'red', sentence: `Weaker: ${names.new} allows what ${names.old} blocks.`,
+    warnings: warningsOf(differences), covers: `${shown} On a page of ${origin}. ${UNCOVERED}`, status: 1,
     findings: () => differences.map(it => ({
-      rule: it.directive, level: isAccepted(it) ? 'warning' : 'error',
-      file: names.new, line,
+      rule: it.directive, level: 'error', file: names.new, line,
       message: `${it.directive} is weaker: ${plain(textOf(it))} is now allowed, which ${names.old} blocks`,
     })),
   };
@@ -93,11 +77,11 @@ const tellNothing = ({ program, origin, names, contents }, member) => {
  * @returns {Told}
  */
 const tellNotWeaker = (proof, asked) => {
-  const { origin, names, accepted } = asked;
+  const { origin, names } = asked;
   return tellNothing(asked, 'old') ?? {
     lines: [], findings: () => [], mood: 'green', status: 0,
     sentence: `Not weaker: ${names.new} blocks all that ${names.old} blocks, whatever is requested.${proof}`,
-    warnings: warningsOf([], accepted), covers: `On a page of ${origin}. ${UNCOVERED}`,
+    warnings: [], covers: `On a page of ${origin}. ${UNCOVERED}`,
   };
 };
 

@@ -19,8 +19,9 @@ const OPTIONS = [
     it => it.word === 'judge' || it.word === 'why'],
   ['--headers FILE', 'which of the reports these headers would still cause', it => it.word === 'reports'],
   ['--ndjson', 'a request a line', it => it.word === 'requests' || it.word === 'reports'],
-  ['--save-proof FILE', 'where the proof is kept', it => it.word === 'compare'],
-  ['--accepted FILE', 'directives that may become weaker, each with its reason', it => it.word === 'differ'],
+  ['--save-proof FILE', 'where the proof is kept', it => it.proofs !== undefined],
+  ['--accepted FILE', 'what may be new, each with its reason', it => it.word === 'weaker'],
+  ['--folder FOLDER', 'all pairs new.txt and old.txt below a folder', it => it.word === 'weaker'],
 ];
 
 /** @param {typeof OPTIONS} options */
@@ -28,16 +29,24 @@ const listed = options =>
   options.map(([option, summary]) => `  ${option.padEnd(17)}  ${summary}\n`).join('');
 
 const CODES = `Exit codes:
-  0   nothing is blocked, not weaker, accepted, or it may be shown
-  1   something is blocked, weaker, rejected, or it may not be shown
+  0   nothing is blocked, not weaker, accepted, it may be shown, or markup
+      runs no code by itself
+  1   something is blocked, weaker, rejected, it may not be shown, or markup
+      could run code
   2   the command line is wrong         8   a file can't be read
   3   the origin is wrong               9   the output can't be written
   4   a header file is wrong            10  there is no memory
   5   a file is too large               13  not one required policy
-  6   the request file is wrong         15  a yes would mean nothing: the old
-  7   the proof is no proof                 headers block nothing, or a policy
-                                            was enforced during the recording
-  70  the command itself failed         16  not all was read as reports
+  ['--headers FILE', 'one header for all pages, in place of each one\'s own',
+    it => it.ofSite !== undefined && it.members.includes('headers')],
+  ['--url URL', 'the address of the HTML file, or of the folder of HTML', takesRequests],
+  ['--events FILE', 'what the browser said: its console, or copied events',
+    it => it.word === 'judge' || it.word === 'why'],
+  ['--headers FILE', 'which of the reports these headers would still cause', it => it.word === 'reports'],
+  ['--ndjson', 'a request a line', it => it.word === 'requests' || it.word === 'reports'],
+  ['--save-proof FILE', 'where the proof is kept', it => it.proofs !== undefined],
+  ['--accepted FILE', 'what may be new, each with its reason', it => it.word === 'weaker'],
+  ['--folder FOLDER', 'all pairs new.txt and old.txt below a folder', it => it.word === 'weaker'],
 `;
 
 /** @param {import('./words.js').Word} word */

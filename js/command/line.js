@@ -10,7 +10,8 @@ import { ORIGINS, WORDS } from './words.js';
 /**
  * What is wanted of the answer.
  * @typedef {{ all: boolean, json: boolean, sarif: boolean, github: boolean, help: boolean,
- *   ndjson: boolean, 'save-proof'?: string, accepted?: string, url?: string, events?: string[] }} Options
+ *   ndjson: boolean, 'save-proof'?: string, accepted?: string, folder?: string, url?: string,
+ *   events?: string[] }} Options
  */
 
 /**
@@ -27,7 +28,7 @@ const OPTIONS = /** @type {const} */ ({
   all: { type: 'boolean', default: false }, json: { type: 'boolean', default: false },
   sarif: { type: 'boolean', default: false }, github: { type: 'boolean', default: false },
   help: { type: 'boolean', default: false }, 'save-proof': { type: 'string' }, accepted: { type: 'string' },
-  url: { type: 'string' }, events: { type: 'string', multiple: true },
+  folder: { type: 'string' }, url: { type: 'string' }, events: { type: 'string', multiple: true },
   ndjson: { type: 'boolean', default: false },
 });
 
@@ -91,7 +92,10 @@ const placed = (word, given, positionals) => {
   const { members } = word, left = [...positionals], isOpen = areSources(word, positionals);
   /** @type {[string, string][]} */
   const values = [];
-  for (const name of members.filter(it => !MANY.includes(it))) {
+  const isTwice = given.folder !== undefined && (given.new ?? given.old) !== undefined;
+  if (isTwice) throw misused('--folder stands in place of --new and --old', word);
+  const files = given.folder === undefined ? members : members.filter(it => ORIGINS.includes(it));
+  for (const name of files.filter(it => !MANY.includes(it))) {
     const isSource = name === 'requests' && given[name] === undefined && left.length > 0;
     const value = given[name] ?? (isOpen || isSource ? undefined : left.shift());
     if (value !== undefined) values.push([name, value]);
@@ -112,7 +116,7 @@ const placed = (word, given, positionals) => {
  * @param {Word} word
  * @param {Options} options
  */
-const refuseOptions = (word, { sarif, github, accepted, url, events, ndjson, 'save-proof': path }) => {
+const refuseOptions = (word, { sarif, github, accepted, folder, url, events, ndjson, 'save-proof': path }) => {
   if (ndjson && !['requests', 'reports'].includes(word.word)) {
     throw misused('--ndjson goes with requests and reports', word);
   }
@@ -120,8 +124,9 @@ const refuseOptions = (word, { sarif, github, accepted, url, events, ndjson, 'sa
   if (events !== undefined && !['judge', 'why'].includes(word.word)) {
     throw misused('--events goes with judge and why', word);
   }
-  if (accepted !== undefined && word.word !== 'differ') throw misused('--accepted goes with differ', word);
-  if (path !== undefined && word.word !== 'compare') throw misused('--save-proof goes with compare', word);
+  if (accepted !== undefined && word.word !== 'weaker') throw misused('--accepted goes with weaker', word);
+  if (folder !== undefined && word.word !== 'weaker') throw misused('--folder goes with weaker', word);
+  if (path !== undefined && !word.proofs) throw misused('--save-proof goes with compare and weaker', word);
   if ((sarif || github) && !word.finds) throw misused(`${word.word} finds nothing that has a line`, word);
 };
 

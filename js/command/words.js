@@ -1,18 +1,19 @@
 /** The words of the command: what each takes, whom it asks, and how its answer is told. */
 import * as calls from '../index.js';
+import { tellAudit } from './audited.js';
 import {
   tellCheck, tellComparison, tellDifferences, tellEmbedding, tellLearnt, tellRelations, tellTidied,
 } from './compared.js';
 import { tellReasons, tellReports, tellVerdicts } from './judged.js';
 import { judgeSite, learnSite, reportSite, whySite } from './sites.js';
+import { proofsOf, tellWeakening } from './weakened.js';
 
 /**
  * What was asked: the origins, of each file its name and what the engine is given of it, of each header
  * file the line of its first policy, and what is wanted of the answer.
  * @typedef {{ program: calls.Program, origin: string, embedder: string, names: Record<string, string>,
  *   contents: Record<string, string | Uint8Array>, lines: Record<string, number>,
- *   text: (member: string) => string, options: { all: boolean }, accepted: Map<string, string>,
- *   page: import('./page.js').Page }} Asked
+ *   text: (member: string) => string, options: { all: boolean }, page: import('./page.js').Page }} Asked
  */
 
 /**
@@ -30,11 +31,12 @@ import { judgeSite, learnSite, reportSite, whySite } from './sites.js';
 
 /**
  * A word: its summary, the members of its call in their order, those that may be left out, whom it asks,
- * how the answer is told, whether it finds something that has a file and a line, and what is told of the
- * pages of a site where files of other forms stand for requests.
+ * how the answer is told, whether it finds something that has a file and a line, what is told of the pages
+ * of a site where files of other forms stand for requests, and which files keep the proof of an answer.
  * @typedef {{ word: string, summary: string, members: string[], optional?: string[],
  *   ask?: (program: calls.Program, given: any) => any, tell?: (answer: any, asked: Asked) => Told,
- *   finds?: boolean, ofSite?: import('./sites.js').OfSite }} Word
+ *   finds?: boolean, ofSite?: import('./sites.js').OfSite,
+ *   proofs?: (answer: any, path: string) => [string, string | Uint8Array][] }} Word
  */
 
 /** @type {Word[]} */
@@ -58,8 +60,15 @@ export const WORDS = [
     word: 'requests', summary: 'the requests that stand in recordings and pages, as JSON',
     members: ['requests'],
   }, {
+    word: 'audit', summary: 'what an attacker could do who writes markup into the page', finds: true,
+    members: ['origin', 'headers'], ask: calls.audit, tell: tellAudit,
+  }, {
+    word: 'weaker', summary: 'whether new headers are weaker, with what no proof covers',
+    finds: true, members: ['origin', 'new', 'old'], ask: calls.weaker, tell: tellWeakening, proofs: proofsOf,
+  }, {
     word: 'compare', summary: 'whether new headers are weaker than old ones; if not, a proof', finds: true,
     members: ['origin', 'new', 'old'], ask: calls.compare, tell: tellComparison,
+    proofs: ({ proof }, path) => proof === undefined ? [] : [[path, proof]],
   }, {
     word: 'differ', summary: 'each directive under which the new headers are weaker', finds: true,
     members: ['origin', 'new', 'old'], ask: calls.differ, tell: tellDifferences,

@@ -1,7 +1,7 @@
 /** The steps for build servers: the shell of each, over examples/ci. */
 import assert from 'node:assert/strict';
 import { spawnSync } from 'node:child_process';
-import { symlinkSync, writeFileSync } from 'node:fs';
+import { mkdirSync, symlinkSync, writeFileSync } from 'node:fs';
 import { join } from 'node:path';
 import test from 'node:test';
 import { TOP, contentOf, temporaryFolder } from './shared.js';
@@ -9,7 +9,7 @@ import { TOP, contentOf, temporaryFolder } from './shared.js';
 const folder = temporaryFolder();
 symlinkSync(join(TOP, 'js/bin/guidecerise.js'), join(folder, 'guidecerise'));
 const accepted = join(folder, 'accepted.txt');
-writeFileSync(accepted, '# decided in review\nimg-src icons are data: URLs\nscript-src nothing yet\n');
+writeFileSync(accepted, '# decided in review\nimg-src data: for icons\nscript-src https: nothing yet\n');
 
 // The text behind the last `|` of a file of YAML, which is the shell of a step
 const shellOf = path => contentOf(path).toString().split(/\|\n/).at(-1);
@@ -22,7 +22,7 @@ const step = (path, environment) => {
 };
 
 const STRICTER = { NEW: 'examples/ci/stricter.txt' }, WEAKER = { NEW: 'examples/ci/weaker.txt' };
-const REASONS = /^Weaker, as accepted: .*\n.*img-src, icons are data: URLs\.\nscript-src is accepted w/m;
+const REASONS = /^Not weaker but for what is accepted: .*\nAccepted: img-src data:: for icons\.\n.* script-src h/m;
 const CASES = [
   [STRICTER, /^Not weaker: /m, 0],
   [WEAKER, /^Weaker: /m, 1],
@@ -50,6 +50,17 @@ test('a line without a reason is refused', () => {
   writeFileSync(join(folder, 'bare.txt'), 'img-src\n');
   const values = { ...WEAKER, ORIGIN: 'https://a.example', OLD: 'examples/ci/old.txt' };
   const { stderr, status } = step('action.yml', { ...values, ACCEPTED: join(folder, 'bare.txt') });
-  assert.match(stderr, /bare\.txt:1: no directive with a reason: "img-src"/);
+  assert.match(stderr, /bare\.txt:1: no reason stands in this: "img-src"/);
   assert.equal(status, 2);
+});
+
+test('a folder of pairs', () => {
+  const pair = join(folder, 'pairs/shop/home');
+  mkdirSync(pair, { recursive: true });
+  for (const [name, from] of [['old', 'old'], ['new', 'weaker']]) {
+    writeFileSync(join(pair, `${name}.txt`), contentOf(`examples/ci/${from}.txt`));
+  }
+  const { stdout, status } = step('action.yml', { ORIGIN: 'https://a.example', FOLDER: join(folder, 'pairs') });
+  assert.match(stdout, /^::error file=.*shop\/home\/new\.txt,line=1,title=img-src::img-src is weaker/);
+  assert.equal(status, 1);
 });
