@@ -1,11 +1,17 @@
 /** The texts of --help, which fit a terminal of 80 columns. */
 import { MEMBERS, WORDS } from './words.js';
 
+const proposes = (/** @type {import('./words.js').Word} */ it) => it.word === 'propose';
+
 /**
  * The options, each with the words that take it, or none where all do.
  * @type {[option: string, summary: string, takes?: (word: import('./words.js').Word) => boolean][]}
  */
 const OPTIONS = [
+  ['--form FORM', 'hosts, strict, or addition to the present policy', proposes],
+  ['--url URL', 'the address of the folder in which pages of HTML stand', proposes],
+  ['--inline BY', 'nonces or hashes, for scripts and styles that have no nonce', proposes],
+  ['--unsafe-hashes', 'handlers, javascript: URLs and style attributes by hashes', proposes],
   ['--all', 'each row, however many there are'],
   ['--json', 'JSON in place of a text for people'],
   ['--sarif', 'SARIF, for servers that show findings beside the code', it => it.finds === true],
@@ -31,7 +37,8 @@ const CODES = `Exit codes:
 `;
 
 /** @param {import('./words.js').Word} word */
-export const usageOf = ({ word, members }) => `guidecerise ${word} ${members.join(' ').toUpperCase()}`;
+export const usageOf = ({ word, members, usage = members.join(' ').toUpperCase() }) =>
+  `guidecerise ${word} ${usage}`;
 
 /** @param {import('./words.js').Word} word */
 export const helpOf = word => `${usageOf(word)}

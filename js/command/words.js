@@ -4,6 +4,7 @@ import {
   tellCheck, tellComparison, tellDifferences, tellEmbedding, tellLearnt, tellRelations, tellTidied,
 } from './compared.js';
 import { tellReasons, tellReports, tellVerdicts } from './judged.js';
+import { runPropose } from './proposed.js';
 import { judgeSite, learnSite, reportSite, whySite } from './sites.js';
 
 /**
@@ -31,10 +32,10 @@ import { judgeSite, learnSite, reportSite, whySite } from './sites.js';
 /**
  * A word: its summary, the members of its call in their order, those that may be left out, whom it asks,
  * how the answer is told, whether it finds something that has a file and a line, and what is told of the
- * pages of a site where files of other forms stand for requests.
- * @typedef {{ word: string, summary: string, members: string[], optional?: string[],
+ * pages of a site where files of other forms stand for requests. A word with `run` reads its files by that.
+ * @typedef {{ word: string, summary: string, members: string[], optional?: string[], usage?: string,
  *   ask?: (program: calls.Program, given: any) => any, tell?: (answer: any, asked: Asked) => Told,
- *   finds?: boolean, ofSite?: import('./sites.js').OfSite }} Word
+ *   finds?: boolean, ofSite?: import('./sites.js').OfSite, run?: typeof runPropose }} Word
  */
 
 /** @type {Word[]} */
@@ -76,6 +77,9 @@ export const WORDS = [
     word: 'learn', summary: 'a first policy, which allows what the requests load',
     members: ['origin', 'requests'], ask: calls.learn, tell: tellLearnt,
     ofSite: learnSite,
+  }, {
+    word: 'propose', summary: 'a policy for pages, recordings and reports', usage: 'FILES ..',
+    members: ['headers', 'requests'], optional: ['headers'], run: runPropose,
   }, {
     word: 'order', summary: 'which of 2 to 16 headers are weaker than which',
     members: ['origin', 'lists'], ask: calls.order, tell: tellRelations,
