@@ -67,7 +67,8 @@ export const itemsOf = (pages, reports, form) => [
 ];
 
 /** @param {Request} request */
-const parsed = request => request.destination === 'script' ? { ...request, 'parser-inserted': true } : request;
+const parsed = request =>
+  request.destination === 'script' ? { ...request, 'parser-inserted': true } : request;
 
 /**
  * @param {Request} request
