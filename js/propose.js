@@ -6,7 +6,7 @@ import { audit, compare, tidy } from './index.js';
 import { Refusal } from './refusal.js';
 import { additionsOf } from './propose/additions.js';
 import { emptyPolicy, keptOf, withStrictWords } from './propose/base.js';
-import { cautionsOf } from './propose/cautions.js';
+import { cautionsOf, gapsOf } from './propose/cautions.js';
 import { NONCE, countsOf, itemsOf, judged, withNonce } from './propose/items.js';
 import { adviceOf, hashOf } from './propose/needs.js';
 import { PolicyList } from './propose/policy.js';
@@ -66,6 +66,8 @@ export { NONCE } from './propose/items.js';
  * @property {string[]} kept directives of the present policy that were kept, since they can't be learnt
  * @property {import('./audit.js').Audit | null} audit what injected markup could still do, where all pages
  * are of one origin, or null
+ * @property {string[]} gaps why what was given doesn't tell all that the pages need, as that it was recorded
+ * under an enforced policy
  * @property {string[]} cautions what to think of before it is sent
  * @property {{ file?: string, said: string }[]} left what of the pages was left out, as the loads of frames
  * @property {string[]} unseen what was not looked at
@@ -179,7 +181,7 @@ export const propose = async (program, given) => {
     nonces: await rowsOf(judged(program, list.lines, [...edits]), own), blocked: await rowsOf(after, own),
     additions: groups.map(it => it.addition), kept: kept.map(it => it.text),
     audit: isOne ? auditOf(program, origin, headers) : null,
-    cautions: cautionsOf({ form, headers, items }), left: leftOf(pages), unseen: unseenOf(pages),
+    gaps: gapsOf(pages), cautions: cautionsOf({ form, headers, items }), left: leftOf(pages), unseen: unseenOf(pages),
   };
 };
 

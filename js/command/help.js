@@ -9,6 +9,7 @@ const proposes = (/** @type {import('./words.js').Word} */ it) => it.word === 'p
  */
 const OPTIONS = [
   ['--form FORM', 'hosts, strict, or addition to the present policy', proposes],
+  ['--headers FILE', 'the present policy, in any form that people have it in', proposes],
   ['--url URL', 'the address of the folder in which pages of HTML stand', proposes],
   ['--inline BY', 'nonces or hashes, for scripts and styles that have no nonce', proposes],
   ['--unsafe-hashes', 'handlers, javascript: URLs and style attributes by hashes', proposes],
@@ -37,18 +38,23 @@ const CODES = `Exit codes:
 `;
 
 /** @param {import('./words.js').Word} word */
-export const usageOf = ({ word, members, usage = members.join(' ').toUpperCase() }) =>
-  `guidecerise ${word} ${usage}`;
+export const usageOf = ({ word, members, files }) =>
+  `guidecerise ${word} ${files === undefined ? members.join(' ').toUpperCase() : 'FILES ..'}`;
+
+/** @param {import('./words.js').Word} word */
+const taken = ({ members, files }) => {
+  if (files !== undefined) return `  FILES ..  ${files}\n`;
+  const told = members.map(it => `  ${it.toUpperCase().padEnd(9)} ${MEMBERS[it]}\n`).join('');
+  return members.includes('lists') ? told
+    : `${told}\nEach may be given by its name too, as --origin, in any order.\n`;
+};
 
 /** @param {import('./words.js').Word} word */
 export const helpOf = word => `${usageOf(word)}
 
 Tells ${word.summary}.
 
-${word.members.map(it => `  ${it.toUpperCase().padEnd(9)} ${MEMBERS[it]}`).join('\n')}
-
-${word.members.includes('lists') ? '' : `Each may be given by its name too, as --origin, in any order.
-`}A file - is standard input.
+${taken(word)}A file - is standard input.
 
 ${listed(OPTIONS.filter(([, , takes]) => takes === undefined || takes(word)))}
 ${CODES}`;

@@ -16,6 +16,7 @@ import { plain, table, wrapped } from './page.js';
  */
 
 const USAGE = 2;
+const MEANS_LITTLE = 15; // nothing is blocked, but what was given has gaps
 const MANY = 10; // places below one piece of advice, if the whole isn't asked for
 const FORMS = ['hosts', 'strict', 'addition'], INLINE = ['nonces', 'hashes'];
 
@@ -169,21 +170,23 @@ const leftTexts = left => {
 /**
  * What is told of a proposal.
  * @param {Proposal} proposal
- * @param {{ pages: readonly unknown[], left: import('./given.js').Said[] }} given
+ * @param {{ pages: readonly import('../propose.js').GivenPage[], left: import('./given.js').Said[] }} given
  * @param {Shown} shown
  * @returns {Told}
  */
 const toldOf = (proposal, { pages, left }, shown) => {
-  const { asked, after, nonces, cautions, kept, unseen } = proposal;
+  const { asked, after, nonces, gaps, cautions, kept, unseen } = proposal;
   const isBlocked = number(after) + nonces.length > 0;
-  const of = pages.length > 0 ? ` of ${counted(pages.length, 'page')}` : '';
+  const count = pages.filter(it => (it.role ?? 'page') === 'page').length;
+  const of = count > 0 ? ` of ${counted(count, 'page')}` : '';
   return {
+    ...gaps.length > 0 ? { first: gaps.join(' ') } : {},
     lines: linesOf(proposal, shown), mood: isBlocked ? 'red' : 'yellow', sentence: sentenceOf(proposal),
     warnings: [
       ...kept.length > 0 ? [`Kept from the present policy: ${kept.join('; ')}.`] : [], ...cautions,
     ],
     covers: `Looked at: ${text(asked)}${of}.`, unseen: [...leftTexts([...left, ...proposal.left]), ...unseen],
-    status: isBlocked ? 1 : 0, findings: () => [],
+    status: isBlocked ? 1 : gaps.length > 0 ? MEANS_LITTLE : 0, findings: () => [],
   };
 };
 

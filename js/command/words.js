@@ -32,8 +32,9 @@ import { judgeSite, learnSite, reportSite, whySite } from './sites.js';
 /**
  * A word: its summary, the members of its call in their order, those that may be left out, whom it asks,
  * how the answer is told, whether it finds something that has a file and a line, and what is told of the
- * pages of a site where files of other forms stand for requests. A word with `run` reads its files by that.
- * @typedef {{ word: string, summary: string, members: string[], optional?: string[], usage?: string,
+ * pages of a site where files of other forms stand for requests. A word with `files`, which tells of them,
+ * reads them by `run`.
+ * @typedef {{ word: string, summary: string, members: string[], optional?: string[], files?: string,
  *   ask?: (program: calls.Program, given: any) => any, tell?: (answer: any, asked: Asked) => Told,
  *   finds?: boolean, ofSite?: import('./sites.js').OfSite, run?: typeof runPropose }} Word
  */
@@ -78,7 +79,8 @@ export const WORDS = [
     members: ['origin', 'requests'], ask: calls.learn, tell: tellLearnt,
     ofSite: learnSite,
   }, {
-    word: 'propose', summary: 'a policy for pages, recordings and reports', usage: 'FILES ..',
+    word: 'propose', summary: 'a policy for pages, recordings and reports',
+    files: 'HARs, HTML, reports, lines of a console, and folders of these',
     members: ['headers', 'requests'], optional: ['headers'], run: runPropose,
   }, {
     word: 'order', summary: 'which of 2 to 16 headers are weaker than which',
