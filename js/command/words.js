@@ -81,7 +81,7 @@ export const WORDS = [
   }, {
     word: 'propose', summary: 'a policy for pages, recordings and reports',
     files: 'HARs, HTML, reports, lines of a console, and folders of these',
-    members: ['headers', 'requests'], optional: ['headers'], run: runPropose,
+    members: ['requests'], optional: ['headers'], run: runPropose,
   }, {
     word: 'order', summary: 'which of 2 to 16 headers are weaker than which',
     members: ['origin', 'lists'], ask: calls.order, tell: tellRelations,
