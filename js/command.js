@@ -130,7 +130,7 @@ const answeredOfSite = async ({ word, origins, options }, sources, headers, envi
   const { url } = options, { origin } = origins, { headers: given } = headers;
   const site = await siteOf(sources, events, { url, origin, lines: given?.lines });
   const program = await programOf(environment.GUIDECERISE_PROGRAM), page = pageOf(process.stdout, environment);
-  const { answer, told } = withProgress(() => ofSite({ program, site, options, page }));
+  const { answer, told } = await withProgress(() => ofSite({ program, site, options, page }));
   const marked = given === undefined ? site.pages : [];
   const remarks = [...given?.remarks ?? [], ...marked.flatMap(it => marksIn([...it.lines, ...it.meta], it.file))];
   return { answer, told, remarks, page };
@@ -144,7 +144,13 @@ const answered = async (line, environment) => {
   if (line.options.folder !== undefined) return answeredOfFolder(line, line.options.folder, environment);
   const { word, origins, options } = line, headers = await headersOf(line);
   if (word.word === 'reports') return answeredOfReports(line, headers.headers, environment);
-  const sources = sourcesOf(line.sources);
+  const sources = sourcesOf(line.sources), { run } = word;
+  if (run !== undefined) {
+    const program = await programOf(environment.GUIDECERISE_PROGRAM), page = pageOf(process.stdout, environment);
+    const given = { program, sources, headers: headers.headers, options, page };
+    const { answer, told, remarks } = await withProgress(() => run(given));
+    return { text: printed(line, answer, told, remarks, page), status: told.status };
+  }
   if (word.word === 'requests') {
     const site = await siteOf(sources, [], { url: options.url, origin: 'null', lines: [] });
     return { text: requestsText(site.pages.flatMap(it => it.pieces), options.ndjson), status: 0 };
@@ -208,7 +214,7 @@ const answeredOfFiles = async (line, sources, headers, environment) => {
   const lines = Object.fromEntries(Object.entries(headers).map(([name, it]) => [name, it.line]));
   const accepted = options.accepted === undefined ? {} : { accepted: acceptedIn(options.accepted) };
   const program = await programOf(environment.GUIDECERISE_PROGRAM);
-  const [answer, told] = withProgress(() => {
+  const [answer, told] = await withProgress(() => {
     const call = { ...callOf(line, contents), ...accepted }, { origin, embedder = '' } = origins;
     const got = ask(program, call), text = (/** @type {string} */ name) => contents[name].toString();
     return [got, tell(got, { program, origin, embedder, names, contents, lines, text, options, page })];

@@ -2,12 +2,12 @@
  * Proposes a policy for pages, recordings and reports: by hosts, by nonces and hashes, or as an addition to
  * the present policy. The engine says what each proposal does with all that was given.
  */
-import { compare, tidy } from './index.js';
+import { audit, compare, tidy } from './index.js';
 import { Refusal } from './refusal.js';
 import { additionsOf } from './propose/additions.js';
 import { emptyPolicy, keptOf, withStrictWords } from './propose/base.js';
-import { cautionsOf } from './propose/cautions.js';
-import { countsOf, itemsOf, judged, withNonce } from './propose/items.js';
+import { cautionsOf, gapsOf } from './propose/cautions.js';
+import { NONCE, countsOf, itemsOf, judged, withNonce } from './propose/items.js';
 import { adviceOf, hashOf } from './propose/needs.js';
 import { PolicyList } from './propose/policy.js';
 
@@ -64,8 +64,10 @@ export { NONCE } from './propose/items.js';
  * @property {Row[]} blocked what is still blocked then
  * @property {Addition[]} additions the greatest count first
  * @property {string[]} kept directives of the present policy that were kept, since they can't be learnt
- * @property {unknown} audit what injected markup could still do, where all pages are of one origin, or
- * null
+ * @property {import('./audit.js').Audit | null} audit what injected markup could still do, where all pages
+ * are of one origin, or null
+ * @property {string[]} gaps why what was given doesn't tell all that the pages need, as that it was recorded
+ * under an enforced policy
  * @property {string[]} cautions what to think of before it is sent
  * @property {{ file?: string, said: string }[]} left what of the pages was left out, as the loads of frames
  * @property {string[]} unseen what was not looked at
@@ -125,6 +127,17 @@ const shorterOf = (program, origin, headers) => {
   return isSame && shorter.length < headers.length ? shorter : null;
 };
 
+/**
+ * What injected markup could still do. That RANDOM is short and constant isn't told: it stands for a nonce.
+ * @param {Program} program
+ * @param {string} origin
+ * @param {string} headers
+ */
+const auditOf = (program, origin, headers) => {
+  const found = audit(program, { origin, headers, stops: false });
+  return { ...found, known: found.known.filter(it => it.token !== `'nonce-${NONCE}'`) };
+};
+
 /** @param {readonly GivenPage[]} pages what of them was left out */
 const leftOf = pages => pages.flatMap(({ role = 'page', file, url, left }) => role === 'page'
   ? left.map(it => ({ file: file ?? url, ...it }))
@@ -168,7 +181,7 @@ export const propose = async (program, given) => {
     nonces: await rowsOf(judged(program, list.lines, [...edits]), own), blocked: await rowsOf(after, own),
     additions: groups.map(it => it.addition), kept: kept.map(it => it.text),
     audit: isOne ? auditOf(program, origin, headers) : null,
-    cautions: cautionsOf({ form, headers, items }), left: leftOf(pages), unseen: unseenOf(pages),
+    gaps: gapsOf(pages), cautions: cautionsOf({ form, headers, items }), left: leftOf(pages), unseen: unseenOf(pages),
   };
 };
 
@@ -187,7 +200,3 @@ const refuse = (form, items, present) => {
     throw new Refusal(NOTHING_GIVEN, { file: 'headers', problem: 'there is no policy to add to', hint });
   }
 };
-
-// js/audit.js takes this place.
-/** @type {(program: Program, origin: string, headers: string) => unknown} */
-const auditOf = () => null;

@@ -3,6 +3,7 @@ import { existsSync, readFileSync } from 'node:fs';
 import { parseArgs } from 'node:util';
 import { Refusal } from '../refusal.js';
 import { usageOf } from './help.js';
+import { OPTIONS as PROPOSING } from './proposed.js';
 import { ORIGINS, WORDS } from './words.js';
 
 /** @typedef {import('./words.js').Word} Word */
@@ -56,7 +57,7 @@ const parsed = (word, args) => {
   const names = [...word.members, ...word.optional ?? []].filter(it => !MANY.includes(it));
   const members = Object.fromEntries(names.map(it => [it, text]));
   try {
-    const known = { ...members, ...OPTIONS };
+    const known = { ...members, ...OPTIONS, ...word.word === 'propose' ? PROPOSING : {} };
     const { values, positionals } = parseArgs({ args, allowPositionals: true, options: known });
     const options = /** @type {Options} */ (/** @type {unknown} */ (values));
     return { given: /** @type {Record<string, string | undefined>} */ (values), positionals, options };

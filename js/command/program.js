@@ -49,14 +49,14 @@ const PROGRESS = `
  * Does some work, and tells after each second on a terminal that it goes on. The engine keeps its own
  * thread busy, so another one tells it.
  * @template T
- * @param {() => T} work
- * @returns {T}
+ * @param {() => T | Promise<T>} work
+ * @returns {Promise<T>}
  */
-export const withProgress = work => {
+export const withProgress = async work => {
   if (!process.stderr.isTTY) return work();
   const teller = new Worker(PROGRESS, { eval: true });
   try {
-    return work();
+    return await work();
   } finally {
     teller.terminate();
     process.stderr.write('\r\x1b[K');

@@ -5,6 +5,7 @@ import {
   tellCheck, tellComparison, tellDifferences, tellEmbedding, tellLearnt, tellRelations, tellTidied,
 } from './compared.js';
 import { tellReasons, tellReports, tellVerdicts } from './judged.js';
+import { runPropose } from './proposed.js';
 import { judgeSite, learnSite, reportSite, whySite } from './sites.js';
 import { proofsOf, tellWeakening } from './weakened.js';
 
@@ -32,10 +33,11 @@ import { proofsOf, tellWeakening } from './weakened.js';
 /**
  * A word: its summary, the members of its call in their order, those that may be left out, whom it asks,
  * how the answer is told, whether it finds something that has a file and a line, what is told of the pages
- * of a site where files of other forms stand for requests, and which files keep the proof of an answer.
- * @typedef {{ word: string, summary: string, members: string[], optional?: string[],
+ * of a site where files of other forms stand for requests, and which files keep the proof of an answer. A
+ * word with `files`, which tells of them, reads them by `run`.
+ * @typedef {{ word: string, summary: string, members: string[], optional?: string[], files?: string,
  *   ask?: (program: calls.Program, given: any) => any, tell?: (answer: any, asked: Asked) => Told,
- *   finds?: boolean, ofSite?: import('./sites.js').OfSite,
+ *   finds?: boolean, ofSite?: import('./sites.js').OfSite, run?: typeof runPropose,
  *   proofs?: (answer: any, path: string) => [string, string | Uint8Array][] }} Word
  */
 
@@ -85,6 +87,10 @@ export const WORDS = [
     word: 'learn', summary: 'a first policy, which allows what the requests load',
     members: ['origin', 'requests'], ask: calls.learn, tell: tellLearnt,
     ofSite: learnSite,
+  }, {
+    word: 'propose', summary: 'a policy for pages, recordings and reports',
+    files: 'HARs, HTML, reports, lines of a console, and folders of these',
+    members: ['requests'], optional: ['headers'], run: runPropose,
   }, {
     word: 'order', summary: 'which of 2 to 16 headers are weaker than which',
     members: ['origin', 'lists'], ask: calls.order, tell: tellRelations,

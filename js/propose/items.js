@@ -7,8 +7,8 @@ import { urlOf } from '../readers/urls.js';
  * @typedef {import('../readers/html.js').Piece} Piece
  * @typedef {import('../readers/html.js').Page} Page
  * @typedef {import('../readers/html.js').Request} Request
- * @typedef {Page & { file?: string, role?: 'page' | 'frame' | 'worker' }} GivenPage a page of `readSite`,
- * `readHar` or `readHtml`
+ * @typedef {Page & { file?: string, role?: 'page' | 'frame' | 'worker', isEnforced?: boolean }} GivenPage a
+ * page of `readSite`, `readHar` or `readHtml`
  * @typedef {{ violation: import('../readers/violations.js').Violation, request?: Request, count: number,
  *   pages: Set<string> }} Group reports that are alike, as `Tally.ended` gives them
  * @typedef {object} Place where an item stands
@@ -67,7 +67,8 @@ export const itemsOf = (pages, reports, form) => [
 ];
 
 /** @param {Request} request */
-const parsed = request => request.destination === 'script' ? { ...request, 'parser-inserted': true } : request;
+const parsed = request =>
+  request.destination === 'script' ? { ...request, 'parser-inserted': true } : request;
 
 /**
  * @param {Request} request

@@ -85,7 +85,7 @@ export const needOf = async (item, effective, wish) => {
 };
 
 const INLINE = /** @type {Record<string, string>} */ ({
-  'script-attribute': "move it to a script: element.addEventListener('click', ..)",
+  'script-attribute': 'move it to a script, with addEventListener',
   navigation: 'make it a button with a listener in a script',
   'style-attribute': 'move it to a class in a style sheet',
   script: 'give it the nonce, or move it to a file',

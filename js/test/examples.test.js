@@ -25,7 +25,7 @@ const copied = name => {
 
 test('the documents show them as they are', () => {
   const shown = contentOf('docs/LIBRARY.md').toString();
-  for (const it of ['javascript.mjs', 'typescript.ts', 'python.py', 'shell.sh']) {
+  for (const it of ['javascript.mjs', 'propose.mjs', 'typescript.ts', 'python.py', 'shell.sh']) {
     assert.ok(shown.includes(`\n${contentOf(join('examples/call', it))}\`\`\`\n`), it);
   }
 });
@@ -33,6 +33,15 @@ test('the documents show them as they are', () => {
 test('JavaScript', () => {
   const said = 'weaker: https://other.cdn.example.net/ is now allowed\n';
   assert.deepEqual(run('node', copied('javascript.mjs')), [said, '', 0]);
+});
+
+test('a proposal', () => {
+  const [stdout, ...rest] = run('node', '--import', join(TOP, 'js/test/debian.js'), copied('propose.mjs'));
+  assert.equal(stdout, "Content-Security-Policy: default-src 'none'; script-src 'nonce-RANDOM' 'strict-dynamic' "
+    + "https: 'unsafe-inline'; object-src 'none'; base-uri 'none'; form-action 'none'; frame-ancestors 'none'\n\n"
+    + 'line 1: src of <script> has to get the nonce\n'
+    + 'line 1: onclick of <p>: move it to a script, with addEventListener\n');
+  assert.deepEqual(rest, ['', 0]);
 });
 
 test('TypeScript', { skip: !has('esbuild') && 'esbuild is missing' }, () => {
