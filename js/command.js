@@ -220,7 +220,7 @@ const answeredOfFiles = async (line, sources, headers, environment) => {
     return [got, tell(got, { program, origin, embedder, names, contents, lines, text, options, page })];
   });
   const path = options['save-proof'], remarks = Object.values(headers).flatMap(it => it.remarks);
-  if (path !== undefined) for (const it of word.proofs?.(answer, path) ?? []) save(...it);
+  if (path !== undefined) for (const it of line.word.proofs?.(answer, path) ?? []) save(...it);
   return { text: printed(line, answer, told, remarks, page), status: told.status };
 };
 
