@@ -22,6 +22,7 @@ const READ_FAULT = 8;
  * @returns {string[]}
  */
 const pairsIn = folder => {
+  /** @type {import('node:fs').Dirent[]} */
   let entries;
   try {
     entries = readdirSync(folder, { withFileTypes: true }).sort((a, b) => a.name < b.name ? -1 : 1);

@@ -103,7 +103,10 @@ const placed = (word, given, positionals) => {
     else if (!isOpen && !isSource) throw misused(`${name.toUpperCase()} is missing`, word);
   }
   if (members.includes('lists')) left.splice(0).forEach((it, n) => values.push([`list ${n + 1}`, it]));
-  for (const name of word.optional ?? []) if (given[name] !== undefined) values.push([name, given[name]]);
+  for (const name of word.optional ?? []) {
+    const value = given[name];
+    if (value !== undefined) values.push([name, value]);
+  }
   const isMany = takesSources(word) || members.includes('reports'), sources = isMany ? left.splice(0) : [];
   if (left.length > 0) throw misused(`one word too many: ${left[0]}`, word);
   const isEmpty = sources.length === 0 && given.requests === undefined;

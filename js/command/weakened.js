@@ -120,6 +120,12 @@ const sentenceOf = ({ verdict, uncovered, accepted }, names) => {
 };
 
 /**
+ * @param {boolean} isAccepted
+ * @returns {Finding['level']}
+ */
+const levelOf = isAccepted => isAccepted ? 'warning' : 'error';
+
+/**
  * @param {Weakening} answer
  * @param {{ new: string, old: string }} names
  * @param {number} line that of the first policy
@@ -129,11 +135,11 @@ const findingsOf = ({ uncovered, directives }, names, line) => {
   const at = { file: names.new, line };
   return [
     ...uncovered.filter(it => it.loosens).map(it => ({
-      ...at, rule: it.directive, level: /** @type {const} */ (it.accepted === undefined ? 'error' : 'warning'),
+      ...at, rule: it.directive, level: levelOf(it.accepted !== undefined),
       message: `${it.directive} is ${it.change}, which no proof covers. It was: ${plain(it.old) || 'absent'}`,
     })),
     ...directives.filter(it => it.allowed !== undefined).map(it => ({
-      ...at, rule: it.directive, level: /** @type {const} */ (isAccepted(it) ? 'warning' : 'error'),
+      ...at, rule: it.directive, level: levelOf(isAccepted(it)),
       message: `${it.directive} is weaker: ${plain(textOf(it.left ?? it.allowed))} is now allowed, which ${names.old} blocks`,
     })),
   ];
