@@ -32,7 +32,7 @@ pub trait Take {
     /// Takes the request of this number, counted from 1, with no more than is wanted of it.
     fn take(&mut self, alloc: Global, number: u32, request: Described) -> Result<(), Memory>
         requires { All IsValidCheck request.checks }
-        ensures wants { wants self.new ≡ wants self.old }
+        ensures wants { OnOk result (wants self.new ≡ wants self.old) }
         ensures took { OnOk result ((first : Self) (before : Items Request) (whole : Request)
             → Took first before self.old → number ≡ length before + 1
             → IsPartOf (wants self.old) request whole → Took first (before ++ whole ∷ []) self.new) };
