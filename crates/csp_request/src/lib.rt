@@ -23,7 +23,7 @@ pub use description::{describe, describe_for};
 pub use error::{CheckError, DescriptionError, RequestError};
 pub use field::Field;
 pub use kind::{Kind, inline_text};
-pub use requests::{Requests, read_requests};
+pub use requests::read_requests;
 pub use taking::{Take, each};
 pub use texts::ReportTexts;
 pub use wanted::Wanted;

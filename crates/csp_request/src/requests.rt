@@ -22,7 +22,7 @@ const REQUEST_LIMIT: usize = 10000;
 /// 10,000 (RFC 8259). What they describe isn't looked at. Contracts see the tokens that are left, and how
 /// many descriptions they may hold.
 #[derive(Drop)]
-pub struct Requests<'a> {
+pub(crate) struct Requests<'a> {
     reader: ArrayReader<'a>,
     limit: usize,
 }
