@@ -8,11 +8,8 @@ use Rattle.std.proofs.lemmas.List.Elements.{filter-append, filter_map-append}
 use Rattle.std.proofs.lemmas.Slice.Eq.{bytes_eq-Decides}
 use Rattle.csp_model.specs.Policies.{directive_of, firsts, same_name}
 use Rattle.csp_model.specs.declared.policy.Directive.{Directive}
+use Rattle.csp_policy.specs.Fates.{has_name}
 use Rattle.csp_policy.specs.Room.{if_first}
-
--- a directive has this name
-abbrev pub has_name : List ℕ → List Directive → Bool
-has_name name ds = list_any (λ (d : Directive). bytes_eq name d.name) ds
 
 -- the directives of these pieces
 abbrev pub found : List (Bor (List ℕ)) → List Directive

@@ -14,18 +14,11 @@ use Rattle.std.proofs.lemmas.List.Elements.{filter-append}
 use Rattle.std.proofs.lemmas.Slice.Eq.{bytes_eq-Decides}
 use Rattle.csp_model.specs.Policies.{is_for_meta}
 use Rattle.csp_model.specs.declared.policy.Directive.{Directive}
-use Rattle.csp_policy.specs.Names.{folded}
+use Rattle.csp_policy.specs.Fates.{has_name}
+use Rattle.csp_policy.specs.Names.{folded, name_cmp, Knows}
 use Rattle.csp_policy.specs.Room.{kept_of, if_first}
 use Rattle.csp_policy.specs.declared.caseless_name.CaselessName.{CaselessName}
-use Rattle.csp_policy.proofs.Firsts.{has_name, is_new}
-
--- the order of names
-abbrev pub name_cmp : CaselessName → CaselessName → Ordering
-name_cmp a b = slice_cmp nat_cmp (folded a) (folded b)
-
--- the set has the names of these directives
-abbrev pub Knows : BTreeSet CaselessName → List Directive → Type 0
-Knows seen ds = (q : CaselessName) → set.contains name_cmp seen q ≡ has_name (folded q) ds
+use Rattle.csp_policy.proofs.Firsts.{is_new}
 
 bytes_eq_turned : (a b : List ℕ) → bytes_eq a b ≡ bytes_eq b a
 bytes_eq_turned a b = elim (bytes_eq a b) as (λ t. bytes_eq a b ≡ t → t ≡ bytes_eq b a) [
