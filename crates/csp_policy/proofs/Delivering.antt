@@ -1,16 +1,16 @@
 -- What becomes of the pieces of a block, and its policies.
-use Rattle.std.proofs.Common.{arith, ◌≡◌, ◌∙◌, sym, ap, refl, ℕ, ◌+◌, ◌≤◌, Bool, true, false, cond, List, [], ◌∷◌, ◌++◌, length, map, append-nil, append_assoc, codes, length-append}
+use Rattle.std.proofs.Common.{arith, ◌≡◌, ◌∙◌, sym, ap, refl, ℕ, ◌+◌, Bool, true, false, cond, List, [], ◌∷◌, ◌++◌, length, map, append-nil, append_assoc, codes}
 use Rattle.std.specs.List.{cons_option, filter, filter_map, flat_map}
 use Rattle.std.specs.Str.{bytes_eq}
 use Rattle.std.proofs.lemmas.Grind.{flat_map-append}
-use Rattle.csp_model.specs.Ascii.{is_nonempty, lower, split_at, words}
+use Rattle.csp_model.specs.Ascii.{lower, split_at}
 use Rattle.csp_model.specs.Policies.{Line, Skipped, Bad, Header, directives_of, firsts, is_for_meta, policies_in, policies_of, policy_with}
 use Rattle.csp_model.specs.declared.policy.Directive.{Directive}
 use Rattle.csp_model.specs.declared.policy.Disposition.{Disposition}
 use Rattle.csp_model.specs.declared.policy.Disposition.TheVariants.{Enforce, Report}
 use Rattle.csp_model.specs.declared.policy.Policy.{Policy}
 use Rattle.csp_model.specs.declared.url.Origin.{Origin}
-use Rattle.csp_policy.specs.Fates.{Serialized, between_commas, delivered_as, delivered_by, delivered_from, delivery_of, fate_of, fates, fates_behind, kept}
+use Rattle.csp_policy.specs.Fates.{Serialized, delivered_as, delivered_by, delivered_from, delivery_of, fate_of, fates, fates_behind, kept}
 use Rattle.csp_policy.specs.Delivered.{policy_kept}
 use Rattle.csp_policy.specs.Room.{kept_of}
 use Rattle.csp_policy.specs.declared.fate.Fate.{Fate}

@@ -11,7 +11,7 @@ use Rattle.csp_model.specs.Policies.{directive_of, directive_of_words, firsts, i
 use Rattle.csp_model.specs.declared.policy.Directive.{Directive}
 use Rattle.csp_policy.specs.Fates.{fate_of, fate_with, fates_behind, has_name}
 use Rattle.csp_policy.specs.Names.{folded, name_cmp, KnowsNames}
-use Rattle.csp_policy.specs.Room.{kept_of, if_first}
+use Rattle.csp_policy.specs.Room.{kept_of}
 use Rattle.csp_policy.specs.declared.caseless_name.CaselessName.{CaselessName}
 use Rattle.csp_policy.specs.declared.fate.Fate.{Fate}
 use Rattle.csp_policy.specs.declared.fate.Fate.TheVariants.{Empty, Dropped, Kept}

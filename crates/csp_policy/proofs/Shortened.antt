@@ -1,5 +1,5 @@
 -- Directives that are read with room for so many tokens.
-use Rattle.std.proofs.Common.{arith, ◌≡◌, ◌∙◌, sym, ap, subst, ℕ, Bool, true, false, append-nil, ◌+◌, ◌-◌, ◌≤◌, List, [], ◌∷◌, ◌++◌, length, map, take, min, length-append}
+use Rattle.std.proofs.Common.{arith, ◌≡◌, ◌∙◌, sym, ap, ℕ, ◌+◌, ◌-◌, ◌≤◌, List, [], ◌∷◌, ◌++◌, length, map, take, min, length-append}
 use Rattle.std.proofs.lemmas.List.{take_all, length-take}
 use Rattle.std.proofs.lemmas.List.Sums.{sum_by_push}
 use Rattle.csp_model.specs.Ascii.{lower}

@@ -1,5 +1,5 @@
 //! The serialized policies of a header block (Content Security Policy Level 3, sections 3.1 to 3.3).
-ghost use Rattle.std.specs.Prelude.{◌≡◌, ◌<◌, ◌-◌, ◌^◌, ◌++◌, IfOk, OnOk, length, map};
+ghost use Rattle.std.specs.Prelude.{◌≡◌, ◌++◌, IfOk, OnOk, map};
 ghost use Rattle.csp_policy.specs.Delivered.{serialized_said};
 ghost use Rattle.csp_policy.specs.Fates as spec;
 
@@ -11,7 +11,7 @@ use std::alloc::Global;
 /// A serialized policy, and the line of the file that delivers it, counted from 1.
 #[derive(Clone, Copy, Debug)]
 pub struct SerializedPolicy<'a> {
-    pub line: u32,
+    pub line: u64,
     pub disposition: Disposition,
     /// Whether a meta element delivers it.
     pub meta: bool,
@@ -21,7 +21,7 @@ pub struct SerializedPolicy<'a> {
 // Adds the serialized policies between the commas of a header's value.
 fn add_between_commas<'a>(
     made: &mut Vec<SerializedPolicy<'a>>,
-    line: u32,
+    line: u64,
     disposition: Disposition,
     value: &'a [u8],
 ) -> Result<(), Memory>
@@ -69,7 +69,7 @@ pub(crate) fn delivery_of(name: &[u8]) -> Delivery
 // Adds the serialized policies that a header delivers.
 fn add_delivered<'a>(
     made: &mut Vec<SerializedPolicy<'a>>,
-    line: u32,
+    line: u64,
     name: &[u8],
     value: &'a [u8],
 ) -> Result<(), Memory>
@@ -97,7 +97,6 @@ pub fn serialized_policies<'a>(
     alloc: Global,
     bytes: &'a [u8],
 ) -> Result<Vec<SerializedPolicy<'a>>, Memory>
-    requires { length bytes.now < 2 ^ 32 - 1 }
     ensures { IfOk result (λ made. map serialized_said made.items ≡ spec.delivered bytes.now) }
 {
     let mut made = Vec::new(alloc);

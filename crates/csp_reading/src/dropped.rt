@@ -23,7 +23,7 @@ fn decoded(alloc: Global, bytes: &[u8]) -> Result<String, Memory>
 fn write_dropped(
     out: &mut Writer,
     shown: &str,
-    line: u32,
+    line: u64,
     reason: &str,
     utf8: bool,
 ) -> Result<(), AllocError>
@@ -35,7 +35,7 @@ fn write_dropped(
     out.key("dropped")?;
     out.string(shown)?;
     out.key("line")?;
-    out.u64(u64::from(line))?;
+    out.u64(line)?;
     out.key("reason")?;
     out.string(reason)?;
     if !utf8 {
@@ -51,7 +51,7 @@ pub(crate) fn append_dropped(
     alloc: Global,
     text: Vec<u8>,
     piece: &[u8],
-    line: u32,
+    line: u64,
     reason: &str,
 ) -> Result<Vec<u8>, Memory>
     ensures { IfOk result

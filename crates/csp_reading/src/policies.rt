@@ -93,7 +93,7 @@ fn write_front(
     out.key("policy")?;
     out.u64(number)?;
     out.key("line")?;
-    out.u64(u64::from(policy.line))?;
+    out.u64(policy.line)?;
     out.key("disposition")?;
     out.string(policy.disposition.as_str())?;
     out.key("meta")?;

@@ -1,5 +1,5 @@
 //! What is told of a whole policy file.
-ghost use Rattle.std.specs.Prelude.{◌≡◌, ◌<◌, ◌-◌, ◌^◌, ◌++◌, IfOk, length, map};
+ghost use Rattle.std.specs.Prelude.{◌≡◌, ◌++◌, IfOk, map};
 ghost use Rattle.std.specs.List.{filter_map, flat_map};
 ghost use Rattle.csp_model.specs.Ascii.{is_nonempty};
 ghost use Rattle.csp_policy.specs.Delivered.{piece_said, serialized_said};
@@ -29,7 +29,7 @@ fn has_kept(pieces: &[Piece<'_>]) -> bool
 fn append_pieces(
     alloc: Global,
     text: Vec<u8>,
-    line: u32,
+    line: u64,
     pieces: &[Piece<'_>],
 ) -> Result<Vec<u8>, Memory>
     ensures { IfOk result (λ made. made.items ≡ text.items
@@ -79,7 +79,6 @@ fn append_told(
 /// semicolons that is dropped, are told with their text, line and the reason. The pieces of a policy follow it.
 /// Text that isn't UTF-8 is shown a code point for each byte, and told as such.
 pub fn reading(alloc: Global, bytes: &[u8]) -> Result<Bytes, Memory>
-    requires { length bytes.now < 2 ^ 32 - 1 }
     ensures { IfOk result (λ text. text ≡ reading_text bytes.now) }
 {
     let policies = serialized_policies(alloc, bytes)?;

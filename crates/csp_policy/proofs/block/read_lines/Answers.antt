@@ -1,11 +1,9 @@
-use Rattle.std.proofs.Common.{arith, ◌∙◌, ◌==◌, ◌+◌, ◌≤◌, ℕ, Bool, true, false, List, cond, length, drop, codes, nat_eq, length-drop, le_refl, sym, ap, subst, refl, inr, Some, append-nil}
-use Rattle.std.specs.List.{flat_map, position_from, starts_with}
+use Rattle.std.proofs.Common.{arith, ◌∙◌, ◌+◌, length, sym, ap, subst, refl, inr, Some, append-nil}
+use Rattle.std.specs.List.{flat_map, position_from}
 use Rattle.std.proofs.lemmas.List.{length_push}
-use Rattle.std.proofs.lemmas.List.Splits.{length-slice_split}
-use Rattle.std.proofs.lemmas.List.Sums.{count_by-le-length}
 use Rattle.std.proofs.lemmas.Iterator.Consumers.{YieldsList-at, YieldsList-end, YieldsList-from_first}
 use Rattle.csp_model.specs.Ascii.{split_at}
-use Rattle.csp_model.specs.Policies.{Skipped, Header, policies, policies_of, is_bad, without_status}
+use Rattle.csp_model.specs.Policies.{Skipped, Header, policies, policies_of, is_bad}
 use Rattle.csp_policy.specs.Pieces.{pieces_left}
 use Rattle.csp_policy.specs.Room.{AreRead}
 use Rattle.csp_policy.specs.Refusal.{refusal_at}

@@ -1,4 +1,4 @@
-use Rattle.std.proofs.Common.{arith, ◌≡◌, ◌∙◌, sym, ap, ℕ, ◌+◌, ◌≤◌, List, length, Result, Ok, Err, IfOk}
+use Rattle.std.proofs.Common.{arith, ◌∙◌, ℕ, ◌+◌, ◌≤◌, List, length, Result, Ok, Err, IfOk}
 use Rattle.std.specs.Char.{is_ascii_whitespace}
 use Rattle.std.proofs.lemmas.List.Splits.{length-slice_split}
 use Rattle.std.proofs.lemmas.List.Sums.{count_by-le-length, length-filter}

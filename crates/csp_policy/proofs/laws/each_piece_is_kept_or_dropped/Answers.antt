@@ -1,9 +1,10 @@
-use Rattle.std.proofs.Common.{◌≡◌, ◌∙◌, ap, refl, ℕ, Bool, true, false, cond, not, ◌||◌, List, [], ◌∷◌, ◌++◌, map}
+use Rattle.std.proofs.Common.{arith, ◌≡◌, ◌∙◌, ap, refl, ℕ, Bool, true, false, cond, not, ◌||◌, List, [], ◌∷◌, ◌++◌, map}
 use Rattle.std.specs.List.{filter}
 use Rattle.csp_model.specs.Ascii.{is_ascii_text, is_nonempty, split_at, words}
-use Rattle.csp_model.specs.Policies.{directive_of, directive_of_words, firsts, is_for_meta}
+use Rattle.csp_model.specs.Policies.{directive_of_words, firsts, is_for_meta}
 use Rattle.csp_model.specs.declared.policy.Directive.{Directive}
 use Rattle.csp_policy.specs.Fates.{fate_of, fate_with, fates_behind, has_name, has_text, is_told, piece_text}
+use Rattle.csp_policy.specs.Room.{directive_with}
 use Rattle.csp_policy.specs.declared.fate.Fate.{Fate}
 use Rattle.csp_policy.specs.declared.fate.Fate.TheVariants.{Dropped}
 use Rattle.csp_policy.specs.declared.fate.Reason.TheVariants.{NotAscii}
@@ -22,7 +23,10 @@ chosen_told x false false d = refl
 by_words : (x : List ℕ) (meta : Bool) (ds : List Directive) (ws : List (List ℕ))
     → is_nonempty ws ≡ is_told (x, fate_with meta ds (directive_of_words ws))
 by_words x meta ds [] = refl
-by_words x meta ds (w ∷ ws) = chosen_told x _ _ _
+by_words x meta ds (w ∷ ws) =
+    let d : Directive = directive_with w ws in
+    let some : is_nonempty (w ∷ ws) ≡ true = grind (arith) in
+    some ∙ chosen_told x (has_name d.name ds) (not meta || is_for_meta d) d
 
 by_ascii : (x : List ℕ) (meta : Bool) (ds : List Directive) (ws : List (List ℕ)) (ascii : Bool)
     → (not ascii || is_nonempty ws) ≡ is_told (x, cond ascii (fate_with meta ds (directive_of_words ws)) (Dropped NotAscii))

@@ -1,4 +1,4 @@
-use Rattle.std.proofs.Common.{◌≡◌, ◌∙◌, sym, ap, ℕ, false, List, [], ◌∷◌, ◌++◌, map, append_assoc, Bor}
+use Rattle.std.proofs.Common.{◌∙◌, sym, ap, ℕ, false, List, [], ◌∷◌, ◌++◌, map, append_assoc, Bor}
 use Rattle.std.proofs.lemmas.List.{map_push}
 use Rattle.std.proofs.lemmas.Iterator.Consumers.{YieldsList-at, YieldsList-end, YieldsList-from_first}
 use Rattle.csp_model.specs.Ascii.{split_at}

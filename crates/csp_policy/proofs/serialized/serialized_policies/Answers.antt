@@ -19,7 +19,7 @@ overflow_add-number c =
     let few = few_lines c.args.bytes.now in
     let all = ap (λ t. length (split_at 10 t)) c.without_status.ensures in
     let number = c.loop-line.invariant.number in
-    let short = c.requires in
+    let short = c.type_inv.bytes in
     omega arith
 
 pub returns : goal.returns
