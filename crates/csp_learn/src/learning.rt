@@ -1,5 +1,5 @@
 //! Learns a policy from a log, one request after the other.
-ghost use Rattle.std.specs.Prelude.{◌≡◌, ◌+◌, ◌<◌, ◌≤◌, ◌^◌, ◌∷◌, ◌++◌, [], All, Any, IfOk, OnOk, length, List as Items};
+ghost use Rattle.std.specs.Prelude.{◌≡◌, ◌+◌, ◌<◌, ◌≤◌, ◌∷◌, ◌++◌, [], All, IfOk, OnOk, length, List as Items};
 ghost use Rattle.std.specs.List.Sorted.{IsStrictlySortedBy};
 ghost use Rattle.csp_model.specs.Validity.{IsValidCheck};
 ghost use Rattle.csp_model.specs.declared.verdict.Described.{Described as Request};
@@ -49,20 +49,20 @@ impl Learning {
         }
     }
 
-    // Reads a check, the one behind so many of its request.
+    // Reads the check of this number of its request. A request with more checks than a `u32` counts takes more
+    // memory than there is.
     fn push_check(
         &mut self,
         alloc: Global,
         request: u32,
-        before: usize,
+        number: usize,
         check: &Check,
     ) -> Result<(), Memory>
-        requires valid { IsValidCheck check.now }
-        requires few { log.IsFetch check.now → before + 1 < 2 ^ 32 }
+        requires { IsValidCheck check.now }
         ensures needs { OnOk result
             (self.new.needs ≡ spec.with_need self.old.needs (spec.need_of check.now)) }
         ensures left { OnOk result
-            (self.new.left ≡ self.old.left ++ log.left_at request (before + 1) check.now) }
+            (self.new.left ≡ self.old.left ++ log.left_at request number check.now) }
     {
         let Check::Fetch { group, url, .. } = check else {
             return Ok(());
@@ -72,10 +72,12 @@ impl Learning {
                 let directive = DirectiveName::new(group.directive());
                 self.needs.insert(Need { directive, token })?;
             }
-            None => self.left.push(Place {
-                request,
-                check: (before + 1) as u32,
-            })?,
+            None => {
+                let Ok(check) = u32::try_from(number) else {
+                    return Err(Memory);
+                };
+                self.left.push(Place { request, check })?;
+            }
         }
         Ok(())
     }
@@ -83,13 +85,12 @@ impl Learning {
     /// Reads the request of this number, counted from 1. After `Memory` a part of the request may have been
     /// read.
     pub fn push(&mut self, alloc: Global, request: u32, described: &Described) -> Result<(), Memory>
-        requires valid { All IsValidCheck described.now.checks }
-        requires few { Any log.IsFetch described.now.checks → length described.now.checks < 2 ^ 32 }
+        requires { All IsValidCheck described.now.checks }
         ensures { OnOk result ((requests : Items Request) → self.old ≡ log.lesson_of requests
             → request ≡ length requests + 1 → self.new ≡ log.lesson_of (requests ++ described.now ∷ [])) }
     {
         for (before, check) in described.checks.as_slice().iter().enumerate() {
-            self.push_check(alloc, request, before, check)?;
+            self.push_check(alloc, request, before + 1, check)?;
         }
         Ok(())
     }

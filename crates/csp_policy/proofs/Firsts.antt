@@ -1,6 +1,6 @@
 -- The first directives of a list to which one more is added at its end.
 use Rattle.std.proofs.Common.{arith, ◌≡◌, ◌∙◌, sym, ap, refl, ℕ, Bool, true, false, ◌&&◌, not, List, [], ◌∷◌, ◌++◌, append-nil, Bor, map, Some, None}
-use Rattle.std.specs.List.{list_any, filter, filter_map, cons_option}
+use Rattle.std.specs.List.{filter, filter_map, cons_option}
 use Rattle.std.specs.Str.{bytes_eq}
 use Rattle.std.proofs.lemmas.Grind.{common_steps}
 use Rattle.std.proofs.lemmas.List.{map_push}
@@ -8,11 +8,8 @@ use Rattle.std.proofs.lemmas.List.Elements.{filter-append, filter_map-append}
 use Rattle.std.proofs.lemmas.Slice.Eq.{bytes_eq-Decides}
 use Rattle.csp_model.specs.Policies.{directive_of, firsts, same_name}
 use Rattle.csp_model.specs.declared.policy.Directive.{Directive}
+use Rattle.csp_policy.specs.Fates.{has_name}
 use Rattle.csp_policy.specs.Room.{if_first}
-
--- a directive has this name
-abbrev pub has_name : List ℕ → List Directive → Bool
-has_name name ds = list_any (λ (d : Directive). bytes_eq name d.name) ds
 
 -- the directives of these pieces
 abbrev pub found : List (Bor (List ℕ)) → List Directive

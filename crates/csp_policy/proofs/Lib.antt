@@ -1,3 +1,5 @@
+pub mod Delivering
+pub mod Fated
 pub mod FirstWord
 pub mod Firsts
 pub mod Joined

@@ -1,13 +1,16 @@
 -- The lines of a block so far, and the first bad one.
-use Rattle.std.proofs.Common.{arith, ◌≡◌, ◌∙◌, sym, ap, refl, ℕ, ◌+◌, ◌<◌, false, Bor, List, [], ◌∷◌, ◌++◌, length, map, take, drop, get_or, Option, Some, None, append_assoc}
-use Rattle.std.specs.List.{flat_map, position_from}
+use Rattle.std.proofs.Common.{arith, ◌≡◌, ◌∙◌, sym, ap, refl, ℕ, ◌+◌, ◌<◌, ◌≤◌, ◌==◌, Bool, true, false, cond, Bor, List, [], ◌∷◌, ◌++◌, length, length-drop, le_refl, map, take, drop, get_or, Option, Some, None, append_assoc, codes, nat_eq}
+use Rattle.std.specs.List.{flat_map, position_from, starts_with}
 use Rattle.std.specs.Str.Lines.{strip_carriage_return}
 use Rattle.std.proofs.lemmas.Grind.{common_steps}
 use Rattle.std.proofs.lemmas.List.{map_push, map-append, flat_map_more, take_more, take-append-drop}
+use Rattle.std.proofs.lemmas.List.Splits.{length-slice_split}
+use Rattle.std.proofs.lemmas.List.Sums.{count_by-le-length}
 use Rattle.std.proofs.lemmas.Iterator.{YieldsList}
 use Rattle.std.proofs.lemmas.Iterator.Consumers.{YieldsList-so_far, YieldsList-turn}
 use Rattle.std.specs.Iterator.{Yields}
-use Rattle.csp_model.specs.Policies.{Line, Skipped, Bad, Header, line_of, is_bad, policies_of}
+use Rattle.csp_model.specs.Ascii.{split_at}
+use Rattle.csp_model.specs.Policies.{Line, Skipped, Bad, Header, line_of, is_bad, policies_of, without_status}
 use Rattle.csp_model.specs.declared.url.Origin.{Origin}
 
 -- what the lines say
@@ -55,7 +58,7 @@ says_at parts i d h =
     ∙ ap (λ front. front ++ says (drop (i + 1) parts)) (ap says (take_more parts i d h) ∙ says_more (take i parts) (get_or parts i d))
     ∙ append_assoc (says (take i parts)) (line_of (strip_carriage_return (get_or parts i d)) ∷ []) (says (drop (i + 1) parts))
 
-said_length : (lines : List (Bor (List ℕ))) → 1 + length (said lines) ≡ length lines + 1
+pub said_length : (lines : List (Bor (List ℕ))) → 1 + length (said lines) ≡ length lines + 1
 said_length [] = refl
 said_length (line ∷ lines) = let ih = said_length lines in omega arith
 
@@ -72,3 +75,15 @@ pub at_turn : {S A B : Type 0} {steps : S → Option A → S → Type 0} {v : A 
     → (r : Option A) (u : S) (x : A) → r ≡ Some x → steps t r u
     → (map v xs ≡ take (length xs) all) × ((length xs < length all) × (v x ≡ get_or all (length xs) (v x)))
 at_turn e xs t y r u x is step = (YieldsList-so_far e xs t y, YieldsList-turn e xs t y r u x is step)
+
+-- a text has no more lines than bytes, but for one
+pub few_lines : (bytes : List ℕ) → length (split_at 10 (without_status bytes)) ≤ length bytes + 1
+few_lines bytes =
+    let lines = length-slice_split (λ b. b == 10) (without_status bytes) in
+    let feeds = count_by-le-length (λ b. b == 10) (without_status bytes) in
+    let short : length (without_status bytes) ≤ length bytes = shorter (starts_with nat_eq bytes (codes "HTTP/")) _ bytes in
+    omega arith
+  where
+    shorter : (b : Bool) (n : ℕ) (bytes : List ℕ) → length (cond b (drop n bytes) bytes) ≤ length bytes
+    shorter true n bytes = let less = length-drop n bytes in omega arith
+    shorter false n bytes = le_refl (length bytes)

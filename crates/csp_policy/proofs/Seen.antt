@@ -2,9 +2,6 @@
 use Rattle.std.proofs.Common.{arith, ◌≡◌, ◌∙◌, sym, ap, refl, ℕ, Bool, true, false, ◌||◌, append-nil, not, cond, List, [], ◌∷◌, ◌++◌}
 use Rattle.std.specs.List.{filter}
 use Rattle.std.specs.Str.{bytes_eq}
-use Rattle.std.specs.Ordering.{nat_cmp}
-use Rattle.std.specs.Cmp.Lexicographic.{slice_cmp}
-use Rattle.std.specs.declared.cmp.Ordering.{Ordering}
 use Rattle.std.specs.BTreeMap.{is_at}
 use Rattle.std.specs.BTreeSet as set
 use Rattle.std.specs.BTreeSet.{BTreeSet}
@@ -14,18 +11,11 @@ use Rattle.std.proofs.lemmas.List.Elements.{filter-append}
 use Rattle.std.proofs.lemmas.Slice.Eq.{bytes_eq-Decides}
 use Rattle.csp_model.specs.Policies.{is_for_meta}
 use Rattle.csp_model.specs.declared.policy.Directive.{Directive}
-use Rattle.csp_policy.specs.Names.{folded}
+use Rattle.csp_policy.specs.Fates.{has_name}
+use Rattle.csp_policy.specs.Names.{folded, name_cmp, Knows}
 use Rattle.csp_policy.specs.Room.{kept_of, if_first}
 use Rattle.csp_policy.specs.declared.caseless_name.CaselessName.{CaselessName}
-use Rattle.csp_policy.proofs.Firsts.{has_name, is_new}
-
--- the order of names
-abbrev pub name_cmp : CaselessName → CaselessName → Ordering
-name_cmp a b = slice_cmp nat_cmp (folded a) (folded b)
-
--- the set has the names of these directives
-abbrev pub Knows : BTreeSet CaselessName → List Directive → Type 0
-Knows seen ds = (q : CaselessName) → set.contains name_cmp seen q ≡ has_name (folded q) ds
+use Rattle.csp_policy.proofs.Firsts.{is_new}
 
 bytes_eq_turned : (a b : List ℕ) → bytes_eq a b ≡ bytes_eq b a
 bytes_eq_turned a b = elim (bytes_eq a b) as (λ t. bytes_eq a b ≡ t → t ≡ bytes_eq b a) [

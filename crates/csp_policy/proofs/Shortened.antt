@@ -1,11 +1,11 @@
 -- Directives that are read with room for so many tokens.
-use Rattle.std.proofs.Common.{arith, ◌≡◌, ◌∙◌, sym, ap, subst, ℕ, Bool, true, false, append-nil, ◌+◌, ◌-◌, ◌≤◌, List, [], ◌∷◌, ◌++◌, length, map, take, min, length-append}
+use Rattle.std.proofs.Common.{arith, ◌≡◌, ◌∙◌, sym, ap, ℕ, ◌+◌, ◌-◌, ◌≤◌, List, [], ◌∷◌, ◌++◌, length, map, take, min, length-append}
 use Rattle.std.proofs.lemmas.List.{take_all, length-take}
 use Rattle.std.proofs.lemmas.List.Sums.{sum_by_push}
 use Rattle.csp_model.specs.Ascii.{lower}
 use Rattle.csp_model.specs.Reading.{source_of}
 use Rattle.csp_model.specs.declared.policy.Directive.{Directive}
-use Rattle.csp_policy.specs.Room.{directive_with, shortened, if_first, tokens_in, AreShortened}
+use Rattle.csp_policy.specs.Room.{directive_with, shortened, tokens_in, AreShortened}
 
 tokens_more : (ds : List Directive) (d : Directive) → tokens_in (ds ++ d ∷ []) ≡ tokens_in ds + length d.tokens
 tokens_more ds d = sum_by_push (λ (d : Directive). length d.tokens) ds d
@@ -13,10 +13,12 @@ tokens_more ds d = sum_by_push (λ (d : Directive). length d.tokens) ds d
 abbrev directive_with_lower : List ℕ → List (List ℕ) → Directive
 directive_with_lower name tokens = record { name = name; tokens = tokens; sources = map source_of tokens }
 
-fits : (room : ℕ) (name : List ℕ) (tokens : List (List ℕ)) → length tokens ≤ room → shortened room (directive_with name tokens) ≡ directive_with name tokens
+-- with room for all
+pub fits : (room : ℕ) (name : List ℕ) (tokens : List (List ℕ)) → length tokens ≤ room → shortened room (directive_with name tokens) ≡ directive_with name tokens
 fits room name tokens h = ap (directive_with_lower (lower name)) (take_all room tokens h)
 
-one_shortened : (ds made : List Directive) (room now : ℕ) (name : List ℕ) (tokens : List (List ℕ)) → AreShortened ds made room now
+-- one more directive
+pub one_shortened : (ds made : List Directive) (room now : ℕ) (name : List ℕ) (tokens : List (List ℕ)) → AreShortened ds made room now
     → AreShortened (ds ++ directive_with name tokens ∷ []) (made ++ shortened now (directive_with name tokens) ∷ []) room (now - length tokens)
 one_shortened ds made room now name tokens h =
     let all = tokens_more ds (directive_with name tokens) in
@@ -31,18 +33,3 @@ one_shortened ds made room now name tokens h =
           let enough : length tokens ≤ now = omega arith in
           ap (λ ms. ms ++ shortened now (directive_with name tokens) ∷ []) (h.whole small) ∙ ap (λ d. ds ++ d ∷ []) (fits now name tokens enough);
     }
-
--- one more directive, which is the first of its name or counts for nothing
-pub more_shortened : (ds made : List Directive) (room now : ℕ) (name : List ℕ) (tokens : List (List ℕ)) (is_first : Bool) → AreShortened ds made room now
-    → AreShortened (ds ++ if_first is_first (directive_with name tokens)) (made ++ map (shortened now) (if_first is_first (directive_with name tokens))) room
-    (now - tokens_in (if_first is_first (directive_with name tokens)))
-more_shortened ds made room now name tokens true h =
-    let long : length tokens ≡ tokens_in (directive_with name tokens ∷ []) = omega arith in
-    subst (λ n. AreShortened (ds ++ directive_with name tokens ∷ []) (made ++ shortened now (directive_with name tokens) ∷ []) room (now - n)) long
-    (one_shortened ds made room now name tokens h)
-more_shortened ds made room now name tokens false h = record {
-  number = simp append-nil h.number;
-  left = simp append-nil (let left = h.left in omega arith);
-  kept = simp append-nil (let kept = h.kept in omega arith);
-  whole = simp append-nil h.whole;
-}

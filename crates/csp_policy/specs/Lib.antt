@@ -1,3 +1,5 @@
+pub mod Delivered
+pub mod Fates
 pub mod Fields
 pub mod HeaderLines
 pub mod Lines
@@ -6,3 +8,4 @@ pub mod Pieces
 pub mod Reads
 pub mod Refusal
 pub mod Room
+pub mod Standings

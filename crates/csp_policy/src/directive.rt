@@ -1,11 +1,17 @@
 //! The directives of serialized policies (Content Security Policy Level 3, section 2.2.1).
-ghost use Rattle.std.specs.Prelude.{◌≡◌, ◌-◌, IfOk, OnOk, IfSome, MatchOption, None, Some, true, not, ◌||◌, ◌++◌, [], length, map, take};
+ghost use Rattle.std.specs.Prelude.{◌≡◌, ℕ, ◌-◌, IfOk, OnOk, IfSome, MatchOption, None, Some, true, not, ◌||◌, ◌++◌, ◌∷◌, [], if◌then◌else◌, length, map, take, List as Items};
 ghost use Rattle.csp_model.specs.Ascii.{is_ascii_text, words};
 ghost use Rattle.csp_model.specs.Policies as spec;
 ghost use Rattle.csp_model.specs.Reading.{source_of};
-ghost use Rattle.csp_policy.specs.Room.{directive_with, shortened, kept_of, if_first, tokens_in, AreShortened};
+ghost use Rattle.csp_policy.specs.Fates as fates;
+ghost use Rattle.csp_policy.specs.Names.{KnowsNames};
+ghost use Rattle.csp_policy.specs.Room.{directive_with, shortened, kept_of, AreShortened};
+ghost use Rattle.csp_policy.specs.Standings.{standing_said, IsAsciiStanding};
+ghost use Rattle.csp_policy.specs.declared.directive.Standing.{Standing as StandingValue};
+ghost use Rattle.csp_policy.specs.declared.fate.Reason.{Reason as ReasonValue};
 
 use crate::caseless_name::CaselessName;
+use crate::fate::Reason;
 use crate::pieces::Pieces;
 use crate::words::{is_ascii, next_word};
 use csp_model::{Directive, List, Memory, Source, Text};
@@ -99,28 +105,70 @@ fn is_kept(meta: bool, name: CaselessName<'_>) -> bool
     !meta || is_for_meta(name)
 }
 
-// Adds the directive of this name and text, where it is the first of its name. A later one counts for
-// nothing.
-fn add_first(
-    alloc: Global,
-    made: &mut Vec<Directive>,
-    is_first: bool,
-    name: &[u8],
-    text: &[u8],
-    room: &mut usize,
-) -> Result<(), Memory>
+// What becomes of a piece, behind those before it.
+#[derive(Clone, Copy, Debug)]
+pub(crate) enum Standing<'a> {
+    Empty,
+    Dropped { reason: Reason },
+    // The name of a directive, and the text behind it.
+    Kept { name: &'a [u8], text: &'a [u8] },
+}
+
+// What becomes of a piece without a directive.
+fn without_directive<'a>(piece: &[u8]) -> Standing<'a>
+    ensures { result ≡ (if is_ascii_text piece.now then StandingValue.Empty
+        else StandingValue.Dropped ReasonValue.NotAscii) }
+{
+    if is_ascii(piece) {
+        Standing::Empty
+    } else {
+        Standing::Dropped {
+            reason: Reason::NotAscii,
+        }
+    }
+}
+
+// What becomes of a piece behind those whose names were seen. Its own name is seen too from then on.
+pub(crate) fn stand<'a>(
+    seen: &mut BTreeSet<CaselessName<'a>>,
+    meta: bool,
+    piece: &'a [u8],
+) -> Result<Standing<'a>, Memory>
+    ensures fate { IfOk result (λ standing. (before : Items (Items ℕ)) → KnowsNames seen.old before
+        → standing_said standing ≡ fates.fate_of meta before piece.now) }
+    ensures seen { OnOk result ((before : Items (Items ℕ)) → KnowsNames seen.old before
+        → KnowsNames seen.new (before ++ piece.now ∷ [])) }
+    ensures ascii { IfOk result IsAsciiStanding }
+{
+    let Some((name, text)) = split_name(piece) else {
+        return Ok(without_directive(piece));
+    };
+    let name = CaselessName { bytes: name };
+    let is_first = seen.insert(name)?;
+    if !is_first {
+        return Ok(Standing::Dropped {
+            reason: Reason::Duplicate,
+        });
+    }
+    if !is_kept(meta, name) {
+        return Ok(Standing::Dropped {
+            reason: Reason::NotInMeta,
+        });
+    }
+    Ok(Standing::Kept {
+        name: name.bytes,
+        text,
+    })
+}
+
+// The directive of this name and all words of a text.
+pub(crate) fn read_whole(alloc: Global, name: &[u8], text: &[u8]) -> Result<Directive, Memory>
     requires name { is_ascii_text name.now ≡ true }
     requires text { is_ascii_text text.now ≡ true }
-    ensures made { OnOk result (made.new.items ≡ made.old.items
-        ++ map (shortened room.old) (if_first is_first (directive_with name.now (words text.now)))) }
-    ensures left { OnOk result (room.new
-        ≡ room.old - tokens_in (if_first is_first (directive_with name.now (words text.now)))) }
+    ensures { IfOk result (λ made. made ≡ directive_with name.now (words text.now)) }
 {
-    if !is_first {
-        return Ok(());
-    }
-    made.push(read_directive(alloc, name, text, room)?)?;
-    Ok(())
+    let mut room = text.len() + 1;
+    read_directive(alloc, name, text, &mut room)
 }
 
 // The directives of a serialized policy, the first of each name, without those that a meta element loses.
@@ -137,13 +185,10 @@ pub(crate) fn read_directives(
     let mut seen = BTreeSet::new(alloc);
     let mut made = Vec::new(alloc);
     for piece in Pieces::new_short(value, b';') {
-        let Some((name, text)) = split_name(piece) else {
-            continue;
-        };
-        let name = CaselessName { bytes: name };
-        let is_first = seen.insert(name)?;
-        if is_kept(meta, name) {
-            add_first(alloc, &mut made, is_first, name.bytes, text, room)?;
+        match stand(&mut seen, meta, piece)? {
+            Standing::Empty => {}
+            Standing::Dropped { .. } => {}
+            Standing::Kept { name, text } => made.push(read_directive(alloc, name, text, room)?)?,
         }
     }
     Ok(List::from_vec(made))

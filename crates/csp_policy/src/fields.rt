@@ -9,7 +9,8 @@ use crate::pieces::Pieces;
 use csp_model::Memory;
 use std::alloc::Global;
 
-fn trimmed(text: &[u8]) -> &[u8]
+/// The text without ASCII whitespace at its ends.
+pub fn trimmed(text: &[u8]) -> &[u8]
     ensures { result.now ≡ spec.trimmed text.now }
 {
     text.trim_ascii()

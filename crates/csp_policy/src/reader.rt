@@ -10,6 +10,7 @@ use crate::directive::read_directives;
 use crate::error::BlockError;
 use crate::longest::longest_text;
 use crate::pieces::Pieces;
+use crate::serialized::{Delivery, delivery_of};
 use csp_model::{Disposition, Duplicate, List, Memory, Origin, Policy};
 use std::alloc::Global;
 
@@ -96,14 +97,15 @@ impl Reader {
         ensures { OnOk result
             (ReadsOn self.old self.new (spec.policies_of origin.now (spec.Header name.now value.now))) }
     {
-        if name.eq_ignore_ascii_case(b"content-security-policy") {
-            self.add_policies(alloc, origin, Disposition::Enforce, value)
-        } else if name.eq_ignore_ascii_case(b"content-security-policy-report-only") {
-            self.add_policies(alloc, origin, Disposition::Report, value)
-        } else if name.eq_ignore_ascii_case(b"meta-content-security-policy") {
-            self.add_policy(alloc, origin, Disposition::Enforce, true, value)
-        } else {
-            Ok(())
+        match delivery_of(name) {
+            Delivery::InHeader { disposition } => self.add_policies(
+                alloc,
+                origin,
+                disposition,
+                value,
+            ),
+            Delivery::InMeta => self.add_policy(alloc, origin, Disposition::Enforce, true, value),
+            Delivery::Not => Ok(()),
         }
     }
 

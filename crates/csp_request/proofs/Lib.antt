@@ -1,8 +1,9 @@
 pub mod Hashed
-pub mod Each
+pub mod Forms
 pub mod Named
 pub mod Turns
 pub mod Untold
 pub mod OnlyCheck
 pub mod RequestTurns
 mod ReadOnce
+pub mod Parts

@@ -20,6 +20,11 @@ before_rest requests rest = result_map_both (λ more. requests ++ more) (λ e. e
 abbrev pub more_before : Data → Result (List Data) RequestError → Result (List Data) RequestError
 more_before value rest = result_map_both (λ values. value ∷ values) (λ e. e) rest
 
+-- before the first there is nothing
+pub nothing_before : (rest : Result (List Described) RequestError) → before_rest [] rest ≡ rest
+nothing_before (Ok more) = refl
+nothing_before (Err e) = refl
+
 one_more : (requests : List Described) (first : Described) (rest : Result (List Described) RequestError)
     → before_rest requests (before_others first rest) ≡ before_rest (requests ++ first ∷ []) rest
 one_more requests first (Ok more) = ap Ok (sym (append_assoc requests (first ∷ []) more))

@@ -5,3 +5,4 @@ pub mod Hops
 pub mod Kinds
 pub mod Described
 pub mod Requests
+pub mod Wanted

@@ -14,12 +14,16 @@ mod located;
 mod member;
 mod requests;
 mod sample;
+mod taking;
 mod texts;
+mod wanted;
 
 pub use check::read_check;
 pub use description::{describe, describe_for};
 pub use error::{CheckError, DescriptionError, RequestError};
 pub use field::Field;
 pub use kind::{Kind, inline_text};
-pub use requests::{Requests, read_requests};
+pub use requests::read_requests;
+pub use taking::{Take, each};
 pub use texts::ReportTexts;
+pub use wanted::Wanted;

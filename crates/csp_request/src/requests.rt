@@ -5,14 +5,13 @@ ghost use Rattle.std.specs.Result.{result_map_both};
 ghost use Rattle.csp_json.specs.View.{view};
 ghost use Rattle.csp_model.specs.Answers.{Gives};
 ghost use Rattle.csp_model.specs.Validity.{IsValidCheck};
-ghost use Rattle.csp_token.specs.Digests.{digests_of};
-ghost use Rattle.csp_request.specs.Described.{described};
 ghost use Rattle.csp_request.specs.Requests as spec;
 
-use crate::description::describe;
 use crate::error::{DescriptionError, RequestError};
+use crate::taking::{Take, each};
+use crate::wanted::Wanted;
 use csp_json::{ArrayReader, Scratch, Value};
-use csp_model::{Described, List};
+use csp_model::{Described, List, Memory};
 use std::alloc::Global;
 use std::marker::Model;
 
@@ -23,7 +22,7 @@ const REQUEST_LIMIT: usize = 10000;
 /// 10,000 (RFC 8259). What they describe isn't looked at. Contracts see the tokens that are left, and how
 /// many descriptions they may hold.
 #[derive(Drop)]
-pub struct Requests<'a> {
+pub(crate) struct Requests<'a> {
     reader: ArrayReader<'a>,
     limit: usize,
 }
@@ -99,34 +98,34 @@ impl DescriptionError {
     }
 }
 
-// The request that a description stands for, which is dropped.
-fn described(alloc: Global, value: Value<'_>) -> Result<Described, DescriptionError>
-    ensures described { Gives DescriptionError.Memory result (described (view value.entry)) }
-    ensures valid { IfOk result (λ made. All IsValidCheck made.checks) }
-{
-    describe(alloc, &value)
+// The requests that were taken.
+#[derive(Drop)]
+struct Kept {
+    requests: List<Described>,
 }
 
-// The requests of descriptions, in order.
-fn described_from(
-    alloc: Global,
-    mut requests: Requests<'_>,
-) -> Result<List<Described>, RequestError>
-    requires { requests.limit ≡ spec.request_limit }
-    ensures requests { Gives RequestError.Memory result
-        (spec.each_from digests_of 1 (spec.still requests.entry)) }
-    ensures valid { IfOk result (All (λ request. All IsValidCheck request.checks)) }
-{
-    let mut made = List::new(alloc);
-    let mut number = 0;
-    'requests: while let Some(value) = requests.next(alloc)? {
-        number += 1;
-        match described(alloc, value) {
-            Ok(described) => made.push(described)?,
-            Err(error) => return Err(requests.refusal(alloc, error.at(number))),
-        }
+impl Take for Kept {
+    ghost use Rattle.std.specs.Prelude.{◌≡◌, ◌++◌, All};
+    ghost use Rattle.std.proofs.Common.{append-nil, sym};
+    ghost use Rattle.csp_model.specs.Validity.{IsValidCheck};
+    ghost use Rattle.csp_model.specs.declared.verdict.Described.{Described as Request};
+    ghost use Rattle.csp_request.specs.Wanted.{all_wanted};
+
+    ghost wants = { λ kept. all_wanted };
+
+    ghost Took = { λ first taken kept. (kept.requests ≡ first.requests ++ taken)
+        × (All (λ (request : Request). All IsValidCheck request.checks) first.requests
+        → All (λ (request : Request). All IsValidCheck request.checks) kept.requests) };
+
+    fn wanted(&self) -> Wanted {
+        Wanted::ALL
     }
-    Ok(made)
+
+    fn take(&mut self, _: Global, _: u32, request: Described) -> Result<(), Memory> {
+        Ok(self.requests.push(request)?)
+    }
+
+    ghost none = { λ first. (sym (append-nil first.requests), λ valid. valid) };
 }
 
 /// The requests of a request file, each described. The first fault of the first description that has one
@@ -135,6 +134,9 @@ pub fn read_requests(alloc: Global, bytes: &[u8]) -> Result<List<Described>, Req
     ensures requests { Gives RequestError.Memory result (spec.requests_of bytes.now) }
     ensures valid { IfOk result (All (λ request. All IsValidCheck request.checks)) }
 {
-    let mut scratch = Scratch::new(alloc);
-    described_from(alloc, Requests::new(bytes, &mut scratch)?)
+    let mut kept = Kept {
+        requests: List::new(alloc),
+    };
+    each(alloc, bytes, &mut kept)?;
+    Ok(kept.requests)
 }

@@ -8,3 +8,4 @@ pub mod Reports
 pub mod Shown
 pub mod Texts
 pub mod Words
+pub mod Taken

@@ -1,8 +1,6 @@
--- What clauses of private functions cite: plans as contracts see them, contents that fit a form, verdicts on
--- single descriptions, requests described in part, what is printed, and what is left where the handing out of
--- violations stops.
+-- What clauses of private functions cite: plans as contracts see them, contents that fit a form, what is printed,
+-- and what is left where the handing out of violations stops.
 use Rattle.std.specs.Prelude.{◌≡◌, ℕ, ◌≤◌, ⊤, Bool, true, false, ◌&&◌, List, [], ◌∷◌, length, Result, Ok, Err}
-use Rattle.serde_json.specs.Data.{Data}
 use Rattle.std.specs.List.{flat_map, list_all}
 use Rattle.csp_embed.specs.Decisions.{alone}
 use Rattle.csp_desk.specs.Growth.{GrewInPart, MayRefuse, StopsAt}
@@ -11,7 +9,6 @@ use Rattle.csp_desk.specs.Texts.{desk_text}
 use Rattle.csp_desk.specs.declared.reporter.Kind.{Kind}
 use Rattle.csp_desk.specs.declared.desk.DeskError.{DeskError}
 use Rattle.csp_desk.specs.declared.desk.DeskError.TheVariants.{Refused, Memory}
-use Rattle.csp_learn.specs.Logs.{Lesson, lesson_of}
 use Rattle.csp_learn.specs.declared.error.LearnError.{LearnError}
 use Rattle.csp_learn.specs.declared.error.LearnError.TheVariants as learn_error
 use Rattle.csp_model.specs.Policies.{IsReadable}
@@ -31,16 +28,7 @@ use Rattle.csp_run.specs.declared.plan.Plan.{Plan as Held}
 use Rattle.csp_run.specs.declared.printed.Printed.{Printed}
 use Rattle.csp_run.specs.declared.printed.Printed.TheVariants as printed
 use Rattle.csp_output.specs.declared.status.Status.TheVariants.{Clean}
-use Rattle.csp_model.specs.Verdict.{verdict_of}
-use Rattle.csp_model.specs.declared.check.Digests.{Digests}
 use Rattle.csp_model.specs.declared.policy.PolicyList.{PolicyList}
-use Rattle.csp_model.specs.declared.verdict.Described.{Described}
-use Rattle.csp_model.specs.declared.verdict.Verdict.{Verdict}
-use Rattle.csp_request.specs.Requests.{each_from, refused_at}
-use Rattle.csp_request.specs.declared.error.DescriptionError.{DescriptionError}
-use Rattle.csp_request.specs.declared.error.RequestError.{RequestError}
-use Rattle.csp_token.specs.Digests.{digests_for}
-use Rattle.csp_token.specs.declared.digest.Algorithms.{Algorithms}
 use Rattle.csp_model.specs.declared.verdict.Violation.{Violation}
 use Rattle.csp_url.specs.declared.error.OriginError.{OriginError}
 use Rattle.csp_url.specs.declared.error.OriginError.TheVariants as origin_error
@@ -83,20 +71,6 @@ fits Differ (content.Policies first ∷ content.Policies second ∷ []) = true
 fits Order contents = takes Order (length contents) && list_all is_list contents
 fits form contents = false
 
--- the verdict on the description of this number, or its refusal
-abbrev pub verdict_on : PolicyList → ℕ → Result Described DescriptionError → Result Verdict RequestError
-verdict_on list number (Ok found) = Ok (verdict_of list found.checks)
-verdict_on list number (Err refused) = Err (refused_at number refused)
-
--- no digest of a source is computed
-abbrev pub hashed_not : List ℕ → Digests
-hashed_not source = digests_for source (record { sha256 = false; sha384 = false; sha512 = false })
-
--- what is learnt of these requests, or the refusal of their file
-abbrev pub lesson_in : Result (List Described) RequestError → Result Lesson RequestError
-lesson_in (Ok log) = Ok (lesson_of log)
-lesson_in (Err refused) = Err refused
-
 -- the fault of a log from which no policy is learnt
 abbrev pub learn_fault : LearnError → Fault
 learn_fault learn_error.TooManySources = fault.TooLarge Requests Sources
@@ -137,7 +111,3 @@ HasStopped (Refused reporter) all desk =
     StopsAt (Refused reporter) all desk.held_before desk.held_now desk.faults_before desk.faults_now
     × MayRefuse desk.may_refuse (Refused reporter)
 HasStopped Memory all desk = GrewInPart all desk.held_before desk.held_now
-
--- what descriptions stand for, with the digests of the wanted algorithms alone, or why their file is refused
-abbrev pub described_for : Algorithms → Result (List Data) RequestError → Result (List Described) RequestError
-described_for wanted found = each_from (λ source. digests_for source wanted) 1 found

@@ -2,19 +2,20 @@
 #![tactic(auto)]
 
 mod answer;
-mod explanation;
 mod fault;
 mod fault_text;
 mod files;
 mod gathered;
+mod judge;
 pub mod laws;
+mod learn;
 mod lists;
-mod log;
 mod output;
 mod plan;
 mod printed;
 mod report;
 mod top;
+mod why;
 
 pub use csp_output::{Status, exit_code};
 pub use top::run;

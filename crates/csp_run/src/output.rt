@@ -1,33 +1,27 @@
 //! What each command prints of what its files hold.
-ghost use Rattle.std.specs.Prelude.{◌≡◌, ◌≢◌, ◌⊎◌, ◌≤◌, ◌<◌, ◌^◌, IsTrue, All, length, map, if◌then◌else◌, List as Items};
-ghost use Rattle.csp_json.specs.View.{view};
+ghost use Rattle.std.specs.Prelude.{◌≡◌, ◌≢◌, ◌⊎◌, ◌≤◌, ◌<◌, ◌^◌, IsTrue, All, length, map, List as Items};
 ghost use Rattle.csp_desk.specs.Growth.{NoneFell};
 ghost use Rattle.csp_desk.specs.declared.reporter.Kind.{Kind};
 ghost use Rattle.csp_model.specs.Policies.{IsReadable};
 ghost use Rattle.csp_model.specs.declared.verdict.Violation.{Violation};
-ghost use Rattle.csp_request.specs.Described.{described};
-ghost use Rattle.csp_request.specs.Requests.{each_from, request_limit, requests_of, still};
-ghost use Rattle.csp_token.specs.Digests.{digests_of};
 ghost use Rattle.csp_run.specs.Desk.{desk as lent, IsUntouched};
 ghost use Rattle.csp_run.specs.Files.{file_limit};
-ghost use Rattle.csp_run.specs.Outputs.{GrewOn, IsCheck, IsOutput, judged};
-ghost use Rattle.csp_run.specs.Shown.{fits, IsSound, end_of, verdict_on};
+ghost use Rattle.csp_run.specs.Outputs.{GrewOn, IsCheck, IsOutput};
+ghost use Rattle.csp_run.specs.Shown.{fits, IsSound, end_of};
 
-use crate::explanation::explain;
 use crate::fault::{Fault, Role};
 use crate::files::Content;
+use crate::judge::judge;
+use crate::learn::learn;
 use crate::lists::order_lists;
-use crate::log::learn;
 use crate::plan::{Form, Plan};
 use crate::report::report;
+use crate::why::explain;
 use csp_desk::Reporter;
 use csp_differ::differ;
-use csp_json::{Scratch, Value};
-use csp_model::{PolicyList, Verdict};
-use csp_output::{Built, Response, Status, VerdictLines, check, compare, drill, embed, tidy};
+use csp_model::PolicyList;
+use csp_output::{Built, Response, check, compare, drill, embed, tidy};
 use csp_proof::ProofError;
-use csp_request::{ReportTexts, RequestError, Requests, describe_for};
-use csp_verdict::CompiledList;
 use std::alloc::Global;
 
 // What a command prints.
@@ -145,82 +139,5 @@ fn check_text(
         Ok(built) => Ok(built),
         Err(ProofError::BadProof { line }) => Err(Fault::BadProof { line }),
         Err(ProofError::Memory) => Err(Fault::Memory),
-    }
-}
-
-// The lines of the verdicts on the requests of a request file.
-fn judge(alloc: Global, list: &PolicyList, bytes: &[u8]) -> Result<Built, Fault>
-    requires { IsReadable list.now }
-    ensures { result ≢ Err Fault.Memory → result ≡ judged list.now (requests_of bytes.now) }
-{
-    let mut scratch = Scratch::new(alloc);
-    let requests = Requests::new(bytes, &mut scratch)?;
-    judge_each(alloc, list, requests)
-}
-
-// The lines of the verdicts on descriptions, each of which is described, judged and dropped in its turn.
-fn judge_each(alloc: Global, list: &PolicyList, mut requests: Requests<'_>) -> Result<Built, Fault>
-    requires readable { IsReadable list.now }
-    requires limit { requests.limit ≡ request_limit }
-    ensures { result ≢ Err Fault.Memory
-        → result ≡ judged list.now (each_from digests_of 1 (still requests.entry)) }
-{
-    let list = CompiledList::new(alloc, list)?;
-    let mut lines = VerdictLines::new(alloc);
-    let mut blocked = false;
-    let mut number = 0;
-    'requests: while let Some(request) = requests.next(alloc)? {
-        number += 1;
-        match judge_one(alloc, &list, number, request) {
-            Ok(verdict) => {
-                blocked |= verdict.blocked;
-                lines.push(alloc, number, verdict)?;
-            }
-            Err(error) => return Err(Fault::from(requests.refusal(alloc, error))),
-        }
-    }
-    Ok(Built {
-        status: judged_status(blocked),
-        text: lines.into_bytes(),
-    })
-}
-
-// The verdict on the description of this number, which is dropped.
-fn judge_one(
-    alloc: Global,
-    list: &CompiledList<'_>,
-    number: u32,
-    request: Value<'_>,
-) -> Result<Verdict, RequestError>
-    ensures { result ≢ Err RequestError.Memory
-        → result ≡ verdict_on list.now number (described (view request.entry)) }
-{
-    find_verdict(alloc, list, number, &request)
-}
-
-// The verdict on the description of this number. Only digests that some policy names are computed, and no
-// text that only a report shows is made.
-fn find_verdict(
-    alloc: Global,
-    list: &CompiledList<'_>,
-    number: u32,
-    request: &Value<'_>,
-) -> Result<Verdict, RequestError>
-    ensures { result ≢ Err RequestError.Memory
-        → result ≡ verdict_on list.now number (described (view request.now)) }
-{
-    match describe_for(alloc, request, list.algorithms(), ReportTexts::Empty) {
-        Ok(described) => Ok(list.judge(alloc, &described)?),
-        Err(error) => Err(error.at(number)),
-    }
-}
-
-fn judged_status(blocked: bool) -> Status
-    ensures { result ≡ (if blocked then Status.Found else Status.Clean) }
-{
-    if blocked {
-        Status::Found
-    } else {
-        Status::Clean
     }
 }

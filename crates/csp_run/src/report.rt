@@ -1,27 +1,55 @@
 //! What `report` does: it hands the violations of each request to a desk, whose reporters then tell of them.
 ghost use Rattle.std.specs.Prelude.{◌≡◌, ◌≢◌, ◌⊎◌, ◌≤◌, ◌<◌, ◌^◌, IfErr, OnOk, length, map, Ok, List as Items};
-ghost use Rattle.csp_json.specs.View.{view};
 ghost use Rattle.csp_desk.specs.Growth.{GrewInPart, NoneFell, all_grown};
-ghost use Rattle.csp_model.specs.Answers.{Gives};
 ghost use Rattle.csp_model.specs.Policies.{IsReadable};
 ghost use Rattle.csp_model.specs.declared.verdict.Violation.{Violation};
-ghost use Rattle.csp_request.specs.Described.{described_with};
-ghost use Rattle.csp_request.specs.Requests.{request_limit, requests_in, requests_of, still};
-ghost use Rattle.csp_token.specs.Digests.{digests_for};
+ghost use Rattle.csp_request.specs.Requests.{requests_of};
 ghost use Rattle.csp_run.specs.Desk.{desk as lent, IsUntouched};
 ghost use Rattle.csp_run.specs.Outputs.{IsReportOn};
 ghost use Rattle.csp_run.specs.Reports.{IsReport, all_violations, violations_in};
-ghost use Rattle.csp_run.specs.Shown.{HasStopped, described_for, end_of};
+ghost use Rattle.csp_run.specs.Shown.{HasStopped, end_of};
 
 use crate::fault::Fault;
 use crate::output::Outcome;
 use csp_desk::{DeskError, Reporter, hand_out};
-use csp_json::{Scratch, Value};
-use csp_model::{Described, List, PolicyList};
-use csp_request::{DescriptionError, ReportTexts, RequestError, Requests, describe_for};
-use csp_token::Algorithms;
+use csp_model::{Described, List, Memory, PolicyList};
+use csp_request::{ReportTexts, Take, Wanted, each};
 use csp_verdict::CompiledList;
 use std::alloc::Global;
+
+// The requests to report. All are read before the first violation is handed out, since a later one may be refused.
+#[derive(Drop)]
+struct Held<'a> {
+    list: CompiledList<'a>,
+    requests: List<Described>,
+}
+
+// Only digests that some policy names are computed.
+impl<'a> Take for Held<'a> {
+    ghost use Rattle.std.specs.Prelude.{◌≡◌, [], refl};
+    ghost use Rattle.std.proofs.Common.{ap};
+    ghost use Rattle.csp_request.specs.declared.texts.ReportTexts.{ReportTexts};
+    ghost use Rattle.csp_verdict.specs.Algorithms.{algorithms_of};
+    ghost use Rattle.csp_run.specs.Reports.{all_violations};
+
+    ghost wants = { λ held. record { digests = algorithms_of held.list; texts = ReportTexts.Made } };
+
+    ghost Took = { λ first requests held. (held.list ≡ first.list) × (first.requests ≡ []
+        → all_violations held.list held.requests ≡ all_violations held.list requests) };
+
+    fn wanted(&self) -> Wanted {
+        Wanted {
+            digests: self.list.algorithms(),
+            texts: ReportTexts::Made,
+        }
+    }
+
+    fn take(&mut self, _: Global, _: u32, request: Described) -> Result<(), Memory> {
+        Ok(self.requests.push(request)?)
+    }
+
+    ghost none = { λ first. (refl, λ none. ap (all_violations first.list) none) };
+}
 
 // The violations of all requests of a request file go to the desk, whose reporters then tell of them.
 pub(crate) fn report(
@@ -45,57 +73,14 @@ pub(crate) fn report(
         ≡ map (λ b. may_refuse b) desk.old.items }
     ensures later { NoneFell (map (λ b. faults b) desk.old.items) (map (λ b. faults b) desk.new.items) }
 {
-    let list = CompiledList::for_reports(alloc, list)?;
-    match read_requests_for(alloc, bytes, list.algorithms()) {
-        Ok(requests) => report_each(alloc, &list, requests.as_slice(), desk),
+    let mut held = Held {
+        list: CompiledList::for_reports(alloc, list)?,
+        requests: List::new(alloc),
+    };
+    match each(alloc, bytes, &mut held) {
+        Ok(()) => report_each(alloc, &held.list, held.requests.as_slice(), desk),
         Err(error) => Err(Fault::from(error)),
     }
-}
-
-// The requests of a request file, as `csp_request::read_requests` reads them, but with the digests of the
-// wanted algorithms alone. All are read before the first violation is handed out, since a later one may be
-// refused.
-fn read_requests_for(
-    alloc: Global,
-    bytes: &[u8],
-    wanted: Algorithms,
-) -> Result<List<Described>, RequestError>
-    ensures { Gives RequestError.Memory result (described_for wanted (requests_in bytes.now)) }
-{
-    let mut scratch = Scratch::new(alloc);
-    describe_each(alloc, Requests::new(bytes, &mut scratch)?, wanted)
-}
-
-fn describe_each(
-    alloc: Global,
-    mut requests: Requests<'_>,
-    wanted: Algorithms,
-) -> Result<List<Described>, RequestError>
-    requires { requests.limit ≡ request_limit }
-    ensures { Gives RequestError.Memory result (described_for wanted (still requests.entry)) }
-{
-    let mut made = List::new(alloc);
-    let mut number = 0;
-    'requests: while let Some(request) = requests.next(alloc)? {
-        number += 1;
-        match describe_one(alloc, request, wanted) {
-            Ok(described) => made.push(described)?,
-            Err(error) => return Err(requests.refusal(alloc, error.at(number))),
-        }
-    }
-    Ok(made)
-}
-
-// The request that a description stands for, which is dropped.
-fn describe_one(
-    alloc: Global,
-    request: Value<'_>,
-    wanted: Algorithms,
-) -> Result<Described, DescriptionError>
-    ensures { Gives DescriptionError.Memory result
-        (described_with (λ source. digests_for source wanted) (view request.entry)) }
-{
-    describe_for(alloc, &request, wanted, ReportTexts::Made)
 }
 
 // The violations of all these requests go to the desk.

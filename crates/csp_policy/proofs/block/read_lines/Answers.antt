@@ -1,28 +1,14 @@
-use Rattle.std.proofs.Common.{arith, ◌∙◌, ◌==◌, ◌+◌, ◌≤◌, ℕ, Bool, true, false, List, cond, length, drop, codes, nat_eq, length-drop, le_refl, sym, ap, subst, refl, inr, Some, append-nil}
-use Rattle.std.specs.List.{flat_map, position_from, starts_with}
+use Rattle.std.proofs.Common.{arith, ◌∙◌, ◌+◌, length, sym, ap, subst, refl, inr, Some, append-nil}
+use Rattle.std.specs.List.{flat_map, position_from}
 use Rattle.std.proofs.lemmas.List.{length_push}
-use Rattle.std.proofs.lemmas.List.Splits.{length-slice_split}
-use Rattle.std.proofs.lemmas.List.Sums.{count_by-le-length}
 use Rattle.std.proofs.lemmas.Iterator.Consumers.{YieldsList-at, YieldsList-end, YieldsList-from_first}
 use Rattle.csp_model.specs.Ascii.{split_at}
-use Rattle.csp_model.specs.Policies.{Skipped, Header, policies, policies_of, is_bad, without_status}
+use Rattle.csp_model.specs.Policies.{Skipped, Header, policies, policies_of, is_bad}
 use Rattle.csp_policy.specs.Pieces.{pieces_left}
 use Rattle.csp_policy.specs.Room.{AreRead}
 use Rattle.csp_policy.specs.Refusal.{refusal_at}
-use Rattle.csp_policy.proofs.LinesSoFar.{says, said, still_good, read_more, bad_at, at_turn}
+use Rattle.csp_policy.proofs.LinesSoFar.{few_lines, says, said, still_good, read_more, bad_at, at_turn}
 use Rattle.csp_policy.proofs.block.read_lines.Goals as goal
-
--- a text has no more lines than bytes, but for one
-few_lines : (bytes : List ℕ) → length (split_at 10 (without_status bytes)) ≤ length bytes + 1
-few_lines bytes =
-    let lines = length-slice_split (λ b. b == 10) (without_status bytes) in
-    let feeds = count_by-le-length (λ b. b == 10) (without_status bytes) in
-    let short : length (without_status bytes) ≤ length bytes = shorter (starts_with nat_eq bytes (codes "HTTP/")) _ bytes in
-    omega arith
-  where
-    shorter : (b : Bool) (n : ℕ) (bytes : List ℕ) → length (cond b (drop n bytes) bytes) ≤ length bytes
-    shorter true n bytes = let less = length-drop n bytes in omega arith
-    shorter false n bytes = le_refl (length bytes)
 
 pub overflow_add-number : goal.overflow_add-number
 overflow_add-number c =

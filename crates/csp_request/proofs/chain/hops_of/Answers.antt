@@ -4,7 +4,7 @@ use Rattle.csp_request.specs.Hops.{IsValidHop, before_hops}
 use Rattle.csp_request.specs.Members.{each}
 use Rattle.csp_request.specs.Urls.{web_url, hop}
 use Rattle.csp_request.specs.declared.field.Field.TheVariants as field
-use Rattle.csp_request.proofs.Each.{each_drop, before_more, All-one_more}
+use Rattle.csp_request.proofs.Forms.{each_drop, before_more, All-one_more}
 use Rattle.csp_request.proofs.chain.hops_of.Goals as goal
 
 pub loop-place-preserved : goal.loop-place-preserved

@@ -1,6 +1,6 @@
 use Rattle.csp_model.specs.Validity.{IsValidCheck}
 use Rattle.csp_request.specs.Described.{ancestor}
-use Rattle.csp_request.proofs.Each.{each_turn, All-one_more}
+use Rattle.csp_request.proofs.Forms.{each_turn, All-one_more}
 use Rattle.csp_request.proofs.description.ancestor_checks.Goals as goal
 
 pub loop-item-preserved : goal.loop-item-preserved

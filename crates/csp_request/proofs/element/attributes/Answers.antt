@@ -1,5 +1,5 @@
 use Rattle.csp_request.specs.Described.{attribute}
-use Rattle.csp_request.proofs.Each.{each_turn}
+use Rattle.csp_request.proofs.Forms.{each_turn}
 use Rattle.csp_request.proofs.element.attributes.Goals as goal
 
 pub loop-item-preserved : goal.loop-item-preserved

@@ -4,7 +4,7 @@ use Rattle.std.specs.Vec.Iter.{into_iter_items}
 use Rattle.csp_model.specs.Validity.{IsValidCheck}
 use Rattle.csp_request.specs.Described.{fetch_check}
 use Rattle.csp_request.specs.Hops.{IsValidHop}
-use Rattle.csp_request.proofs.Each.{All-one_more}
+use Rattle.csp_request.proofs.Forms.{All-one_more}
 use Rattle.csp_request.proofs.Turns.{map_turn}
 use Rattle.csp_request.proofs.fetch.fetch_checks.Goals as goal
 
