@@ -2,7 +2,7 @@
 //! lists.
 ghost use Rattle.csp_model.specs.Policies.{IsReadable};
 
-use crate::values::{FIRST, SECOND, in_the_second_format, policies_at, proof};
+use crate::values::{policies_at, proof};
 use csp_checker::Checker;
 use csp_compare::{Answer, compare};
 use csp_model::{Bytes, Check, Memory, PolicyList};
@@ -93,17 +93,5 @@ fn proofs_that_are_accepted(rt: HostRuntime) -> Result<(), Fail> {
         let (is_subsumed, _) = compared(&rt, first, second)?;
         assert!(rt; is_subsumed, "{first}");
     }
-    Ok(())
-}
-
-// The proof that is made by hand in the second format is the one that comes out.
-#[test]
-fn a_proof_as_by_hand(rt: HostRuntime) -> Result<(), Fail> {
-    let (is_subsumed, text) = compared(&rt, FIRST, SECOND)?;
-    assert!(rt; is_subsumed);
-    assert_eq!(rt;
-        text.as_slice(),
-        in_the_second_format(rt.alloc())?.as_bytes()
-    );
     Ok(())
 }

@@ -1,11 +1,9 @@
 //! Tests of the crates that compare two lists of policies: formulas, proofs, their checker, cells and the
-//! search, and of the commands of `run` that stand on them.
+//! search.
 //!
 //! Nothing stands on this crate. What a proved clause says of every input is not tested again.
 #![tactic(auto)]
 
-#[cfg(test)]
-mod broken;
 #[cfg(test)]
 mod cells;
 #[cfg(test)]
@@ -22,9 +20,5 @@ mod formulas;
 mod generated;
 #[cfg(test)]
 mod natural;
-#[cfg(test)]
-mod proofs;
-#[cfg(test)]
-mod runs;
 #[cfg(test)]
 mod values;

@@ -3,8 +3,10 @@
 //! show.
 //!
 //! A row is a line `=== WORDS`, lines that say what fails and what is shown, and the files in memory, each behind a
-//! line `--- NAME`. Where a row has no such line, the files are those of `data/`. In a file `<<3 x text>>` stands for
-//! so many copies of the text. A line of the head that begins with `#` is a comment.
+//! line `--- NAME`. Where a row has no such line, the files are those of `data/`. A line of the head that begins with
+//! `#` is a comment. What a file holds is made from left to right, by text and by orders: `<<3 x text>>` adds so many
+//! copies, `<<from NAME>>` a file of `data/`; `<<line 3 is text>>`, `<<first 3 lines>>` and `<<no last byte>>` change what
+//! is there so far.
 
 use anyhow::Context;
 use csp_desk::{Lines, Reporter, Tally};
@@ -105,7 +107,7 @@ fn run_row(rt: &HostRuntime, alloc: Global, row: &str) -> anyhow::Result<()> {
     let mut out = MemorySink::new(alloc, head.room, 1, failing)?;
     let status = match files {
         None => run_over_files(rt, alloc, head.words, &mut out)?,
-        Some(files) => run_in_memory(alloc, &head, files, &mut out)?,
+        Some(files) => run_in_memory(rt, alloc, &head, files, &mut out)?,
     };
     println!(rt; "=== {}\nexit code {}", head.words, exit_code(status))?;
     show(rt, str::from_utf8(out.taken())?, &head.shown)
@@ -122,6 +124,7 @@ fn run_over_files(
 }
 
 fn run_in_memory(
+    rt: &HostRuntime,
     alloc: Global,
     head: &Head<'_>,
     files: &str,
@@ -130,7 +133,7 @@ fn run_in_memory(
     let mut held = List::new(alloc);
     for file in files.split("\n--- ") {
         let (name, content) = file.split_once('\n').context("a file has no line")?;
-        let bytes = Bytes::new(alloc, spelled(alloc, content)?.as_bytes())?;
+        let bytes = Bytes::new(alloc, spelled(rt, alloc, content)?.as_bytes())?;
         held.push((Text::new(alloc, name)?, bytes))?;
     }
     let mut inputs = MemoryInputs::new(held, PIECE, numbers(alloc, head.failing_read)?);
@@ -171,15 +174,58 @@ fn texts(alloc: Global, line: &str) -> Result<List<Text>, Memory> {
     Ok(words)
 }
 
-// The text with the copies that it asks for.
-fn spelled(alloc: Global, text: &str) -> anyhow::Result<String> {
+// What a file holds: its text, with what the orders in it add and change.
+fn spelled(rt: &HostRuntime, alloc: Global, text: &str) -> anyhow::Result<String> {
     let mut pieces = text.split("<<");
     let mut made = String::from_str(alloc, pieces.next().unwrap_or(""))?;
     for piece in pieces {
-        let (copies, rest) = piece.split_once(">>").context("copies have no end")?;
-        let (count, text) = copies.split_once(" x ").context("copies have no number")?;
-        made.push_str(text.repeat(alloc, count.parse()?)?.as_str())?;
+        let (order, rest) = piece.split_once(">>").context("an order has no end")?;
+        made = carried_out(rt, alloc, order, made)?;
         made.push_str(rest)?;
+    }
+    Ok(made)
+}
+
+fn carried_out(
+    rt: &HostRuntime,
+    alloc: Global,
+    order: &str,
+    mut made: String,
+) -> anyhow::Result<String> {
+    if let Some(name) = order.strip_prefix("from ") {
+        made.push_str(fs::read_to_string(rt, name)?.as_str())?;
+    } else if let Some(order) = order.strip_prefix("line ") {
+        let (number, line) = order.split_once(" is ").context("a line has no text")?;
+        return Ok(with_line(alloc, made.as_str(), number.parse()?, line)?);
+    } else if let Some(order) = order.strip_prefix("first ") {
+        let count = order.strip_suffix(" lines").context("no count of lines")?;
+        return Ok(cut(alloc, made.as_str(), count.parse()?)?);
+    } else if order == "no last byte" {
+        let kept = made.as_str().strip_suffix('\n').context("no line feed at the end")?;
+        return Ok(String::from_str(alloc, kept)?);
+    } else {
+        let (count, text) = order.split_once(" x ").context("an order that isn't known")?;
+        made.push_str(text.repeat(alloc, count.parse()?)?.as_str())?;
+    }
+    Ok(made)
+}
+
+// The text with another line of this number, counted from 1.
+fn with_line(alloc: Global, text: &str, number: usize, line: &str) -> Result<String, Memory> {
+    let mut made = String::new(alloc);
+    for (place, old) in text.split_terminator('\n').enumerate() {
+        let is_it = number.checked_sub(1) == Some(place);
+        made.push_str(if is_it { line } else { old })?;
+        made.push_str("\n")?;
+    }
+    Ok(made)
+}
+
+// So many lines of the text.
+fn cut(alloc: Global, text: &str, count: usize) -> Result<String, Memory> {
+    let mut made = String::new(alloc);
+    for line in text.split_inclusive('\n').take(count) {
+        made.push_str(line)?;
     }
     Ok(made)
 }
