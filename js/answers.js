@@ -26,8 +26,9 @@
  */
 
 /**
- * A verdict with its grounds: each check that some policy doesn't allow, or else the last one.
- * @typedef {Verdict & { checks: Told[] }} Reason
+ * A verdict with its grounds: each check that some policy doesn't allow, or else the last one. `url` and
+ * `policies` are those of the check that decided, which is the last of these.
+ * @typedef {Verdict & Told & { checks: Told[] }} Reason
  */
 
 /**
@@ -119,11 +120,13 @@ export const reasonsOf = text => {
   /** @param {string | null} url */
   const begin = url => {
     told = { url, policies: [] };
-    reasons[reasons.length - 1].checks.push(told);
+    const reason = reasons[reasons.length - 1];
+    reason.checks.push(told);
+    Object.assign(reason, told);
   };
   for (const line of linesOf(text)) {
     const indent = line.search(/\S/), words = line.trim().split(' ');
-    if (indent === 0) reasons.push({ ...verdictOf(line), checks: [] });
+    if (indent === 0) reasons.push({ ...verdictOf(line), url: null, policies: [], checks: [] });
     else if (indent === 2 && words[0] === 'url') begin(line.trim().slice('url '.length));
     else if (indent === 2) {
       // A check without a URL begins with the line of the first policy
