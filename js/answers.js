@@ -13,15 +13,20 @@
  */
 
 /**
- * What a policy does with a request. `by` and `token` say what allows it, as `nonce` and
- * `'nonce-r4nd0m'`; `near` has the tokens that would allow it but for one thing, as the port.
- * @typedef {{ policy: number, directive: string, blocks: boolean, by?: string, token?: string,
- *   near: { token: string, butFor: string }[] }} Ground
+ * What a policy does with a check. `by` and `token` say what allows it, as `nonce` and `'nonce-r4nd0m'`;
+ * `near` has the tokens that would allow it but for one thing, as the port.
+ * @typedef {{ policy: number, directive: string, does: 'allows' | 'blocks' | 'would block', by?: string,
+ *   token?: string, near: { token: string, butFor: string }[] }} Ground
  */
 
 /**
- * A verdict with its grounds, a policy each, and the URL that decided.
- * @typedef {Verdict & { url: string | null, policies: Ground[] }} Reason
+ * A check of a request: its URL, if it has one, and what each policy does with it.
+ * @typedef {{ url: string | null, policies: Ground[] }} Told
+ */
+
+/**
+ * A verdict with its grounds: each check that some policy doesn't allow, or else the last one.
+ * @typedef {Verdict & { checks: Told[] }} Reason
  */
 
 /**
@@ -99,20 +104,32 @@ export const verdictsOf = text => linesOf(text).map(verdictOf);
  * @returns {Ground}
  */
 const groundOf = ([policy, directive, does, by, token]) => {
-  const ground = { policy: Number(policy), directive, blocks: does === 'blocks', near: [] };
-  return by === undefined ? ground : { ...ground, by, token };
+  const ground = { policy: Number(policy), directive, near: [] };
+  if (does === 'allows') return { ...ground, does, ...by === undefined ? {} : { by, token } };
+  return { ...ground, does: does === 'would' ? 'would block' : 'blocks' };
 };
 
 /** @param {string} text */
 export const reasonsOf = text => {
   /** @type {Reason[]} */
   const reasons = [];
+  /** @type {Told} */
+  let told = { url: null, policies: [] };
+  /** @param {string | null} url */
+  const begin = url => {
+    told = { url, policies: [] };
+    reasons[reasons.length - 1].checks.push(told);
+  };
   for (const line of linesOf(text)) {
-    const indent = line.search(/\S/), words = line.trim().split(' '), last = reasons[reasons.length - 1];
-    if (indent === 0) reasons.push({ ...verdictOf(line), url: null, policies: [] });
-    else if (indent === 2 && words[0] === 'url') last.url = line.trim().slice('url '.length);
-    else if (indent === 2) last.policies.push(groundOf(words));
-    else last.policies[last.policies.length - 1].near.push({ token: words[0], butFor: words[1] });
+    const indent = line.search(/\S/), words = line.trim().split(' ');
+    if (indent === 0) reasons.push({ ...verdictOf(line), checks: [] });
+    else if (indent === 2 && words[0] === 'url') begin(line.trim().slice('url '.length));
+    else if (indent === 2) {
+      // A check without a URL begins with the line of the first policy
+      const isFirst = reasons[reasons.length - 1].checks.length === 0;
+      if (isFirst || told.policies.length > Number(words[0])) begin(null);
+      told.policies.push(groundOf(words));
+    } else told.policies[told.policies.length - 1].near.push({ token: words[0], butFor: words[1] });
   }
   return reasons;
 };

@@ -100,10 +100,17 @@ const canOf = ({ blocked, items }) => blocked ? 'no' : items.length > 0 ? 'repor
 const upper = text => text[0].toUpperCase() + text.slice(1);
 
 /**
+ * What each policy does with the check that decides: the last one that is told.
+ * @param {Reason} reason
+ */
+const groundsOf = ({ checks }) => checks.length === 0 ? [] : checks[checks.length - 1].policies;
+
+/**
  * @param {Reason} reason
  * @param {readonly Policy[]} policies
  */
-const becauseOf = ({ blocked, items, policies: grounds }, policies) => {
+const becauseOf = (reason, policies) => {
+  const { blocked, items } = reason, grounds = groundsOf(reason);
   const enforced = items.filter(it => it.disposition === 'enforce').map(it => it.governing);
   if (blocked) return `${[...new Set(enforced)].join(' and ')} blocks it`;
   const allowing = grounds.filter(it => policies[it.policy]?.disposition === 'enforce' && it.directive !== '-');
@@ -196,7 +203,7 @@ class Stopping {
    * @returns {{ change: Change, size: number }[]}
    */
   #ofPolicy(at) {
-    const first = this.#about(this.#policies).reason.policies.find(it => it.policy === at);
+    const first = groundsOf(this.#about(this.#policies).reason).find(it => it.policy === at);
     if (first === undefined) return [];
     if (first.directive === '-') return this.#added(at).map(change => ({ change, size: 1 }));
     const directive = first.directive === 'default-src' ? this.#question.starts : first.directive;
@@ -211,7 +218,7 @@ class Stopping {
         : `take ${taken.join(' and ')} out of ${directive}`;
       const change = { policy: at, directive, text, policies };
       if (this.#stops(change)) return [{ change, size: taken.length }, ...this.#nonced(at, directive, taken)];
-      const next = this.#about(policies).reason.policies.find(it => it.policy === at);
+      const next = groundsOf(this.#about(policies).reason).find(it => it.policy === at);
       if (next === undefined || next.token === token) break;
       ground = next;
     }
@@ -250,7 +257,7 @@ const rowOf = (asked, policies, question, withStops) => {
   const because = becauseOf(reason, policies);
   return {
     id, group, action, ...from && { from }, question: `Could ${subject} ${what}?`, can,
-    sentence: `${said}: ${because}.`, because, request, policies: reason.policies, runs,
+    sentence: `${said}: ${because}.`, because, request, policies: groundsOf(reason), runs,
     ...question.with && { with: question.with },
     stops: withStops && can !== 'no' ? new Stopping(asked, policies, question).all() : [],
   };

@@ -56,7 +56,8 @@ const judged = line => {
 };
 const linesOf = text => text.split('\n').filter(it => it !== '');
 
-// What `why` says of each request: the URL that decided, and of each policy a line with the near tokens below it
+// What `why` says of each request: each URL that some policy doesn't allow, or else the last, and of each policy a
+// line with the near tokens below it
 const NEAR = {
   scheme: 'another scheme', port: 'another port', path: 'another path', suffix: 'the host itself isn’t below it',
   'strict-dynamic': "it doesn’t count beside 'strict-dynamic'", nonce: "a nonce makes it void",
@@ -65,16 +66,20 @@ const NEAR = {
 const reasonsOf = text => {
   const requests = [];
   for (const line of linesOf(text)) {
-    const indent = /^ */.exec(line)[0].length, words = line.trim().split(' ');
-    if (indent === 0) requests.push({ ...judged(line), url: null, policies: [] });
-    else if (indent === 2 && words[0] === 'url') requests.at(-1).url = words.slice(1).join(' ');
-    else if (indent === 2) requests.at(-1).policies.push({ ...policyReason(words), near: [] });
-    else requests.at(-1).policies.at(-1).near.push({ token: words[0], word: words[1] });
+    const indent = /^ */.exec(line)[0].length, words = line.trim().split(' '), checks = requests.at(-1)?.checks;
+    if (indent === 0) requests.push({ ...judged(line), checks: [] });
+    else if (indent === 2 && words[0] === 'url') checks.push({ url: words.slice(1).join(' '), policies: [] });
+    else if (indent === 2) {
+      // A check without a URL begins with the line of the first policy
+      const isNew = checks.length === 0 || checks.at(-1).policies.length > Number(words[0]);
+      if (isNew) checks.push({ url: null, policies: [] });
+      checks.at(-1).policies.push({ ...policyReason(words), near: [] });
+    } else checks.at(-1).policies.at(-1).near.push({ token: words[0], word: words[1] });
   }
   return requests;
 };
 const policyReason = ([policy, directive, does, by, token]) =>
-  ({ policy: Number(policy), directive, blocks: does === 'blocks', by, token });
+  ({ policy: Number(policy), directive, allows: does === 'allows', by, token });
 
 // A no: the request that shows it, its URL, and the policies that block it
 const shownBy = lines => {

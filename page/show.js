@@ -50,15 +50,18 @@ const byDirective = ({ effective, governing, disposition, policy }) => el('p', {
   effective === governing ? '' : [', used for ', code(effective)]);
 
 // Why, as `why` says it; without that command, what the verdict itself tells
-const reasonLine = ({ policy, directive, blocks, by, token, near }) => {
+const reasonLine = ({ policy, directive, allows, by, token, near }) => {
   if (directive === '-') return el('p', {}, `policy ${policy}: says nothing of it`);
-  if (!blocks) return el('p', {}, `policy ${policy}: `, code(directive), ' by ', code(token ?? by));
+  if (allows) return el('p', {}, `policy ${policy}: `, code(directive), ' by ', code(token ?? by));
   if (near.length === 0) return el('p', {}, `policy ${policy}: nothing in `, code(directive), ' comes near');
   return el('div', {}, `policy ${policy}: `, near.map(it =>
     el('p', {}, 'but for this, ', code(it.token), ` would allow it: ${NEAR[it.word] ?? it.word}`)));
 };
 const whyCell = row => {
-  if (row.policies !== null) return row.policies.map(reasonLine);
+  if (row.checks !== null) {
+    return row.checks.flatMap(({ url, policies }) =>
+      [row.checks.length > 1 && url !== null ? el('p', {}, 'at ', code(url)) : '', ...policies.map(reasonLine)]);
+  }
   return row.violations.map(({ policy, governing, effective }) => el('p', {}, effective === governing
     ? 'no word of it allows this'
     : [`policy ${policy} has no `, code(effective), ', so ', code(governing), ' decides']));

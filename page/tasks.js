@@ -28,7 +28,7 @@ const judgeAll = (ask, tell, { origin, policy, requests }) => {
     const got = ask([why ? 'why' : 'judge', origin, 'policy', 'requests'], files(part));
     const said = accepted({ ...got, text: fromPlace(got.text, at) }).text;
     tell(at + part.length, requests.length);
-    const rows = why ? reasonsOf(said) : linesOf(said).map(line => ({ ...judged(line), policies: null }));
+    const rows = why ? reasonsOf(said) : linesOf(said).map(line => ({ ...judged(line), checks: null }));
     return rows.map(row => ({ ...row, number: row.number + at, request: part[row.number - 1] }));
   });
 };

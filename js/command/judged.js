@@ -193,9 +193,10 @@ const BUT = /** @type {Record<string, string>} */ ({
 export const groundText = ({ policy, directive, blocks, token, near }, several) => {
   const who = several ? `${ordinal(policy)} policy: ` : '';
   if (directive === '-') return `${who}no directive decides this`;
-  if (!blocks) return `${who}${directive} allows it${token === undefined ? '' : ` by ${token}`}`;
+  if (does === 'allows') return `${who}${directive} allows it${token === undefined ? '' : ` by ${token}`}`;
   const close = near.map(it => `${it.token} would allow it, but ${BUT[it.butFor] ?? it.butFor}`).join('; ');
-  return `${who}${directive} doesn't allow it. ${close === '' ? 'No word of it comes near.' : `${close}.`}`;
+  const only = does === 'would block' ? ', and only reports it' : '';
+  return `${who}${directive} doesn't allow it${only}. ${close === '' ? 'No word of it comes near.' : `${close}.`}`;
 };
 
 /**
@@ -203,11 +204,13 @@ export const groundText = ({ policy, directive, blocks, token, near }, several) 
  * @param {unknown} request
  * @param {Asked} asked
  */
-const reasonLines = ({ number, blocked, items, policies, url }, request, { page }) => {
+const reasonLines = ({ number, blocked, items, checks }, request, { page }) => {
   const answer = blocked ? BLOCKED : items.length > 0 ? REPORTED : ALLOWED;
-  const text = describeText(request), at = url === null || text.endsWith(url) ? '' : `, decided at ${url}`;
-  const [first, ...more] = wrapped(`${number} ${answer.text}: ${text}${at}`, page, '  ');
-  const grounds = policies.map(it => `    ${groundText(it, policies.length > 1)}`);
+  const text = describeText(request), [first, ...more] = wrapped(`${number} ${answer.text}: ${text}`, page, '  ');
+  const grounds = checks.flatMap(({ url, policies }) => [
+    ...url === null || text.endsWith(url) ? [] : [`    at ${url}`],
+    ...policies.map(it => `    ${groundText(it, policies.length > 1)}`),
+  ]);
   return [
     first.replace(answer.text, it => page.paint(it, answer.colour)), ...more,
     ...grounds.flatMap(it => wrapped(it, page, '      ')),

@@ -3,6 +3,7 @@ import assert from 'node:assert/strict';
 import { spawnSync } from 'node:child_process';
 import { join } from 'node:path';
 import test from 'node:test';
+import { reasonsOf } from '../answers.js';
 import * as calls from '../node.js';
 import { PRINTED, TOP, contentOf, engine, exampleCases, givenOf, has } from './shared.js';
 
@@ -76,17 +77,45 @@ test('judge, report and why tell what the policies do', () => {
   const told = reports.map(it => [it['blocked-uri'], it.disposition]);
   assert.deepEqual(told, [['data', 'enforce'], ['data', 'report']]);
   const [image, script] = calls.why(engine, { origin, headers, requests });
-  assert.equal(image.url, 'data:');
-  assert.deepEqual(script.policies[0],
-    { policy: 0, directive: 'script-src', blocks: false, by: 'nonce', token: "'nonce-r4nd0m'", near: [] });
+  assert.equal(image.checks[0].url, 'data:');
+  assert.deepEqual(script.checks[0].policies[0],
+    { policy: 0, directive: 'script-src', does: 'allows', by: 'nonce', token: "'nonce-r4nd0m'", near: [] });
 });
 
 test('why names a token that nearly allows', () => {
   const requests = [{ kind: 'fetch', destination: 'image', url: 'https://b.example:8443/' }];
   const given = { origin, headers: 'Content-Security-Policy: img-src https://b.example', requests };
-  const [{ policies }] = calls.why(engine, given);
+  const [{ checks: [{ policies }] }] = calls.why(engine, given);
   const near = [{ token: 'https://b.example', butFor: 'port' }];
-  assert.deepEqual(policies, [{ policy: 0, directive: 'img-src', blocks: true, near }]);
+  assert.deepEqual(policies, [{ policy: 0, directive: 'img-src', does: 'blocks', near }]);
+});
+
+test('each check that why tells is read, with what each policy does with it', () => {
+  const [{ checks }, frame] = reasonsOf(`1 blocked 1:report:img-src/img-src 0:enforce:img-src/img-src
+  url https://a.example/
+  0 img-src allows source https://a.example
+  1 img-src would block
+  url https://b.example:8443/
+  0 img-src blocks
+    https://b.example port
+  1 - allows
+2 blocked 0:report:frame-ancestors/frame-ancestors 1:enforce:frame-ancestors/frame-ancestors
+  0 frame-ancestors would block
+  1 frame-ancestors blocks
+`);
+  const img = { directive: 'img-src', near: [] }, frames = { directive: 'frame-ancestors', near: [] };
+  assert.deepEqual(checks, [
+    { url: 'https://a.example/', policies: [
+      { ...img, policy: 0, does: 'allows', by: 'source', token: 'https://a.example' },
+      { ...img, policy: 1, does: 'would block' }] },
+    { url: 'https://b.example:8443/', policies: [
+      { ...img, policy: 0, does: 'blocks', near: [{ token: 'https://b.example', butFor: 'port' }] },
+      { policy: 1, directive: '-', does: 'allows', near: [] }] },
+  ]);
+  assert.deepEqual(frame.checks, [
+    { url: null, policies: [
+      { ...frames, policy: 0, does: 'would block' }, { ...frames, policy: 1, does: 'blocks' }] },
+  ]);
 });
 
 test('compare, check, differ and blocksNothing', () => {

@@ -72,10 +72,12 @@ const itemText = ({ policy, disposition, effective, governing }) =>
   ` ${policy}:${disposition}:${effective}/${governing}`;
 const verdictText = ({ number, blocked, items }) =>
   `${number} ${blocked ? 'blocked' : 'allowed'}${items.map(itemText).join('')}`;
-const groundText = ({ policy, directive, blocks, by, token, near }) => lines([
-  `  ${policy} ${directive} ${blocks ? 'blocks' : 'allows'}${by === undefined ? '' : ` ${by} ${token}`}`,
+const groundText = ({ policy, directive, does, by, token, near }) => lines([
+  `  ${policy} ${directive} ${does}${by === undefined ? '' : ` ${by} ${token}`}`,
   ...near.map(it => `    ${it.token} ${it.butFor}`),
 ]);
+const toldText = ({ url, policies }) =>
+  lines(url === null ? [] : [`  url ${url}`]) + policies.map(groundText).join('');
 const shownText = ({ request, url, items }) => lines([
   JSON.stringify(request), ...url === null ? [] : [`url ${url}`],
   `second blocked${items.map(itemText).join('')}`,
@@ -92,8 +94,7 @@ const needed = ({ policy, directive, token, how, request }) =>
 /** Each answer as the program prints it: nothing of it may be lost, and nothing may stand elsewhere. */
 export const PRINTED = {
   judge: verdicts => lines(verdicts.map(verdictText)),
-  why: reasons => reasons.map(it => lines([verdictText(it), ...it.url === null ? [] : [`  url ${it.url}`]])
-    + it.policies.map(groundText).join('')).join(''),
+  why: reasons => reasons.map(it => lines([verdictText(it)]) + it.checks.map(toldText).join('')).join(''),
   report: ({ reports, counts }) => lines([
     'reporter lines', ...reports.map(it => JSON.stringify(it)),
     'reporter tally', ...Object.entries(counts).map(([name, count]) => `${name} ${count}`),

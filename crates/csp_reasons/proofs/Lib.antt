@@ -1,3 +1,4 @@
-pub mod Deciding
+pub mod ItemsExplained
 pub mod NamedDigests
+pub mod Refusing
 pub mod SameStatus

@@ -1,9 +1,9 @@
 -- What is printed of inline code or style rests on those digests alone whose algorithms the list's hash-sources name.
-use Rattle.std.proofs.Common.{◌≡◌, ◌∙◌, ◌+◌, ◌++◌, ◌||◌, ap, refl, sym, cond, ℕ, Bool, true, false, not, List, [], ◌∷◌, Some, None, IsTrue}
+use Rattle.std.proofs.Common.{◌≡◌, ◌∙◌, ◌+◌, ◌++◌, ◌||◌, ap, refl, sym, cond, ℕ, Bool, true, false, List, [], ◌∷◌, IsTrue}
 use Rattle.std.proofs.lemmas.Bool.{or_left, or_right}
-use Rattle.std.specs.List.{list_any}
-use Rattle.std.specs.Option.{option_or}
+use Rattle.std.specs.List.{filter, list_any}
 use Rattle.std.specs.Prelude.{codes, decimal}
+use Rattle.csp_model.specs.Ascii.{is_nonempty}
 use Rattle.csp_model.specs.Tokens.{digest_by}
 use Rattle.csp_model.specs.Verdict.{list_allows, verdict_of}
 use Rattle.csp_model.specs.declared.check.Check.{Check}
@@ -20,8 +20,8 @@ use Rattle.csp_verdict.proofs.NamedDigests.{wanted_agree, wanted_verdict}
 use Rattle.csp_verdict.specs.Algorithms.{AgreeWhereNamed, algorithms_of, policy_names}
 use Rattle.csp_why.proofs.NamedDigests.{same_reason}
 use Rattle.csp_why.specs.declared.reason.Reason.{Reason}
-use Rattle.csp_reasons.specs.Explanations.{Explained, deciding, governing_tokens, joined, policies_from, policy_text}
-use Rattle.csp_reasons.specs.Explanations.{reason_text, reasons_of, reasons_text, with_request}
+use Rattle.csp_reasons.specs.Explanations.{Explained, checks_text, governing_tokens, is_refused, joined, policies_from, policy_text}
+use Rattle.csp_reasons.specs.Explanations.{reason_text, reasons_text, told_checks, with_request}
 
 module _ (kind : InlineKind) (nonce : List ℕ) (one other : Digests) where
   same_policy : (n : ℕ) (p : Policy)
@@ -29,7 +29,7 @@ module _ (kind : InlineKind) (nonce : List ℕ) (one other : Digests) where
       → policy_text n p (check.Inline kind nonce one) ≡ policy_text n p (check.Inline kind nonce other)
   same_policy n p agree =
       ap (λ (found : Reason). joined (codes "  " ∷ decimal n ∷ codes " " ∷ [])
-      ++ reason_text (governing_tokens p (check.Inline kind nonce one)) found)
+      ++ reason_text p.disposition (governing_tokens p (check.Inline kind nonce one)) found)
       (same_reason kind nonce one other p agree)
 
   same_policies : (n : ℕ) (ps : List Policy)
@@ -42,19 +42,25 @@ module _ (kind : InlineKind) (nonce : List ℕ) (one other : Digests) where
       ∙ ap (λ (text : List ℕ). policy_text n p (check.Inline kind nonce other) ++ text)
       (same_policies (n + 1) ps (λ x named. agree x (or_right (policy_names x p) (list_any (policy_names x) ps) named)))
 
-only_one : (list : PolicyList) (asked : Check) → deciding list (asked ∷ []) ≡ Some asked
-only_one list asked = only (list_allows list asked) where
-  only : (allowed : Bool) → option_or (cond (not allowed) (Some asked) None) (Some asked) ≡ Some asked
-  only true = refl
-  only false = refl
+-- one check alone is told, whether some policy doesn't allow it or each does
+only_one : (list : PolicyList) (asked : Check) → told_checks list (asked ∷ []) ≡ asked ∷ []
+only_one list asked = only (list_allows list asked) (is_refused list asked) where
+  only : (allowed refused : Bool)
+      → cond (is_nonempty (cond refused (asked ∷ filter (is_refused list) (cond allowed [] [])) (filter (is_refused list) (cond allowed [] []))))
+      (cond refused (asked ∷ filter (is_refused list) (cond allowed [] [])) (filter (is_refused list) (cond allowed [] [])))
+      (asked ∷ []) ≡ asked ∷ []
+  only true true = refl
+  only true false = refl
+  only false true = refl
+  only false false = refl
 
 same_reasons : (list : PolicyList) (kind : InlineKind) (nonce : List ℕ) (one other : Digests)
     → AgreeWhereNamed list one other
     → reasons_text list (check.Inline kind nonce one ∷ []) ≡ reasons_text list (check.Inline kind nonce other ∷ [])
 same_reasons list kind nonce one other agree =
-    ap (reasons_of list.policies) (only_one list (check.Inline kind nonce one))
-    ∙ same_policies kind nonce one other 0 list.policies agree
-    ∙ sym (ap (reasons_of list.policies) (only_one list (check.Inline kind nonce other)))
+    ap (checks_text list.policies) (only_one list (check.Inline kind nonce one))
+    ∙ ap (λ (text : List ℕ). text ++ []) (same_policies kind nonce one other 0 list.policies agree)
+    ∙ sym (ap (checks_text list.policies) (only_one list (check.Inline kind nonce other)))
 
 -- the digests of the wanted algorithms alone make no difference to what is explained
 pub same_explained : (e : Explained) (n : ℕ) (kind : InlineKind) (nonce source : List ℕ)

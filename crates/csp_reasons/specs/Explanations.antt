@@ -1,12 +1,16 @@
--- What `why` prints: the line of each verdict, and behind it what decided.
+-- What `why` prints: the line of each verdict, and behind it the reasons.
 use Rattle.std.specs.Prelude.{ℕ, ◌+◌, ◌-◌, length, Bool, false, not, ◌||◌, if◌then◌else◌, List, [], ◌∷◌, ◌++◌, Option, Some, None, unwrap_or, slice_get, codes, decimal}
-use Rattle.std.specs.List.{flat_map, list_any, find}
-use Rattle.std.specs.Option.{option_map, option_or}
+use Rattle.std.specs.List.{cons_option, filter, flat_map, list_any}
+use Rattle.std.specs.Option.{option_map}
+use Rattle.csp_model.specs.Ascii.{is_nonempty}
+use Rattle.csp_model.specs.DecideVerdict.{allows}
 use Rattle.csp_model.specs.Governing.{Governor, governor}
 use Rattle.csp_model.specs.Names.{name_text}
 use Rattle.csp_model.specs.Parts.{checked_url}
-use Rattle.csp_model.specs.Verdict.{effective_name, list_allows, verdict_of}
+use Rattle.csp_model.specs.Verdict.{effective_name, judged_checks, verdict_of}
 use Rattle.csp_model.specs.declared.check.Check.{Check}
+use Rattle.csp_model.specs.declared.policy.Disposition.{Disposition}
+use Rattle.csp_model.specs.declared.policy.Disposition.TheVariants.{Enforce, Report}
 use Rattle.csp_model.specs.declared.policy.Policy.{Policy}
 use Rattle.csp_model.specs.declared.policy.PolicyList.{PolicyList}
 use Rattle.csp_model.specs.declared.url.Url.{Url}
@@ -23,10 +27,21 @@ use Rattle.csp_why.specs.declared.reason.Reason.{Reason}
 use Rattle.csp_why.specs.declared.reason.Reason.TheVariants.{Ungoverned, Allows, Blocks}
 use Rattle.csp_why.specs.declared.reason.Word.{Word}
 
--- the check that decided: the first that the list blocks, or else the last
-abbrev pub deciding : PolicyList → List Check → Option Check
-deciding list checks =
-    option_or (find (λ c. not (list_allows list c)) checks) (slice_get checks (length checks - 1))
+-- some policy doesn't allow the check, so that the verdict has an item for it
+abbrev pub is_refused : PolicyList → Check → Bool
+is_refused list asked = list_any (λ p. not (allows p asked)) list.policies
+
+-- the checks that were judged and that some policy doesn't allow
+abbrev pub refused_checks : PolicyList → List Check → List Check
+refused_checks list checks = filter (is_refused list) (judged_checks list checks)
+
+abbrev pub last_of : List Check → List Check
+last_of checks = cons_option (slice_get checks (length checks - 1)) []
+
+-- the checks that are told: each that some policy doesn't allow, or else the last
+abbrev pub told_checks : PolicyList → List Check → List Check
+told_checks list checks =
+    if is_nonempty (refused_checks list checks) then refused_checks list checks else last_of checks
 
 -- a token of the directive that governs, as it stands in the policy
 abbrev pub governing_tokens : Policy → Check → List (List ℕ)
@@ -46,20 +61,25 @@ near_line token word = codes "    " ++ (token ++ joined (codes " " ∷ word_text
 abbrev pub near_text : List (List ℕ) → List Near → List ℕ
 near_text tokens near = flat_map (λ n. near_line (token_at tokens n.token) n.word) near
 
+-- what a policy that doesn't allow a check does
+abbrev pub refusal_text : Disposition → List ℕ
+refusal_text Enforce = codes " blocks\n"
+refusal_text Report = codes " would block\n"
+
 -- what stands behind a policy's number
-abbrev pub reason_text : List (List ℕ) → Reason → List ℕ
-reason_text tokens Ungoverned = codes "- allows\n"
-reason_text tokens (Allows directive by) =
+abbrev pub reason_text : Disposition → List (List ℕ) → Reason → List ℕ
+reason_text disposition tokens Ungoverned = codes "- allows\n"
+reason_text disposition tokens (Allows directive by) =
     joined (name_text directive ∷ codes " allows " ∷ rule_text by.rule ∷ codes " " ∷ [])
     ++ (token_at tokens by.token ++ codes "\n")
-reason_text tokens (Blocks directive near) =
-    joined (name_text directive ∷ codes " blocks\n" ∷ []) ++ near_text tokens near
+reason_text disposition tokens (Blocks directive near) =
+    joined (name_text directive ∷ refusal_text disposition ∷ []) ++ near_text tokens near
 
 -- the lines of the policy of this number
 abbrev pub policy_text : ℕ → Policy → Check → List ℕ
 policy_text number policy asked =
     joined (codes "  " ∷ decimal number ∷ codes " " ∷ [])
-    ++ reason_text (governing_tokens policy asked) (reason policy asked)
+    ++ reason_text policy.disposition (governing_tokens policy asked) (reason policy asked)
 
 abbrev pub policies_from : ℕ → List Policy → Check → List ℕ
 policies_from number [] asked = []
@@ -69,20 +89,19 @@ abbrev pub url_text_of : Option Url → List ℕ
 url_text_of None = []
 url_text_of (Some there) = joined (codes "  url " ∷ url_text there ∷ codes "\n" ∷ [])
 
-abbrev pub decided_url : Check → List ℕ
-decided_url asked = url_text_of (checked_url asked)
+abbrev pub told_url : Check → List ℕ
+told_url asked = url_text_of (checked_url asked)
 
--- the URL of the check that decided, and the lines of each policy
+-- the URL of a check that is told, and the lines of each policy
 abbrev pub check_text : List Policy → Check → List ℕ
-check_text policies asked = decided_url asked ++ policies_from 0 policies asked
+check_text policies asked = told_url asked ++ policies_from 0 policies asked
 
-abbrev pub reasons_of : List Policy → Option Check → List ℕ
-reasons_of policies None = []
-reasons_of policies (Some asked) = check_text policies asked
+abbrev pub checks_text : List Policy → List Check → List ℕ
+checks_text policies checks = flat_map (check_text policies) checks
 
 -- what is told of a request
 abbrev pub reasons_text : PolicyList → List Check → List ℕ
-reasons_text list checks = reasons_of list.policies (deciding list checks)
+reasons_text list checks = checks_text list.policies (told_checks list checks)
 
 -- Requests
 

@@ -14,10 +14,11 @@ use std::marker::Model;
 
 /// What `why` prints of the requests so far, under one list of policies.
 ///
-/// For each request there is the line of its verdict, as `judge` prints it, then the URL of the check that
-/// decided, where it has one, and for each policy in order why that allows or blocks this check
-/// (`csp_why::explain`). The check that decides is the first that the list blocks, or else the last. Of a
-/// request without checks nothing is told but its verdict.
+/// For each request there is the line of its verdict, as `judge` prints it, and then of some of its checks
+/// the URL, where it has one, and for each policy in order why that allows or blocks it
+/// (`csp_why::explain`). These are the checks that were judged and that some policy doesn't allow, whether
+/// it is enforced or only reports. Where there is none, it is the last check. Of a request without checks
+/// nothing is told but its verdict.
 #[derive(Drop)]
 pub struct Explanation<'a> {
     list: &'a PolicyList,

@@ -1,21 +1,20 @@
-//! What `why` prints behind the line of a verdict: the check that decided, and what each policy says of
-//! it.
-ghost use Rattle.std.specs.Prelude.{◌≡◌, ◌≤◌, ◌++◌, not, OnOk, length, option_copied};
-ghost use Rattle.std.specs.List.{find};
+//! What `why` prints behind the line of a verdict: what each policy says of the checks.
+ghost use Rattle.std.specs.Prelude.{◌≡◌, ◌≤◌, ◌++◌, IfOk, OnOk, length};
+ghost use Rattle.csp_model.specs.Ascii.{is_nonempty};
 ghost use Rattle.csp_model.specs.Policies.{policy_limit};
-ghost use Rattle.csp_model.specs.Verdict as verdicts;
 ghost use Rattle.csp_reasons.specs.Explanations as spec;
 
 use csp_match::governor;
-use csp_model::{Check, Memory, Policy, PolicyList, Text, name_text};
+use csp_model::{Check, Disposition, Memory, Policy, PolicyList, Text, name_text};
 use csp_output::push_all;
 use csp_url::url_text;
-use csp_verdict::{effective_name, list_allows};
+use csp_verdict::{allows, effective_name, list_allows};
 use csp_why::{Near, Reason, Word, explain};
 use itoa::Buffer;
 use std::alloc::Global;
 
-// Writes the check that decided, and what each policy says of it.
+// Writes why each policy allows or blocks each judged check that some policy doesn't allow, or else the
+// last check.
 pub(crate) fn push_reasons(
     alloc: Global,
     text: &mut Vec<u8>,
@@ -25,24 +24,47 @@ pub(crate) fn push_reasons(
     requires { length list.now.policies ≤ policy_limit }
     ensures { OnOk result (text.new.items ≡ text.old.items ++ spec.reasons_text list.now checks.now) }
 {
-    match deciding(list, checks) {
+    if push_refused(alloc, text, list, checks)? {
+        return Ok(());
+    }
+    match checks.last() {
         None => Ok(()),
         Some(check) => push_check(alloc, text, list.policies.as_slice(), check),
     }
 }
 
-// The check that decided. The last one does where none before it is blocked, so it isn't judged.
-fn deciding<'a>(list: &PolicyList, checks: &'a [Check]) -> Option<&'a Check>
-    ensures { option_copied result ≡ spec.deciding list.now checks.now }
+// Writes each judged check that some policy doesn't allow. Answers whether there is one.
+fn push_refused(
+    alloc: Global,
+    text: &mut Vec<u8>,
+    list: &PolicyList,
+    checks: &[Check],
+) -> Result<bool, Memory>
+    requires { length list.now.policies ≤ policy_limit }
+    ensures text { OnOk result (text.new.items ≡ text.old.items
+        ++ spec.checks_text list.now.policies (spec.refused_checks list.now checks.now)) }
+    ensures found { IfOk result (λ found. found ≡ is_nonempty (spec.refused_checks list.now checks.now)) }
 {
-    let (last, before) = checks.split_last()?;
-    first_blocked(list, before).or(Some(last))
+    let mut found = false;
+    for check in checks {
+        if is_refused(list, check) {
+            push_check(alloc, text, list.policies.as_slice(), check)?;
+            found = true;
+        }
+        if !list_allows(list, check) {
+            break;
+        }
+    }
+    Ok(found)
 }
 
-fn first_blocked<'a>(list: &PolicyList, checks: &'a [Check]) -> Option<&'a Check>
-    ensures { option_copied result ≡ find (λ c. not (verdicts.list_allows list.now c)) checks.now }
+fn is_refused(list: &PolicyList, check: &Check) -> bool
+    ensures { result ≡ spec.is_refused list.now check.now }
 {
-    checks.iter().find(|check| !list_allows(list, check))
+    list.policies
+        .as_slice()
+        .iter()
+        .any(|policy| !allows(policy, check))
 }
 
 fn push_check(
@@ -62,7 +84,7 @@ fn push_check(
 }
 
 fn push_url(alloc: Global, text: &mut Vec<u8>, check: &Check) -> Result<(), Memory>
-    ensures { OnOk result (text.new.items ≡ text.old.items ++ spec.decided_url check.now) }
+    ensures { OnOk result (text.new.items ≡ text.old.items ++ spec.told_url check.now) }
 {
     match check.url() {
         None => Ok(()),
@@ -86,11 +108,18 @@ fn push_policy(
 {
     let reason = explain(alloc, policy, check)?;
     push_all(text, &["  ", Buffer::new().format(number), " "])?;
-    push_reason(text, &reason, governing_tokens(policy, check))
+    let tokens = governing_tokens(policy, check);
+    push_reason(text, policy.disposition, &reason, tokens)
 }
 
-fn push_reason(text: &mut Vec<u8>, reason: &Reason, tokens: &[Text]) -> Result<(), Memory>
-    ensures { OnOk result (text.new.items ≡ text.old.items ++ spec.reason_text tokens.now reason.now) }
+fn push_reason(
+    text: &mut Vec<u8>,
+    disposition: Disposition,
+    reason: &Reason,
+    tokens: &[Text],
+) -> Result<(), Memory>
+    ensures { OnOk result (text.new.items
+        ≡ text.old.items ++ spec.reason_text disposition tokens.now reason.now) }
 {
     match reason {
         Reason::Ungoverned => push_all(text, &["- allows\n"]),
@@ -103,9 +132,19 @@ fn push_reason(text: &mut Vec<u8>, reason: &Reason, tokens: &[Text]) -> Result<(
         }
         Reason::Blocks { directive, near } => {
             let name = name_text(*directive);
-            push_all(text, &[name, " blocks\n"])?;
+            push_all(text, &[name, refusal_text(disposition)])?;
             push_near(text, near.as_slice(), tokens)
         }
+    }
+}
+
+// What a policy that doesn't allow a check does.
+fn refusal_text(disposition: Disposition) -> &'static str
+    ensures { result.now ≡ spec.refusal_text disposition }
+{
+    match disposition {
+        Disposition::Enforce => " blocks\n",
+        Disposition::Report => " would block\n",
     }
 }
 
