@@ -14,9 +14,10 @@
 
 /**
  * What a policy does with a check. `by` and `token` say what allows it, as `nonce` and `'nonce-r4nd0m'`;
- * `near` has the tokens that would allow it but for one thing, as the port.
+ * `near` has the tokens that would allow it but for one thing, as the port; where there is none, `add` may have
+ * the source that would allow the URL.
  * @typedef {{ policy: number, directive: string, does: 'allows' | 'blocks' | 'would block', by?: string,
- *   token?: string, near: { token: string, butFor: string }[] }} Ground
+ *   token?: string, near: { token: string, butFor: string }[], add?: string }} Ground
  */
 
 /**
@@ -129,7 +130,11 @@ export const reasonsOf = text => {
       const isFirst = reasons[reasons.length - 1].checks.length === 0;
       if (isFirst || told.policies.length > Number(words[0])) begin(null);
       told.policies.push(groundOf(words));
-    } else told.policies[told.policies.length - 1].near.push({ token: words[0], butFor: words[1] });
+    } else {
+      const ground = told.policies[told.policies.length - 1];
+      if (words.length === 4) ground.add = words[1];
+      else ground.near.push({ token: words[0], butFor: words[1] });
+    }
   }
   return reasons;
 };

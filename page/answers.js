@@ -74,7 +74,8 @@ const reasonsOf = text => {
       const isNew = checks.length === 0 || checks.at(-1).policies.length > Number(words[0]);
       if (isNew) checks.push({ url: null, policies: [] });
       checks.at(-1).policies.push({ ...policyReason(words), near: [] });
-    } else checks.at(-1).policies.at(-1).near.push({ token: words[0], word: words[1] });
+    } else if (words.length === 4) checks.at(-1).policies.at(-1).add = words[1];
+    else checks.at(-1).policies.at(-1).near.push({ token: words[0], word: words[1] });
   }
   return requests;
 };

@@ -50,9 +50,12 @@ const byDirective = ({ effective, governing, disposition, policy }) => el('p', {
   effective === governing ? '' : [', used for ', code(effective)]);
 
 // Why, as `why` says it; without that command, what the verdict itself tells
-const reasonLine = ({ policy, directive, allows, by, token, near }) => {
+const reasonLine = ({ policy, directive, allows, by, token, near, add }) => {
   if (directive === '-') return el('p', {}, `policy ${policy}: says nothing of it`);
   if (allows) return el('p', {}, `policy ${policy}: `, code(directive), ' by ', code(token ?? by));
+  if (add !== undefined) {
+    return el('p', {}, `policy ${policy}: `, code(add), ' in ', code(directive), ' would allow it');
+  }
   if (near.length === 0) return el('p', {}, `policy ${policy}: nothing in `, code(directive), ' comes near');
   return el('div', {}, `policy ${policy}: `, near.map(it =>
     el('p', {}, 'but for this, ', code(it.token), ` would allow it: ${NEAR[it.word] ?? it.word}`)));

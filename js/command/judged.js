@@ -196,7 +196,8 @@ export const groundText = ({ policy, directive, blocks, token, near }, several) 
   if (does === 'allows') return `${who}${directive} allows it${token === undefined ? '' : ` by ${token}`}`;
   const close = near.map(it => `${it.token} would allow it, but ${BUT[it.butFor] ?? it.butFor}`).join('; ');
   const only = does === 'would block' ? ', and only reports it' : '';
-  return `${who}${directive} doesn't allow it${only}. ${close === '' ? 'No word of it comes near.' : `${close}.`}`;
+  const missing = add === undefined ? 'No word of it comes near.' : `${add} would allow it.`;
+  return `${who}${directive} doesn't allow it${only}. ${close === '' ? missing : `${close}.`}`;
 };
 
 /**

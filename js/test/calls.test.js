@@ -95,6 +95,7 @@ test('each check that why tells is read, with what each policy does with it', ()
   url https://a.example/
   0 img-src allows source https://a.example
   1 img-src would block
+    add https://a.example to img-src
   url https://b.example:8443/
   0 img-src blocks
     https://b.example port
@@ -107,7 +108,7 @@ test('each check that why tells is read, with what each policy does with it', ()
   assert.deepEqual(checks, [
     { url: 'https://a.example/', policies: [
       { ...img, policy: 0, does: 'allows', by: 'source', token: 'https://a.example' },
-      { ...img, policy: 1, does: 'would block' }] },
+      { ...img, policy: 1, does: 'would block', add: 'https://a.example' }] },
     { url: 'https://b.example:8443/', policies: [
       { ...img, policy: 0, does: 'blocks', near: [{ token: 'https://b.example', butFor: 'port' }] },
       { policy: 1, directive: '-', does: 'allows', near: [] }] },

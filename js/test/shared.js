@@ -72,9 +72,9 @@ const itemText = ({ policy, disposition, effective, governing }) =>
   ` ${policy}:${disposition}:${effective}/${governing}`;
 const verdictText = ({ number, blocked, items }) =>
   `${number} ${blocked ? 'blocked' : 'allowed'}${items.map(itemText).join('')}`;
-const groundText = ({ policy, directive, does, by, token, near }) => lines([
+const groundText = ({ policy, directive, does, by, token, near, add }) => lines([
   `  ${policy} ${directive} ${does}${by === undefined ? '' : ` ${by} ${token}`}`,
-  ...near.map(it => `    ${it.token} ${it.butFor}`),
+  ...near.map(it => `    ${it.token} ${it.butFor}`), ...add === undefined ? [] : [`    add ${add} to ${directive}`],
 ]);
 const toldText = ({ url, policies }) =>
   lines(url === null ? [] : [`  url ${url}`]) + policies.map(groundText).join('');

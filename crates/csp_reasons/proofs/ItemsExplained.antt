@@ -20,12 +20,13 @@ use Rattle.csp_model.specs.declared.policy.Policy.{Policy}
 use Rattle.csp_model.specs.declared.policy.PolicyList.{PolicyList}
 use Rattle.csp_model.specs.declared.verdict.Item.{Item}
 use Rattle.csp_reasons.proofs.Refusing.{refused_reason}
+use Rattle.csp_why.specs.Missing.{missing_url}
 use Rattle.csp_why.specs.Reasons.{reason}
 use Rattle.csp_why.specs.declared.reason.Near.{Near}
 use Rattle.csp_why.specs.declared.reason.Reason.{Reason}
 use Rattle.csp_why.specs.declared.reason.Reason.TheVariants.{Blocks}
-use Rattle.csp_reasons.specs.Explanations.{check_text, checks_text, governing_tokens, is_refused, joined, near_text, policies_from, policy_text, reason_text, refusal_text, refused_checks, told_checks, told_url}
-use Rattle.csp_reasons.specs.Laws.{IsExplained, StandsIn, refusal_line, would_block_line}
+use Rattle.csp_reasons.specs.Explanations.{check_text, checks_text, governing_tokens, is_refused, joined, missing_text, near_text, policies_from, policy_text, reason_text, refusal_text, refused_checks, told_checks, told_url}
+use Rattle.csp_reasons.specs.Laws.{IsExplained, StandsIn, refusal_line, told_below, would_block_line}
 
 -- Pieces of a text
 
@@ -64,25 +65,28 @@ nonempty xs x (k, within, is) = lt-ltb 0 (length xs) (omega (arith, within))
 
 -- The line of a policy
 
-line_parts : (a b c d e near : List ℕ)
-    → (a ++ (b ++ (c ++ []))) ++ ((d ++ (e ++ [])) ++ near) ≡ (a ++ (b ++ (c ++ (d ++ (e ++ []))))) ++ near
-line_parts a b c d e near = simp (append_assoc, append-nil) refl
+line_parts : (a b c d e near missing : List ℕ)
+    → (a ++ (b ++ (c ++ []))) ++ (((d ++ (e ++ [])) ++ near) ++ missing)
+    ≡ (a ++ (b ++ (c ++ (d ++ (e ++ []))))) ++ (near ++ missing)
+line_parts a b c d e near missing = simp (append_assoc, append-nil) refl
 
 -- what is told of a policy that blocks
 told_refusal : (n : ℕ) (p : Policy) (asked : Check) (directive : Name) (near : List Near)
     → reason p asked ≡ Blocks directive near
-    → policy_text n p asked ≡ refusal_line n p.disposition directive ++ near_text (governing_tokens p asked) near
+    → policy_text n p asked ≡ refusal_line n p.disposition directive ++ told_below p asked directive near
 told_refusal n p asked directive near is =
     let tokens = governing_tokens p asked in
-    ap (λ (r : Reason). joined (codes "  " ∷ decimal n ∷ codes " " ∷ []) ++ reason_text p.disposition tokens r) is
+    ap (λ (r : Reason). joined (codes "  " ∷ decimal n ∷ codes " " ∷ [])
+    ++ (reason_text p.disposition tokens r ++ missing_text r (missing_url p asked r))) is
     ∙ line_parts (codes "  ") (decimal n) (codes " ") (name_text directive) (refusal_text p.disposition) (near_text tokens near)
+    (missing_text (Blocks directive near) (missing_url p asked (Blocks directive near)))
 
 pub would_block : (n : ℕ) (p : Policy) (asked : Check) (directive : Name) (near : List Near) → p.disposition ≡ Report
     → reason p asked ≡ Blocks directive near
-    → policy_text n p asked ≡ would_block_line n directive ++ near_text (governing_tokens p asked) near
+    → policy_text n p asked ≡ would_block_line n directive ++ told_below p asked directive near
 would_block n p asked directive near reports is =
     told_refusal n p asked directive near is
-    ∙ ap (λ (d : Disposition). refusal_line n d directive ++ near_text (governing_tokens p asked) near) reports
+    ∙ ap (λ (d : Disposition). refusal_line n d directive ++ told_below p asked directive near) reports
 
 line_first : (n : ℕ) (p : Policy) (asked : Check) (g : Governor) (rest : List ℕ)
     → governor p (effective_name asked) ≡ Some g → allows p asked ≡ false
@@ -90,9 +94,9 @@ line_first : (n : ℕ) (p : Policy) (asked : Check) (g : Governor) (rest : List 
 line_first n p asked g rest some refused =
     let found = refused_reason p asked g some refused in
     let line : List ℕ = refusal_line n p.disposition g.name in
-    let near : List ℕ = near_text (governing_tokens p asked) found.0 in
-    stands_first line (near ++ rest) (policy_text n p asked ++ rest)
-    (ap (λ (t : List ℕ). t ++ rest) (told_refusal n p asked g.name found.0 found.1) ∙ append_assoc line near rest)
+    let below : List ℕ = told_below p asked g.name found.0 in
+    stands_first line (below ++ rest) (policy_text n p asked ++ rest)
+    (ap (λ (t : List ℕ). t ++ rest) (told_refusal n p asked g.name found.0 found.1) ∙ append_assoc line below rest)
 
 -- an item is of a policy that doesn't allow the check, and whose line stands in what is told of the policies
 record IsTold (policies : List Policy) (asked : Check) (text : List ℕ) (item : Item) : Type 0 where

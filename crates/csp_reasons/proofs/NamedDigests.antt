@@ -1,9 +1,11 @@
 -- What is printed of inline code or style rests on those digests alone whose algorithms the list's hash-sources name.
-use Rattle.std.proofs.Common.{◌≡◌, ◌∙◌, ◌+◌, ◌++◌, ◌||◌, ap, refl, sym, cond, ℕ, Bool, true, false, List, [], ◌∷◌, IsTrue}
+use Rattle.std.proofs.Common.{◌≡◌, ◌∙◌, ◌+◌, ◌++◌, ◌||◌, ap, refl, sym, cond, ℕ, Bool, true, false, List, [], ◌∷◌, Option, Some, None, IsTrue}
 use Rattle.std.proofs.lemmas.Bool.{or_left, or_right}
 use Rattle.std.specs.List.{filter, list_any}
 use Rattle.std.specs.Prelude.{codes, decimal}
 use Rattle.csp_model.specs.Ascii.{is_nonempty}
+use Rattle.csp_model.specs.Governing.{Governor, governor}
+use Rattle.csp_model.specs.Names.{inline_directive}
 use Rattle.csp_model.specs.Tokens.{digest_by}
 use Rattle.csp_model.specs.Verdict.{list_allows, verdict_of}
 use Rattle.csp_model.specs.declared.check.Check.{Check}
@@ -13,24 +15,41 @@ use Rattle.csp_model.specs.declared.check.InlineKind.{InlineKind}
 use Rattle.csp_model.specs.declared.policy.Policy.{Policy}
 use Rattle.csp_model.specs.declared.policy.PolicyList.{PolicyList}
 use Rattle.csp_model.specs.declared.source.Algorithm.{Algorithm}
+use Rattle.csp_model.specs.declared.url.Url.{Url}
 use Rattle.csp_model.specs.declared.verdict.Verdict.{Verdict}
 use Rattle.csp_output.specs.Lines.{verdict_line}
 use Rattle.csp_token.specs.Digests.{digests_for, digests_of}
 use Rattle.csp_verdict.proofs.NamedDigests.{wanted_agree, wanted_verdict}
 use Rattle.csp_verdict.specs.Algorithms.{AgreeWhereNamed, algorithms_of, policy_names}
 use Rattle.csp_why.proofs.NamedDigests.{same_reason}
+use Rattle.csp_why.specs.Missing.{missing_by, missing_url}
+use Rattle.csp_why.specs.Reasons.{reason}
 use Rattle.csp_why.specs.declared.reason.Reason.{Reason}
-use Rattle.csp_reasons.specs.Explanations.{Explained, checks_text, governing_tokens, is_refused, joined, policies_from, policy_text}
+use Rattle.csp_why.specs.declared.reason.Reason.TheVariants.{Allows, Blocks, Ungoverned}
+use Rattle.csp_reasons.specs.Explanations.{Explained, checks_text, governing_tokens, is_refused, joined, missing_text, policies_from, policy_text}
 use Rattle.csp_reasons.specs.Explanations.{reason_text, reasons_text, told_checks, with_request}
 
 module _ (kind : InlineKind) (nonce : List ℕ) (one other : Digests) where
+  -- inline code and style have no URL
+  same_missing : (r : Reason) (o : Option Governor)
+      → missing_by (check.Inline kind nonce one) r o ≡ missing_by (check.Inline kind nonce other) r o
+  same_missing Ungoverned o = refl
+  same_missing (Allows directive by) o = refl
+  same_missing (Blocks directive near) None = refl
+  same_missing (Blocks directive near) (Some g) = refl
+
   same_policy : (n : ℕ) (p : Policy)
       → ((x : Algorithm) → IsTrue (policy_names x p) → digest_by x one ≡ digest_by x other)
       → policy_text n p (check.Inline kind nonce one) ≡ policy_text n p (check.Inline kind nonce other)
   same_policy n p agree =
-      ap (λ (found : Reason). joined (codes "  " ∷ decimal n ∷ codes " " ∷ [])
-      ++ reason_text p.disposition (governing_tokens p (check.Inline kind nonce one)) found)
+      let tokens = governing_tokens p (check.Inline kind nonce one) in
+      let found : Reason = reason p (check.Inline kind nonce other) in
+      ap (λ (r : Reason). joined (codes "  " ∷ decimal n ∷ codes " " ∷ [])
+      ++ (reason_text p.disposition tokens r ++ missing_text r (missing_url p (check.Inline kind nonce one) r)))
       (same_reason kind nonce one other p agree)
+      ∙ ap (λ (o : Option Url). joined (codes "  " ∷ decimal n ∷ codes " " ∷ [])
+      ++ (reason_text p.disposition tokens found ++ missing_text found o))
+      (same_missing found (governor p (inline_directive kind)))
 
   same_policies : (n : ℕ) (ps : List Policy)
       → ((x : Algorithm) → IsTrue (list_any (policy_names x) ps) → digest_by x one ≡ digest_by x other)

@@ -7,19 +7,24 @@ use Rattle.csp_model.specs.DecideVerdict.{allows}
 use Rattle.csp_model.specs.Governing.{Governor, governor}
 use Rattle.csp_model.specs.Names.{name_text}
 use Rattle.csp_model.specs.Parts.{checked_url}
+use Rattle.csp_model.specs.Paths.{host_text}
+use Rattle.csp_model.specs.Schemes.{scheme_text}
 use Rattle.csp_model.specs.Verdict.{effective_name, judged_checks, verdict_of}
 use Rattle.csp_model.specs.declared.check.Check.{Check}
+use Rattle.csp_model.specs.declared.name.Name.{Name}
 use Rattle.csp_model.specs.declared.policy.Disposition.{Disposition}
 use Rattle.csp_model.specs.declared.policy.Disposition.TheVariants.{Enforce, Report}
 use Rattle.csp_model.specs.declared.policy.Policy.{Policy}
 use Rattle.csp_model.specs.declared.policy.PolicyList.{PolicyList}
 use Rattle.csp_model.specs.declared.url.Url.{Url}
+use Rattle.csp_model.specs.declared.url.Url.TheVariants as url
 use Rattle.csp_model.specs.declared.verdict.Described.{Described}
 use Rattle.csp_output.specs.Lines.{verdict_line}
 use Rattle.csp_output.specs.declared.built.Built.{Built}
 use Rattle.csp_output.specs.declared.status.Status.{Status}
 use Rattle.csp_output.specs.declared.status.Status.TheVariants.{Clean, Found}
 use Rattle.csp_url.specs.Texts.{url_text}
+use Rattle.csp_why.specs.Missing.{missing_url}
 use Rattle.csp_why.specs.Reasons.{reason}
 use Rattle.csp_why.specs.Words.{rule_text, word_text}
 use Rattle.csp_why.specs.declared.reason.Near.{Near}
@@ -75,11 +80,31 @@ reason_text disposition tokens (Allows directive by) =
 reason_text disposition tokens (Blocks directive near) =
     joined (name_text directive ∷ refusal_text disposition ∷ []) ++ near_text tokens near
 
+-- the token of the source of a URL
+abbrev pub port_pieces : Option ℕ → List (List ℕ)
+port_pieces None = []
+port_pieces (Some port) = codes ":" ∷ decimal port ∷ []
+
+abbrev pub source_pieces : Url → List (List ℕ)
+source_pieces (url.Plain scheme) = scheme ∷ codes ":" ∷ []
+source_pieces (url.Hosted scheme host port path) =
+    scheme_text scheme ∷ codes "://" ∷ host_text host ∷ port_pieces port
+
+-- a line for the source that is missing
+abbrev pub missing_line : Name → Url → List ℕ
+missing_line directive there =
+    codes "    add " ++ (joined (source_pieces there) ++ joined (codes " to " ∷ name_text directive ∷ codes "\n" ∷ []))
+
+abbrev pub missing_text : Reason → Option Url → List ℕ
+missing_text (Blocks directive near) (Some there) = missing_line directive there
+missing_text why there = []
+
 -- the lines of the policy of this number
 abbrev pub policy_text : ℕ → Policy → Check → List ℕ
 policy_text number policy asked =
     joined (codes "  " ∷ decimal number ∷ codes " " ∷ [])
-    ++ reason_text policy.disposition (governing_tokens policy asked) (reason policy asked)
+    ++ (reason_text policy.disposition (governing_tokens policy asked) (reason policy asked)
+    ++ missing_text (reason policy asked) (missing_url policy asked (reason policy asked)))
 
 abbrev pub policies_from : ℕ → List Policy → Check → List ℕ
 policies_from number [] asked = []

@@ -11,8 +11,8 @@ ghost use Rattle.csp_model.specs.declared.policy.PolicyList.{PolicyList};
 ghost use Rattle.csp_model.specs.declared.verdict.Described.{Described};
 ghost use Rattle.csp_output.specs.Lines.{judgment};
 ghost use Rattle.csp_reasons.specs.Explanations.{Explained, explanation, with_request};
-ghost use Rattle.csp_reasons.specs.Explanations.{governing_tokens, near_text, policy_text};
-ghost use Rattle.csp_reasons.specs.Laws.{IsExplained, would_block_line};
+ghost use Rattle.csp_reasons.specs.Explanations.{policy_text};
+ghost use Rattle.csp_reasons.specs.Laws.{IsExplained, told_below, would_block_line};
 ghost use Rattle.csp_token.specs.Digests.{digests_for, digests_of};
 ghost use Rattle.csp_verdict.specs.Algorithms.{algorithms_of};
 ghost use Rattle.csp_why.specs.Reasons.{reason};
@@ -38,7 +38,7 @@ pub fn a_report_only_policy_is_never_told_to_block()
     ensures { (number : ℕ) (p : Policy) (asked : Check) (directive : Name) (near : List Near)
         → p.disposition ≡ Report → reason p asked ≡ Blocks directive near
         → policy_text number p asked
-        ≡ would_block_line number directive ++ near_text (governing_tokens p asked) near }
+        ≡ would_block_line number directive ++ told_below p asked directive near }
 {}
 
 /// What is explained of inline code or style is the same by the digests of those algorithms alone that a

@@ -1,15 +1,15 @@
 //! What `why` prints behind the line of a verdict: what each policy says of the checks.
-ghost use Rattle.std.specs.Prelude.{◌≡◌, ◌≤◌, ◌++◌, IfOk, OnOk, length};
+ghost use Rattle.std.specs.Prelude.{◌≡◌, ◌≤◌, ◌++◌, IfOk, OnOk, length, option_copied};
 ghost use Rattle.csp_model.specs.Ascii.{is_nonempty};
 ghost use Rattle.csp_model.specs.Policies.{policy_limit};
 ghost use Rattle.csp_reasons.specs.Explanations as spec;
 
 use csp_match::governor;
-use csp_model::{Check, Disposition, Memory, Policy, PolicyList, Text, name_text};
+use csp_model::{Check, Disposition, Memory, Name, Policy, PolicyList, Text, Url, name_text};
 use csp_output::push_all;
 use csp_url::url_text;
 use csp_verdict::{allows, effective_name, list_allows};
-use csp_why::{Near, Reason, Word, explain};
+use csp_why::{Near, Reason, Word, explain, missing_url};
 use itoa::Buffer;
 use std::alloc::Global;
 
@@ -109,7 +109,8 @@ fn push_policy(
     let reason = explain(alloc, policy, check)?;
     push_all(text, &["  ", Buffer::new().format(number), " "])?;
     let tokens = governing_tokens(policy, check);
-    push_reason(text, policy.disposition, &reason, tokens)
+    push_reason(text, policy.disposition, &reason, tokens)?;
+    push_missing(text, &reason, missing_url(policy, check, &reason))
 }
 
 fn push_reason(
@@ -171,6 +172,58 @@ fn push_text(text: &mut Vec<u8>, piece: &str) -> Result<(), Memory>
 {
     text.extend_from_slice(piece.as_bytes())?;
     Ok(())
+}
+
+// The source that would allow the check, where one is missing.
+fn push_missing(text: &mut Vec<u8>, reason: &Reason, missing: Option<&Url>) -> Result<(), Memory>
+    ensures { OnOk result (text.new.items
+        ≡ text.old.items ++ spec.missing_text reason.now (option_copied missing.entry)) }
+{
+    match (reason, missing) {
+        (Reason::Blocks { directive, .. }, Some(url)) => push_missing_line(text, *directive, url),
+        _ => Ok(()),
+    }
+}
+
+fn push_missing_line(text: &mut Vec<u8>, directive: Name, url: &Url) -> Result<(), Memory>
+    ensures { OnOk result (text.new.items ≡ text.old.items ++ spec.missing_line directive url.now) }
+{
+    push_text(text, "    add ")?;
+    push_source(text, url)?;
+    let name = name_text(directive);
+    push_all(text, &[" to ", name, "\n"])
+}
+
+// The source of a URL, as a token.
+fn push_source(text: &mut Vec<u8>, url: &Url) -> Result<(), Memory>
+    ensures { OnOk result (text.new.items ≡ text.old.items ++ spec.joined (spec.source_pieces url.now)) }
+{
+    match url {
+        Url::Plain { scheme } => {
+            push_text(text, scheme.as_str())?;
+            push_text(text, ":")
+        }
+        Url::Hosted {
+            scheme,
+            host,
+            port,
+            ..
+        } => {
+            push_text(text, scheme.as_str())?;
+            push_text(text, "://")?;
+            push_text(text, host.as_str())?;
+            push_port(text, *port)
+        }
+    }
+}
+
+fn push_port(text: &mut Vec<u8>, port: Option<u16>) -> Result<(), Memory>
+    ensures { OnOk result (text.new.items ≡ text.old.items ++ spec.joined (spec.port_pieces port)) }
+{
+    match port {
+        None => Ok(()),
+        Some(port) => push_all(text, &[":", Buffer::new().format(port)]),
+    }
 }
 
 // The tokens of the directive that governs a check, none where none does.

@@ -153,7 +153,7 @@ module _ (self : Origin) (there : Url) (redirected : Bool) (sources : List Sourc
 not_dynamic : (s : Source) → not (is_dynamic s) ≡ true → is_dynamic s ≡ false
 not_dynamic s kept = not-true (is_dynamic s) kept
 
-script_allows : (sources : List Source) (nonce : List ℕ) (integrity : List Hash) (parser_inserted listed : Bool)
+pub script_allows : (sources : List Source) (nonce : List ℕ) (integrity : List Hash) (parser_inserted listed : Bool)
     → has_keyword keyword.StrictDynamic sources ≡ false → listed ≡ true
     → sources_allow fetch.Script sources nonce integrity parser_inserted listed ≡ true
 script_allows sources nonce integrity parser_inserted listed none match =

@@ -1,10 +1,12 @@
 -- Words of the laws: a policy in which the directive that governs is another one.
-use Rattle.std.specs.Prelude.{ℕ, zero, suc, Bool, false, not, ◌||◌, if◌then◌else◌, List, [], ◌∷◌, map, Option, Some, None, slice_get, unwrap_or}
+use Rattle.std.specs.Prelude.{◌≡◌, ℕ, zero, suc, Bool, false, not, ◌||◌, if◌then◌else◌, List, [], ◌∷◌, map, Option, Some, None, slice_get, unwrap_or, ⊤}
 use Rattle.std.specs.List.{cons_option, filter}
 use Rattle.csp_model.specs.DecideTokens.{is_keyword}
 use Rattle.csp_model.specs.Governing.{is_named}
 use Rattle.csp_model.specs.Inline.{is_nonce_or_hash}
+use Rattle.csp_model.specs.Matching.{PortMatches, SchemeMatches, url_scheme}
 use Rattle.csp_model.specs.Parts.{checked_url}
+use Rattle.csp_model.specs.Paths.{host_text}
 use Rattle.csp_model.specs.declared.check.Check.{Check}
 use Rattle.csp_model.specs.declared.check.Check.TheVariants as check
 use Rattle.csp_model.specs.declared.name.Name.{Name}
@@ -14,6 +16,8 @@ use Rattle.csp_model.specs.declared.source.Keyword.TheVariants as keyword
 use Rattle.csp_model.specs.declared.source.Source.{Source}
 use Rattle.csp_model.specs.declared.source.Source.TheVariants as source
 use Rattle.csp_model.specs.declared.url.Url.{Url}
+use Rattle.csp_model.specs.declared.url.Url.TheVariants as url
+use Rattle.csp_why.specs.Missing.{port_of}
 use Rattle.csp_why.specs.Allowances.{is_some_hash, is_for_worker}
 use Rattle.csp_why.specs.Near.{changed}
 use Rattle.csp_why.specs.declared.reason.Allowance.{Allowance}
@@ -88,3 +92,28 @@ mended_directive asked n d = record {
   tokens = d.tokens;
   sources = mended n.word (checked_url asked) n.token d.sources;
 }
+
+-- A source added
+
+abbrev pub with_source : Source → Directive → Directive
+with_source added d = record { name = d.name; tokens = d.tokens; sources = added ∷ d.sources }
+
+-- the check of another URL after so many redirects, all else as it is
+abbrev pub moved : Url → ℕ → Check → Check
+moved there redirects (check.Fetch group url count nonce integrity parser_inserted) =
+    check.Fetch group there redirects nonce integrity parser_inserted
+moved there redirects (check.Base url) = check.Base there
+moved there redirects (check.Form url count) = check.Form there redirects
+moved there redirects (check.Ancestor url) = check.Ancestor there
+moved there redirects asked = asked
+
+-- the same host, and the port that is meant
+abbrev pub SameEnd : Url → Url → Type 0
+SameEnd (url.Plain scheme) other = ⊤
+SameEnd (url.Hosted scheme host port path) (url.Plain other) = ⊥
+SameEnd (url.Hosted scheme host port path) (url.Hosted other there number pieces) =
+    (host_text host ≡ host_text there) × PortMatches (port_of port) number other
+
+-- the other URL has the scheme of this one, or one that it stands for, and its host and port
+abbrev pub IsAt : Url → Url → Type 0
+IsAt there other = SchemeMatches (url_scheme there) (url_scheme other) × SameEnd there other

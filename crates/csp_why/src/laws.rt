@@ -1,5 +1,5 @@
 //! Laws of reasons, each the contract of a function with no body.
-ghost use Rattle.std.specs.Prelude.{◌≡◌, ℕ, IsTrue, List as Items, All, true};
+ghost use Rattle.std.specs.Prelude.{◌≡◌, ◌⊎◌, ℕ, IsTrue, List as Items, All, Some, true};
 ghost use Rattle.csp_model.specs.DecideVerdict.{allows};
 ghost use Rattle.csp_model.specs.Tokens.{digest_by};
 ghost use Rattle.csp_model.specs.declared.check.Check.{Check};
@@ -9,8 +9,11 @@ ghost use Rattle.csp_model.specs.declared.check.InlineKind.{InlineKind};
 ghost use Rattle.csp_model.specs.declared.name.Name.{Name};
 ghost use Rattle.csp_model.specs.declared.policy.Policy.{Policy};
 ghost use Rattle.csp_model.specs.declared.source.Algorithm.{Algorithm};
+ghost use Rattle.csp_model.specs.declared.url.Url.{Url};
 ghost use Rattle.csp_verdict.specs.Algorithms.{policy_names};
 ghost use Rattle.csp_why.specs.Laws.{alone, mended_directive, with_changed};
+ghost use Rattle.csp_why.specs.Laws.{IsAt, moved, with_source};
+ghost use Rattle.csp_why.specs.Missing.{missing_url, source_of};
 ghost use Rattle.csp_why.specs.Reasons.{reason, is_allowing};
 ghost use Rattle.csp_why.specs.declared.reason.Allowance.{Allowance};
 ghost use Rattle.csp_why.specs.declared.reason.Near.{Near};
@@ -36,6 +39,21 @@ pub fn a_near_token_allows_where_its_word_is_mended()
     ensures { (p : Policy) (asked : Check) (name : Name) (near : Items Near)
         → reason p asked ≡ Blocks name near
         → All (λ n. allows (with_changed name (mended_directive asked n) p) asked ≡ true) near }
+{}
+
+/// Where the source of a URL is missing, the policy with it in the directive that blocks allows the check.
+///
+/// Of the checks that differ from this one by their URL and redirects alone it allows no other than before,
+/// but for those whose URL has the scheme, or one that it stands for, the host and the port of this one's.
+pub fn a_missing_source_allows_its_own_alone()
+    ensures allows { (p : Policy) (asked : Check) (name : Name) (near : Items Near) (there : Url)
+        → reason p asked ≡ Blocks name near → missing_url p asked (Blocks name near) ≡ Some there
+        → allows (with_changed name (with_source (source_of there)) p) asked ≡ true }
+    ensures no_more { (p : Policy) (asked : Check) (name : Name) (near : Items Near) (there other : Url)
+        (redirects : ℕ)
+        → reason p asked ≡ Blocks name near → missing_url p asked (Blocks name near) ≡ Some there
+        → allows (with_changed name (with_source (source_of there)) p) (moved other redirects asked) ≡ true
+        → (allows p (moved other redirects asked) ≡ true) ⊎ IsAt there other }
 {}
 
 /// The reason for inline code or style rests on those digests alone whose algorithms a hash-source of the

@@ -6,8 +6,10 @@ mod allowance;
 mod displacement;
 mod explaining;
 pub mod laws;
+mod missing;
 mod near;
 mod reason;
 
 pub use explaining::explain;
+pub use missing::missing_url;
 pub use reason::{Allowance, Near, Reason, Rule, Word};
