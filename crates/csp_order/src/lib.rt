@@ -5,6 +5,7 @@ mod carrying;
 mod chain;
 mod copies;
 mod known;
+pub mod laws;
 mod ordering;
 mod pair;
 mod relation;
