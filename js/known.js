@@ -3,7 +3,7 @@
 /**
  * @typedef {{ said: string, policy: number, directive: string, token: string | null }} Known
  * @typedef {import('./policies.js').Policy} Policy
- * @typedef {{ policy: number, directive: string, blocks: boolean, token?: string }} Ground
+ * @typedef {{ policy: number, directive: string, token?: string }} Ground
  */
 
 // A nonce has at least 128 random bits, which base64 writes in 22 characters.
