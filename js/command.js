@@ -15,6 +15,7 @@ import { requestsText, writeRequests } from './command/requests.js';
 import { isRequestFile, siteOf, sourcesOf } from './command/sources.js';
 import { tellPairs } from './command/weakened.js';
 import { ownFile } from './own.js';
+import { SNIPPET } from './readers/events.js';
 import { Refusal } from './refusal.js';
 
 /** @typedef {import('./command/line.js').Line} Line */
@@ -266,6 +267,7 @@ const refused = (refusal, line) => {
 const done = async ([first = '', ...rest], environment) => {
   if (['--help', 'help', ''].includes(first)) return { text: help, status: first === '' ? USAGE : 0 };
   if (first === '--version') return { text: `guidecerise ${version()}\n`, status: 0 };
+  if (first === 'events') return { text: `${SNIPPET}\n`, status: 0 };
   if (first === 'csp') {
     const { code, bytes } = await runProgram(rest, environment.GUIDECERISE_PROGRAM);
     return { text: bytes, status: code };
