@@ -79,8 +79,11 @@ const takesSources = word => word.members.includes('requests');
  * @param {Word} word
  * @param {string[]} positionals
  */
-const areSources = (word, [first = '-', ...rest]) => takesSources(word)
-  && (word.members[0] === 'requests' || first !== 'null' && (existsSync(first) || !/^[a-z][a-z0-9+.-]*:/i.test(first) && rest.length < 2));
+const areSources = (word, [first = '-', ...rest]) => {
+  if (!takesSources(word) || word.members[0] === 'requests') return takesSources(word);
+  const isOrigin = first === 'null' || /^[a-z][a-z0-9+.-]*:/i.test(first);
+  return existsSync(first) || !isOrigin && rest.length < 2;
+};
 
 /**
  * The members and their values: those that are named, and for the others the positionals in their order.
@@ -103,7 +106,10 @@ const placed = (word, given, positionals) => {
     else if (!isOpen && !isSource) throw misused(`${name.toUpperCase()} is missing`, word);
   }
   if (members.includes('lists')) left.splice(0).forEach((it, n) => values.push([`list ${n + 1}`, it]));
-  for (const name of word.optional ?? []) if (given[name] !== undefined) values.push([name, given[name]]);
+  for (const name of word.optional ?? []) {
+    const value = given[name];
+    if (value !== undefined) values.push([name, value]);
+  }
   const isMany = takesSources(word) || members.includes('reports'), sources = isMany ? left.splice(0) : [];
   if (left.length > 0) throw misused(`one word too many: ${left[0]}`, word);
   const isEmpty = sources.length === 0 && given.requests === undefined;

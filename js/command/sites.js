@@ -1,14 +1,15 @@
 /** What is said of the pages of a site, by page and in sum: judge, why, report and learn. */
+import { besideBrowser } from '../beside.js';
 import { describe, describeText, hostOf } from '../describe.js';
 import * as calls from '../index.js';
 import { ENFORCED, WITHOUT_POLICY } from '../readers/har.js';
+import { keyOf } from '../readers/hops.js';
 import { questionsOf } from '../readers/site.js';
 import { Refusal } from '../refusal.js';
 import { askOfPage } from '../sites.js';
-import { besideBrowser } from '../beside.js';
-import { keyOf } from '../readers/hops.js';
 import { tellLearnt } from './compared.js';
-import { BLOCKED, REPORTED, MANY, answerOf, counted, groundText, grouped, leftOut, number, ordinal, toldReports,
+import {
+  BLOCKED, REPORTED, MANY, answerOf, counted, groundText, grouped, leftOut, number, ordinal, toldReports,
 } from './judged.js';
 import { plain, table, wrapped } from './page.js';
 
@@ -39,15 +40,16 @@ const MEANS_NOTHING = 15;
 /** @param {SitePage} page */
 const nameOf = ({ url, file, role, frameOf }) => {
   if (url === '') return file;
-  const framed = role === 'frame' ? `, framed by ${frameOf}` : role === 'worker' ? `, a worker of ${frameOf}` : '';
-  return `${url}${framed} (${file})`;
+  const of = role === undefined || role === 'page' ? '' : `, a ${role} of ${frameOf}`;
+  return `${url}${of} (${file})`;
 };
 
 /**
  * A text with how sure it is that the page does it.
  * @param {import('../readers/html.js').Piece} piece
  */
-const textOf = ({ request, possible }) => `${describeText(request)}${possible ? ' (if it comes to that)' : ''}`;
+const textOf = ({ request, possible }) =>
+  `${describeText(request)}${possible ? ' (if it comes to that)' : ''}`;
 
 /** @param {calls.Item} item @param {boolean} several */
 const byOf = ({ policy, governing }, several) => governing + (several ? `, ${ordinal(policy)} policy` : '');
@@ -129,14 +131,17 @@ const asLine = said => said.charAt(0).toUpperCase() + said.slice(1);
  */
 const unseenOf = ({ pages, left, events }) => {
   const said = /** @type {Map<string, Set<string>>} */ (new Map());
-  const add = (/** @type {string} */ file, /** @type {string} */ text) => said.set(text, (said.get(text) ?? new Set()).add(file));
+  const add = (/** @type {string} */ file, /** @type {string} */ text) =>
+    said.set(text, (said.get(text) ?? new Set()).add(file));
+  const placed = (/** @type {import('../readers/html.js').Said} */ { line, said: text }) =>
+    line === undefined ? text : `line ${line}: ${text}`;
   for (const it of pages) {
     const name = it.url || it.file;
-    for (const text of it.unseen) add(name, text);
-    for (const { line, said: text } of it.left) add(name, line === undefined ? text : `line ${line}: ${text}`);
+    for (const text of it.unseen) if (!text.endsWith(ENFORCED)) add(name, text);
+    for (const of of it.left) add(name, placed(of));
   }
   for (const it of events) for (const text of it.unseen) add(it.file, text);
-  for (const { file, line, said: text } of left) add(file, line === undefined ? text : `line ${line}: ${text}`);
+  for (const it of left) add(it.file, placed(it));
   const isOne = pages.length + left.length < 2;
   return [...said].map(([text, where]) => {
     const names = where.size > 1 ? `${number(where.size)} pages` : [...where][0];
@@ -194,7 +199,8 @@ const toldOf = (answers, { site }, lines) => {
  */
 const browserOf = (answers, { events }) => {
   const rows = events.flatMap(it => it.rows), beside = besideBrowser(answers, rows);
-  return { beside, said: new Set(beside.filter(it => it.isSame).map(it => it.piece)), isAny: events.length > 0 };
+  const said = new Set(beside.filter(it => it.isSame).map(it => it.piece));
+  return { beside, said, isAny: events.length > 0 };
 };
 
 /**
@@ -205,13 +211,16 @@ const browserOf = (answers, { events }) => {
 const differences = (answers, { site, page }) => {
   const { beside, said, isAny } = browserOf(answers, site);
   if (!isAny) return { lines: [], warnings: [] };
-  const more = beside.filter(it => !it.isSame).map(({ violation: { directive, blocked, line, sample }, piece }) =>
-    [piece === undefined ? 'not read' : 'allowed', 'blocked', directive,
-      [blocked, line === undefined ? '' : `line ${line}`, sample].filter(it => it !== '').join(' ')]);
+  const more = beside.filter(it => !it.isSame).map(({ violation, piece }) => {
+    const { directive, blocked, line, sample } = violation, at = line === undefined ? '' : `line ${line}`;
+    const text = [blocked, at, sample].filter(it => it !== '').join(' ');
+    return [piece === undefined ? 'not read' : 'allowed', 'blocked', directive, text];
+  });
   const pages = new Set(beside.map(it => keyOf(it.violation.page)));
   const less = answers.filter(it => pages.has(keyOf(it.page.url)) || pages.has('')).flatMap(it => it.judged)
     .filter(({ piece, answer }) => answer.items.length > 0 && !said.has(piece))
-    .map(({ piece, answer: { items } }) => [answerOf(items[0]).text, 'says nothing', items[0].effective, textOf(piece)]);
+    .map(({ piece, answer: { items: [item] } }) =>
+      [answerOf(item).text, 'says nothing', item.effective, textOf(piece)]);
   const rows = [...more, ...less], sum = counted(beside.length, 'violation');
   return {
     lines: rows.length === 0 ? []
@@ -312,19 +321,20 @@ export const reportSite = asked => {
 
 /** @type {OfSite} */
 export const learnSite = asked => {
-  const { program, site } = asked, pages = site.pages.filter(it => it.role === undefined || it.role === 'page');
+  const { program, site } = asked, pages = site.pages.filter(({ role = 'page' }) => role === 'page');
   const [origin, ...others] = [...new Set(pages.map(it => it.origin))];
   if (others.length > 0) {
-    const problem = `pages of several origins, of which each has a policy of its own: ${origin}, ${others.join(', ')}`;
+    const all = [origin, ...others].join(', ');
+    const problem = `pages of several origins, of which each has a policy of its own: ${all}`;
     throw new Refusal(USAGE, { problem, hint: 'Give the files of one.' });
   }
   const requests = pages.flatMap(it => it.pieces).map(it => it.request);
   const answer = calls.learn(program, { origin, requests: /** @type {any} */ (requests) });
   const apart = site.pages.filter(it => !pages.includes(it));
   const common = commonOf(site), unseen = [
-    ...apart.length > 0
-      ? [`what frames and workers load, of which there are ${apart.length}: left out, since they have policies of their own`]
-      : [], ...common.unseen,
+    ...apart.length === 0 ? []
+      : [`what frames and workers load, of which there are ${apart.length}: left out, since each has a policy`],
+    ...common.unseen,
   ];
   const told = tellLearnt(answer, { origin, names: {} });
   const sentence = 'This policy allows the loads that stand in these files, and no others.';
