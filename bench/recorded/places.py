@@ -261,15 +261,15 @@ def the_shop_is_found():
     with tempfile.TemporaryDirectory(ignore_cleanup_errors=True) as folder:
         server = serve(folder)
         options = f"--host-resolver-rules=MAP * 127.0.0.2:{server.server_address[1]}", "--ignore-certificate-errors"
-        chromium = Chromium(folder + "/profile", *options)
+        chromium, firefox = Chromium(folder + "/profile", *options), None
         try:
             har = recorded(chromium)
             recording = Path(folder) / "recording.har"
             recording.write_text(json.dumps(har))
             headers = policies(recording)
             browsers = {"Chromium": lambda page: Visit(chromium, page).seen}
-            firefox = Firefox(folder) if shutil.which("firefox-esr") and server.server_address[1] == 443 else None
-            if firefox:
+            if shutil.which("firefox-esr") and server.server_address[1] == 443:
+                firefox = Firefox(folder)
                 browsers["Firefox"] = firefox.seen
             for browser, seen in browsers.items():
                 for name, header in headers.items():
@@ -279,8 +279,9 @@ def the_shop_is_found():
                         print(line, flush=True)
                         lines.append(line)
         finally:
-            chromium.process.terminate()
-            chromium.process.wait(20)
+            for process in (chromium.process, *([firefox.process] if firefox else [])):
+                process.terminate()
+                process.wait(20)
             server.shutdown()
     places, missed = sum(it.places for it in rows), sum(len(it.missed) for it in rows)
     lines.append(f"all                {places:6}  {places - missed:5}  {100 * (places - missed) / places:4.0f}%  "

@@ -107,12 +107,15 @@ const tableOf = (groups, isJudged, { page, options }) => {
   const next = isJudged ? ['then'] : [];
   const cell = (/** @type {Counted} */ it) => isJudged ? [stillCell(it)] : [];
   if (groups.length <= MANY || options.all) {
-    const rows = groups.map(it => [number(it.count), ...cell(it), it.violation.directive, it.violation.blocked,
-      placeOf(it), it.violation.sample]);
+    const rows = groups.map(it => {
+      const { directive, blocked, sample } = it.violation;
+      return [number(it.count), ...cell(it), directive, blocked, placeOf(it), sample];
+    });
     return [...table(['times', ...next, 'directive', 'blocked', 'where', 'sample'], rows, page), ''];
   }
   const sums = byHost(groups), rows = sums.slice(0, MANY).map(it => [
-    number(it.count), ...cell(it), it.violation.directive, hostOf(it), [...it.pages][0], number(it.pages.size),
+    number(it.count), ...cell(it), it.violation.directive, hostOf(it), [...it.pages][0],
+    number(it.pages.size),
   ]);
   const head = ['times', ...next, 'directive', 'blocked', 'page', 'pages'];
   return [...table(head, rows, page), '', leftOut(sums.length - MANY), ''];
@@ -128,7 +131,8 @@ const NOTHING = 'No report stands in this: it says nothing of what is blocked.';
 const sentenceOf = (all, still, isJudged) => {
   const sum = all.reduce((count, it) => count + it.reports.violations, 0);
   if (all.every(it => it.reports.isEmpty)) return NOTHING;
-  const said = sum === 0 ? 'No violation of the pages themselves was reported.' : `${counted(sum, 'violation')}.`;
+  const none = 'No violation of the pages themselves was reported.';
+  const said = sum === 0 ? none : `${counted(sum, 'violation')}.`;
   return isJudged ? `${said} The headers would still report ${number(still)} of them.` : said;
 };
 

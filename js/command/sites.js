@@ -37,19 +37,34 @@ const USAGE = 2;
 /** The exit code of a yes that would mean nothing. */
 const MEANS_NOTHING = 15;
 
-/** @param {SitePage} page */
-const nameOf = ({ url, file, role, frameOf }) => {
+/**
+ * The name of a page, with its file where there are several.
+ * @param {SitePage} page
+ * @param {Site} site
+ */
+const nameOf = ({ url, file, role, frameOf }, { pages }) => {
   if (url === '') return file;
   const of = role === undefined || role === 'page' ? '' : `, a ${role} of ${frameOf}`;
-  return `${url}${of} (${file})`;
+  return pages.some(it => it.file !== file) ? `${url}${of} (${file})` : url + of;
 };
 
 /**
- * A text with how sure it is that the page does it.
+ * What a piece is, with the URL that the page asks for.
  * @param {import('../readers/html.js').Piece} piece
  */
-const textOf = ({ request, possible }) =>
-  `${describeText(request)}${possible ? ' (if it comes to that)' : ''}`;
+const textOf = ({ request }) => {
+  const text = describeText(request), { url } = request;
+  return typeof url !== 'string' || text.includes(url) ? text : `${text} ${url}`;
+};
+
+/**
+ * The answer about a piece, and how sure it is that the page does it.
+ * @param {{ piece: import('../readers/html.js').Piece, item: calls.Item }} row
+ */
+const cellOf = ({ piece, item }) => {
+  const answer = answerOf(item);
+  return piece.possible ? { ...REPORTED, text: `${answer.text}?` } : answer;
+};
 
 /** @param {calls.Item} item @param {boolean} several */
 const byOf = ({ policy, governing }, several) => governing + (several ? `, ${ordinal(policy)} policy` : '');
@@ -68,14 +83,14 @@ const rowsOf = ({ judged }) => judged.flatMap(({ piece, answer: { items } }) =>
 const tableOf = (rows, { page, options }) => {
   const several = new Set(rows.map(({ item }) => item.policy)).size > 1;
   if (rows.length <= MANY || options.all) {
-    const cells = rows.map(({ piece, item }) => [answerOf(item), textOf(piece), byOf(item, several)]);
+    const cells = rows.map(it => [cellOf(it), textOf(it.piece), byOf(it.item, several)]);
     return table(['answer', 'request', 'by'], cells, page);
   }
   const of = (/** @type {typeof rows[0]} */ { piece: { request } }) =>
     `${describe(request).what} ${request.kind === 'inline' ? '' : hostOf(request)}`.trim();
-  const groups = grouped(rows, it => [it.item.disposition, byOf(it.item, several), of(it)].join(' '));
+  const groups = grouped(rows, it => [cellOf(it).text, byOf(it.item, several), of(it)].join(' '));
   const cells = groups.slice(0, MANY)
-    .map(({ row, count }) => [number(count), answerOf(row.item), of(row), byOf(row.item, several)]);
+    .map(({ row, count }) => [number(count), cellOf(row), of(row), byOf(row.item, several)]);
   return [...table(['times', 'answer', 'requests', 'by'], cells, page), leftOut(groups.length - MANY)];
 };
 
@@ -97,27 +112,35 @@ const summed = answers => answers.map(countsOf).reduce((sum, it) => ({
 const sentenceOf = answers => {
   const { all, blocked, reported, possible } = summed(answers);
   if (all === 0) return 'Nothing that a policy decides stands in these files, so nothing was judged.';
-  const where = answers.length > 1 ? ` on ${number(answers.length)} pages, frames and workers` : '';
+  const pages = answers.filter(asksAnything).length;
+  const where = pages > 1 ? ` on ${number(pages)} pages, frames and workers` : '';
   const count = blocked === 0 ? 'None' : number(blocked), is = blocked > 1 ? 'are' : 'is';
-  const sure = possible === 0 ? '' : ` ${number(possible)} of them may not come to that:`
-    + ' the page names them, and a browser may do without.';
+  const sure = possible === 0 ? '' : ` Of these ${number(possible)} may not happen: the page names`
+    + ' them, and a browser may do without (blocked?).';
   const more = blocked === 0 ? `But ${number(reported)}` : counted(reported, 'other');
   const also = reported === 0 ? '' : ` ${more} would be, if report-only policies were enforced.`;
   return `${count} of ${counted(all, 'request')}${where} ${is} blocked.${sure}${also}`;
 };
 
 /**
+ * Whether it is a page, or a frame or a worker that asks for anything.
+ * @param {PageAnswer<Verdict>} answer
+ */
+const asksAnything = ({ page: { role = 'page' }, judged }) => role === 'page' || judged.length > 0;
+
+/**
  * A line for each page with its counts.
  * @param {PageAnswer<Verdict>[]} answers
  * @param {Asked} asked
  */
-const pagesTable = (answers, { page }) => {
-  if (answers.length < 2) return [];
-  const cells = answers.map(it => {
-    const { all, blocked, reported } = countsOf(it);
+const pagesTable = (answers, { page, site }) => {
+  const all = answers.filter(asksAnything);
+  if (all.length < 2) return [];
+  const cells = all.map(it => {
+    const { all: count, blocked, reported } = countsOf(it);
     const red = blocked > 0 ? { text: number(blocked), colour: BLOCKED.colour } : '0';
     const yellow = reported > 0 ? { text: number(reported), colour: REPORTED.colour } : '0';
-    return [red, yellow, number(all), nameOf(it.page)];
+    return [red, yellow, number(count), nameOf(it.page, site)];
   });
   return [...table(['blocked', 'reported', 'of', 'page'], cells, page), ''];
 };
@@ -161,9 +184,13 @@ const STEPS = [
  */
 const commonOf = site => {
   const enforced = site.pages.filter(it => it.isEnforced), origins = new Set(site.pages.map(it => it.origin));
+  const roles = ['page', 'frame', 'worker'].flatMap(role => {
+    const count = site.pages.filter(it => (it.role ?? 'page') === role).length;
+    return count === 0 ? [] : [counted(count, role)];
+  });
   return {
     first: enforced.length > 0 ? `${asLine(ENFORCED)}. See below how to record without it.` : undefined,
-    covers: `Looked at: ${counted(site.pages.length, 'page')} of ${[...origins].join(', ')}.`,
+    covers: `Looked at: ${roles.join(', ')}, of ${[...origins].join(', ')}.`,
     unseen: unseenOf(site), steps: enforced.length > 0 ? STEPS : [],
   };
 };
@@ -181,7 +208,7 @@ const toldOf = (answers, { site }, lines) => {
   return {
     ...common, lines, sentence: sentenceOf(answers),
     mood: blocked > 0 ? 'red' : reported > 0 || all === 0 || !isGood ? 'yellow' : 'green',
-    warnings: isVoid.map(it => `${nameOf(it.page)}: no enforced policy decides anything there.`),
+    warnings: isVoid.map(it => `${nameOf(it.page, site)}: no enforced policy decides anything there.`),
     status: blocked > 0 ? 1 : common.first === undefined ? 0 : MEANS_NOTHING,
     findings: () => answers.flatMap(it => rowsOf(it).map(({ piece, item }) => ({
       rule: item.effective, level: item.disposition === 'enforce' ? 'error' : 'warning',
@@ -247,7 +274,7 @@ const plainAnswer = (answers, said) => answers.map(({ page, judged }) => {
 export const judgeSite = asked => {
   const answers = asked.site.pages.map(it => askOfPage(asked.program, it, calls.judge));
   const lines = answers.flatMap(it => {
-    const rows = rowsOf(it), title = asked.page.paint(plain(nameOf(it.page)), 'bold');
+    const rows = rowsOf(it), title = asked.page.paint(plain(nameOf(it.page, asked.site)), 'bold');
     return rows.length === 0 ? [] : [...answers.length > 1 ? [title] : [], ...tableOf(rows, asked), ''];
   });
   return answeredBeside(answers, asked, lines);
@@ -296,7 +323,7 @@ export const whySite = asked => {
   const lines = answers.flatMap(it => {
     const all = it.judged.filter(of => of.answer.items.length > 0);
     const kept = asked.options.all ? all : all.slice(0, MANY), left = all.length - kept.length;
-    const title = asked.page.paint(plain(nameOf(it.page)), 'bold');
+    const title = asked.page.paint(plain(nameOf(it.page, asked.site)), 'bold');
     return all.length === 0 ? [] : [
       ...answers.length > 1 ? [title] : [], ...kept.flatMap(of => reasonLines(of, asked)),
       ...left === 0 ? [] : [`And ${counted(left, 'request')} more: --all shows each.`], '',
@@ -332,8 +359,7 @@ export const learnSite = asked => {
   const answer = calls.learn(program, { origin, requests: /** @type {any} */ (requests) });
   const apart = site.pages.filter(it => !pages.includes(it));
   const common = commonOf(site), unseen = [
-    ...apart.length === 0 ? []
-      : [`what frames and workers load, of which there are ${apart.length}: left out, since each has a policy`],
+    ...apart.length === 0 ? [] : [`what ${apart.length} frames and workers load: left out, since each has a policy`],
     ...common.unseen,
   ];
   const told = tellLearnt(answer, { origin, names: {} });

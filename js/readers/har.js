@@ -238,9 +238,11 @@ const CACHED = 'the page came from the cache (status 304), and its headers may b
  * @returns {Piece[]}
  */
 const framesOf = ({ urls, name, last, decision: { destination = '' } }, meta) => {
-  const isOf = ['object', 'embed'].includes(destination) && /^(?:text\/html|application\/pdf)$/.test(last.media);
+  const isOf = ['object', 'embed'].includes(destination)
+    && ['text/html', 'application/pdf'].includes(last.media);
   const said = `${destination} ${name}, which Chromium takes for a frame too`, note = said;
-  const request = { kind: 'fetch', destination: 'iframe', ...urls.length > 1 ? { urls } : { url: urls[0] }, note };
+  const where = urls.length > 1 ? { urls } : { url: urls[0] };
+  const request = { kind: 'fetch', destination: 'iframe', ...where, note };
   return isOf ? [{ request, meta, said, possible: true }] : [];
 };
 

@@ -38,7 +38,7 @@ answer   request                 by
 blocked  line 2: onclick of <p>  script-src
 
 1 of 4 requests is blocked.
-Looked at: 1 page of https://a.example.
+Looked at: 1 page, of https://a.example.
 Known in part, or not looked at:
 - what scripts do as they run`), stdout);
 });
