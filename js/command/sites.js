@@ -359,7 +359,8 @@ export const learnSite = asked => {
   const answer = calls.learn(program, { origin, requests: /** @type {any} */ (requests) });
   const apart = site.pages.filter(it => !pages.includes(it));
   const common = commonOf(site), unseen = [
-    ...apart.length === 0 ? [] : [`what ${apart.length} frames and workers load: left out, since each has a policy`],
+    ...apart.length === 0 ? []
+      : [`what ${apart.length} frames and workers load: left out, since each has a policy of its own`],
     ...common.unseen,
   ];
   const told = tellLearnt(answer, { origin, names: {} });
