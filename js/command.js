@@ -208,7 +208,7 @@ const answeredOfFolder = async (line, folder, environment) => {
  * @param {Environment} environment
  */
 const answeredOfFiles = async (line, sources, headers, environment) => {
-  const { word: { ask = noWord, tell = noWord }, origins, options } = line;
+  const { word, origins, options } = line, { ask = noWord, tell = noWord } = word;
   const page = pageOf(process.stdout, environment);
   const [requests] = sources, names = { ...line.paths, ...requests ? { requests: requests.path } : {} };
   const contentOf = (/** @type {string} */ name, /** @type {string} */ path) =>
