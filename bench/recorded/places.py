@@ -160,7 +160,7 @@ class Firefox:
                     raise
                 time.sleep(0.5)
         self.message()
-        self.ask("WebDriver:NewSession", capabilities={"alwaysMatch": {"acceptInsecureCerts": True, "pageLoadStrategy": "none"}})
+        self.ask("WebDriver:NewSession", acceptInsecureCerts=True, pageLoadStrategy="none")
 
     def message(self):
         """A message: its length, a colon, and JSON."""
