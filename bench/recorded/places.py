@@ -183,10 +183,10 @@ class Firefox:
 
     def seen(self, page):
         self.ask("WebDriver:Navigate", url=f"{ORIGIN}/{page}")
-        time.sleep(8)
+        time.sleep(6)
         self.ask("WebDriver:ExecuteScript", script=CLICK, args=[])
         time.sleep(1)
-        told = self.ask("WebDriver:ExecuteScript", script="return window.wrappedJSObject.seenViolations || []", args=[])
+        told = self.ask("WebDriver:ExecuteScript", script="return window.seenViolations || []", args=[])
         return json.loads(json.dumps(told["value"]))
 
 
