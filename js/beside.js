@@ -26,7 +26,10 @@ const INLINE = /** @type {Record<string, string[]>} */ ({
 });
 
 /** @param {any} url a request's */
-const textOf = url => typeof url === 'string' ? url : `${url.scheme}:${url.host === undefined ? '' : `//${url.host}`}`;
+const textOf = url => {
+  if (typeof url === 'string') return url;
+  return url.host === undefined ? `${url.scheme}:` : `${url.scheme}://${url.host}`;
+};
 
 /**
  * How near the code of a piece is to what a browser says of it; none where it is other code.
@@ -56,7 +59,8 @@ const nearness = (violation, piece) => {
   }
   const texts = (urls ?? (url === undefined ? [] : [url])).map(textOf);
   if (texts.some((/** @type {string} */ it) => keyOf(it) === keyOf(blocked))) return 2;
-  const isNamed = texts.some((/** @type {string} */ it) => it.startsWith(`${blocked}:`) || urlOf(it)?.origin === blocked);
+  const isNamed = texts.some((/** @type {string} */ it) =>
+    it.startsWith(`${blocked}:`) || urlOf(it)?.origin === blocked);
   return isNamed ? 1 : undefined;
 };
 
@@ -78,10 +82,12 @@ const saysSo = ({ directive, disposition }, { items }) => items.some(it =>
 export const besideBrowser = (answers, rows) => {
   const used = new Set();
   return rows.map(({ violation }) => {
-    const pages = answers.filter(({ page: { url } }) => violation.page === '' || keyOf(url) === keyOf(violation.page));
+    const isOf = (/** @type {string} */ url) => violation.page === '' || keyOf(url) === keyOf(violation.page);
+    const pages = answers.filter(it => isOf(it.page.url));
     const found = pages.flatMap(it => it.judged).flatMap(({ piece, answer }) => {
       const near = nearness(violation, piece), isSame = saysSo(violation, answer);
-      return near === undefined ? [] : [{ piece, isSame, rank: near * 4 + Number(isSame) * 2 + Number(!used.has(piece)) }];
+      if (near === undefined) return [];
+      return [{ piece, isSame, rank: near * 4 + Number(isSame) * 2 + Number(!used.has(piece)) }];
     });
     if (found.length === 0) return { violation, isSame: false };
     const { piece, isSame } = found.reduce((best, it) => it.rank > best.rank ? it : best);

@@ -15,6 +15,7 @@ import { requestsText, writeRequests } from './command/requests.js';
 import { isRequestFile, siteOf, sourcesOf } from './command/sources.js';
 import { tellPairs } from './command/weakened.js';
 import { ownFile } from './own.js';
+import { SNIPPET } from './readers/events.js';
 import { Refusal } from './refusal.js';
 
 /** @typedef {import('./command/line.js').Line} Line */
@@ -129,10 +130,12 @@ const answeredOfSite = async ({ word, origins, options }, sources, headers, envi
   const events = (options.events ?? []).map(path => ({ name: path, text: read('events', path).toString() }));
   const { url } = options, { origin } = origins, { headers: given } = headers;
   const site = await siteOf(sources, events, { url, origin, lines: given?.lines });
-  const program = await programOf(environment.GUIDECERISE_PROGRAM), page = pageOf(process.stdout, environment);
+  const program = await programOf(environment.GUIDECERISE_PROGRAM);
+  const page = pageOf(process.stdout, environment);
   const { answer, told } = await withProgress(() => ofSite({ program, site, options, page }));
   const marked = given === undefined ? site.pages : [];
-  const remarks = [...given?.remarks ?? [], ...marked.flatMap(it => marksIn([...it.lines, ...it.meta], it.file))];
+  const marks = marked.flatMap(it => marksIn([...it.lines, ...it.meta], it.file));
+  const remarks = [...given?.remarks ?? [], ...marks];
   return { answer, told, remarks, page };
 };
 
@@ -205,12 +208,13 @@ const answeredOfFolder = async (line, folder, environment) => {
  * @param {Environment} environment
  */
 const answeredOfFiles = async (line, sources, headers, environment) => {
-  const { word: { ask = noWord, tell = noWord }, origins, options } = line;
+  const { word, origins, options } = line, { ask = noWord, tell = noWord } = word;
   const page = pageOf(process.stdout, environment);
   const [requests] = sources, names = { ...line.paths, ...requests ? { requests: requests.path } : {} };
   const contentOf = (/** @type {string} */ name, /** @type {string} */ path) =>
     name === 'requests' ? requests.bytes : headers[name]?.content ?? read(name, path);
-  const contents = Object.fromEntries(Object.entries(names).map(([name, path]) => [name, contentOf(name, path)]));
+  const held = Object.entries(names).map(([name, path]) => [name, contentOf(name, path)]);
+  const contents = /** @type {Record<string, string | Uint8Array>} */ (Object.fromEntries(held));
   const lines = Object.fromEntries(Object.entries(headers).map(([name, it]) => [name, it.line]));
   const accepted = options.accepted === undefined ? {} : { accepted: acceptedIn(options.accepted) };
   const program = await programOf(environment.GUIDECERISE_PROGRAM);
@@ -266,6 +270,7 @@ const refused = (refusal, line) => {
 const done = async ([first = '', ...rest], environment) => {
   if (['--help', 'help', ''].includes(first)) return { text: help, status: first === '' ? USAGE : 0 };
   if (first === '--version') return { text: `guidecerise ${version()}\n`, status: 0 };
+  if (first === 'events') return { text: `${SNIPPET}\n`, status: 0 };
   if (first === 'csp') {
     const { code, bytes } = await runProgram(rest, environment.GUIDECERISE_PROGRAM);
     return { text: bytes, status: code };

@@ -24,8 +24,8 @@ import { questionsOf } from './readers/site.js';
  * @template {Verdict} Answer
  * @param {Program} program
  * @param {SitePage} page
- * @param {(program: Program, given: { origin: string, headers: string, requests: string }) => Answer[]} call judge
- * or why
+ * @param {(program: Program, given: { origin: string, headers: string, requests: string
+ *   }) => Answer[]} call judge or why
  * @returns {PageAnswer<Answer>}
  */
 export const askOfPage = (program, page, call) => {

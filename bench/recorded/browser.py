@@ -160,7 +160,8 @@ class Recorder:
             if re.search("html|javascript|css", content["mimeType"]) and (text := body_of(request)):
                 content["text"] = text
         log = {"version": "1.2", "creator": {"name": "bench/browser.py", "version": "1"}, "pages": []}
-        return {"log": {**log, "entries": [one for hops in self.hops.values() for one in hops]}}
+        entries = [one for hops in self.hops.values() for one in hops]  # of which the tools export no blob:
+        return {"log": {**log, "entries": [one for one in entries if re.match("(http|ws)s?:", one["request"]["url"])]}}
 
 
 def pairs(headers):

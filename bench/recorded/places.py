@@ -9,6 +9,8 @@ that policy, once enforced and once as a report-only one, and says itself what i
 
 import base64
 import json
+import shutil
+import socket
 import ssl
 import subprocess
 import tempfile
@@ -31,6 +33,7 @@ NAMES += ["columnNumber", "sample"]
 WATCH = f"""window.seenViolations = [];
 addEventListener("securitypolicyviolation", event => seenViolations.push(
     Object.fromEntries({json.dumps(NAMES)}.map(name => [name, event[name]]))));"""
+WATCHED = b'<head><script src="/watch.js" nonce="R4nd0mPerRequest"></script>'  # on the same line
 CLICK = """for (const it of document.querySelectorAll("a[href^='javascript:' i]")) it.click();"""
 
 
@@ -49,6 +52,10 @@ class Shop(BaseHTTPRequestHandler):
         kind = TYPES.get(end) or {"script": "text/javascript", "style": "text/css", "iframe": "text/html",
                                   "document": "text/html", "image": "image/png"}.get(dest, "text/plain")
         body = file.read_bytes() if isShop and file.is_file() else b""
+        if isShop and path == "/watch.js":
+            body = WATCH.encode()
+        elif isShop and "Firefox" in self.headers.get("User-Agent", ""):
+            body = body.replace(b"<head>", WATCHED, 1)
         body = body or EMPTY.get(dest, b"")
         self.send_response(200)
         self.send_header("Content-Type", kind)
@@ -70,7 +77,10 @@ def serve(folder):
     key, cert = Path(folder) / "key.pem", Path(folder) / "cert.pem"
     words = ["openssl", "req", "-x509", "-newkey", "rsa:2048", "-nodes", "-keyout", key, "-out", cert]
     subprocess.run([*words, "-days", "2", "-subj", "/CN=shop.test"], check=True, capture_output=True)
-    server = ThreadingHTTPServer(("127.0.0.1", 0), Shop)
+    try:
+        server = ThreadingHTTPServer(("127.0.0.2", 443), Shop)
+    except OSError:
+        server = ThreadingHTTPServer(("127.0.0.2", 0), Shop)  # of which Firefox can't be told
     server.handle_error = lambda *_: None  # connections that aren't by TLS
     server.policy = None
     context = ssl.SSLContext(ssl.PROTOCOL_TLS_SERVER)
@@ -107,78 +117,175 @@ def body_of(browser, session, request):
     return None if told is None or told["base64Encoded"] else told["body"]
 
 
-def recorded(browser, server, policy):
-    """The recordings of all pages in one, and what the browser told."""
-    server.policy = policy
+def recorded(browser):
+    """The recordings of all pages in one."""
     visits = [Visit(browser, page) for page in PAGES]
     entries = []
     for page, visit in zip(PAGES, visits):
         entries += [{**one, "pageref": page} for one in visit.har["log"]["entries"]]
-    har = {"log": {"version": "1.2", "pages": [{"id": page} for page in PAGES], "entries": entries}}
-    return har, [one for visit in visits for one in visit.seen]
+    return {"log": {"version": "1.2", "pages": [{"id": page} for page in PAGES], "entries": entries}}
 
 
-def place(event):
+PREFERENCES = {
+    "network.dns.forceResolve": "127.0.0.2",
+    "network.captive-portal-service.enabled": False,
+    "network.connectivity-service.enabled": False,
+    "datareporting.policy.dataSubmissionEnabled": False,
+    "browser.aboutwelcome.enabled": False,
+    "browser.startup.homepage_override.mstone": "ignore",
+    "dom.security.https_first": False,
+    "marionette.port": 28287,
+    "security.sandbox.content.level": 0,
+}
+
+
+class Firefox:
+    """A headless Firefox, steered by Marionette. A script of the page keeps the violations."""
+
+    def __init__(self, folder):
+        profile = Path(folder) / "firefox"
+        profile.mkdir()
+        lines = (f"user_pref({json.dumps(name)}, {json.dumps(value)});\n" for name, value in PREFERENCES.items())
+        (profile / "user.js").write_text("".join(lines))
+        words = ["firefox-esr", "--headless", "--no-remote", "--marionette", "--profile", str(profile)]
+        self.process = subprocess.Popen(words, stdout=subprocess.DEVNULL, stderr=subprocess.DEVNULL)
+        self.sent, self.rest = 0, b""
+        end = time.monotonic() + 120
+        while True:
+            try:
+                self.socket = socket.create_connection(("127.0.0.1", PREFERENCES["marionette.port"]), timeout=120)
+                break
+            except OSError:
+                if time.monotonic() > end:
+                    raise
+                time.sleep(0.5)
+        self.message()
+        self.ask("WebDriver:NewSession", acceptInsecureCerts=True, pageLoadStrategy="none")
+
+    def message(self):
+        """A message: its length, a colon, and JSON."""
+        while b":" not in self.rest:
+            self.rest += self.socket.recv(1 << 16)
+        length, _, self.rest = self.rest.partition(b":")
+        while len(self.rest) < int(length):
+            self.rest += self.socket.recv(1 << 16)
+        text, self.rest = self.rest[: int(length)], self.rest[int(length) :]
+        return json.loads(text)
+
+    def ask(self, method, **params):
+        self.sent += 1
+        text = json.dumps([0, self.sent, method, params]).encode()
+        self.socket.sendall(str(len(text)).encode() + b":" + text)
+        _, _, error, result = self.message()
+        if error:
+            raise ValueError(f"firefox: {error}")
+        return result
+
+    def seen(self, page):
+        self.ask("WebDriver:Navigate", url=f"{ORIGIN}/{page}")
+        time.sleep(6)
+        self.ask("WebDriver:ExecuteScript", script=CLICK, args=[])
+        time.sleep(1)
+        told = self.ask("WebDriver:ExecuteScript", script="return window.seenViolations || []", args=[])
+        return json.loads(json.dumps(told["value"]))
+
+
+CAUSES = [
+    ("img-src http://", "browsers load an image of http by https on such a page, but tell a report-only policy of http"),
+    ("frame-src ", "a document in an object is a frame too in this browser, and no type of it was recorded"),
+    ("style-src-attr inline", "a style that a script sets, of which no recording tells"),
+    ("script-src eval", "a call in a text that the recording doesn't hold"),
+]
+
+
+def place(one):
     """What makes a place of a violation: a page, a directive, and what was blocked, in which line."""
-    return tuple(event[name] for name in ("documentURI", "effectiveDirective", "blockedURI", "lineNumber", "sample"))
+    page, directive, blocked = one["documentURI"], one["effectiveDirective"], one["blockedURI"]
+    return page, directive, blocked, one["lineNumber"], one["sample"]
 
 
-def table(name, har, policy, told, folder):
-    """A row for a policy, and lines for what was not found and for what the browser didn't tell."""
-    files = {"shop.har": json.dumps(har), "headers.txt": policy, "events.json": json.dumps(told)}
-    for file, text in files.items():
-        (Path(folder) / file).write_text(text)
-    words = [str(Path(folder) / file) for file in ("shop.har", "headers.txt", "events.json")]
-    _, output, said = guidecerise("judge", words[0], "--headers", words[1], "--events", words[2], "--json")
-    answer = json.loads(output)["answer"]
-    places = {place(event): event for event in told}
-    alone = {(one["page"], one["directive"], one["blocked"], one.get("line", 0), one["sample"]): one
-             for one in answer["browserAlone"]}
-    missed = [key for key in places if (*key[:3], key[3] or 0, key[4]) in alone]
-    engine = [(page, item) for page in answer["pages"] for item in page["items"] if item["items"]]
-    false = [(page, item) for page, item in engine if page["role"] == "page" and not item["browser"] and not item["possible"]]
-    return len(places), missed, false, len(engine)
+class Row:
+    """What the readers and the engine find of what a browser told under a policy."""
+
+    def __init__(self, folder, har, policy, told):
+        files = {"shop.har": json.dumps(har), "headers.txt": policy, "events.json": json.dumps(told)}
+        for file, text in files.items():
+            (Path(folder) / file).write_text(text)
+        recording, headers, events = (str(Path(folder) / file) for file in files)
+        _, output, said = guidecerise("judge", recording, "--headers", headers, "--events", events, "--json")
+        if not output:
+            raise ValueError(said)
+        answer = json.loads(output)["answer"]
+        alone = {(one["page"], one["directive"], one["blocked"], one.get("line", 0), one["sample"])
+                 for one in answer["browserAlone"]}
+        places = {place(one) for one in told}
+        self.places = len(places)
+        self.missed = sorted(one for one in places if (*one[:3], one[3] or 0, one[4]) in alone)
+        items = [(page, item) for page in answer["pages"] if page["role"] == "page" for item in page["items"]]
+        self.false = [(page["url"], item["request"].get("note")) for page, item in items
+                      if item["items"] and not item["browser"] and not item["possible"]]
+
+    def lines(self, browser, policy):
+        """The line of the table, and those for what wasn't found and what the browser didn't tell."""
+        found = self.places - len(self.missed)
+        yield f"{browser:8}  {policy:6}  {self.places:6}  {found:5}  {100 * found / max(1, self.places):4.0f}%  {len(self.false):5}"
+        for page, *rest in self.missed:
+            text = " ".join(map(str, rest))
+            cause = next((why for begin, why in CAUSES if text.startswith(begin)), "not known why")
+            yield f"    not found: {page} {text}: {cause}"
+        for page, note in self.false:
+            yield f"    not told by the browser: {page} {note}"
 
 
-def enforced(policy):
-    return policy.partition(":")[2].strip()
+def policies(recording):
+    """The header of each policy: the shop's old one, one that is learnt of the recording, and a strict one."""
+    read = {name: (HERE / f"headers/{name}.txt").read_text().splitlines() for name in ("old", "strict")}
+    headers = {name: next(it for it in lines if it.startswith("content-security-policy:")) for name, lines in read.items()}
+    _, learnt, _ = guidecerise("learn", str(recording), "--json")
+    return {"old": headers["old"], "learnt": json.loads(learnt)["answer"]["headers"].strip(), "strict": headers["strict"]}
+
+
+def told_under(header, server, seen):
+    """What a browser tells under a policy that only reports, and then under the same, enforced."""
+    name, _, value = header.partition(":")
+    told = []
+    for one in (f"{name}-Report-Only", name):
+        server.policy = (one, value.strip())
+        told += [{**event, "disposition": "enforce"} for page in PAGES for event in seen(page)]
+    return told
 
 
 def the_shop_is_found():
-    """The table for Chromium, which goes to bench/results/recorded.txt."""
-    lines = ["browser   policy  places  found  share  false", ]
-    notes = []
+    """The table, which goes to bench/results/recorded.txt."""
+    lines, rows = ["browser   policy  places  found  share  false"], []
     with tempfile.TemporaryDirectory(ignore_cleanup_errors=True) as folder:
         server = serve(folder)
-        port = server.server_address[1]
-        browser = Chromium(folder + "/profile", f"--host-resolver-rules=MAP * 127.0.0.1:{port}", "--ignore-certificate-errors")
+        options = f"--host-resolver-rules=MAP * 127.0.0.2:{server.server_address[1]}", "--ignore-certificate-errors"
+        chromium, firefox = Chromium(folder + "/profile", *options), None
         try:
-            har, _ = recorded(browser, server, None)
-            (Path(folder) / "shop.har").write_text(json.dumps(har))
-            Path("/tmp/b-shop.har").write_text(json.dumps(har))
-            _, learnt, _ = guidecerise("learn", str(Path(folder) / "shop.har"), "--json")
-            policies = {name: next(line for line in (HERE / f"headers/{name}.txt").read_text().splitlines()
-                                   if line.lower().startswith("content-security-policy:")) for name in ("old", "strict")}
-            policies["learnt"] = json.loads(learnt)["answer"]["headers"].strip()
-            for name in ("old", "learnt", "strict"):
-                value = enforced(policies[name])
-                told = []
-                for header in ("Content-Security-Policy-Report-Only", "Content-Security-Policy"):
-                    told += recorded(browser, server, (header, value))[1]
-                for event in told:
-                    event["disposition"] = "enforce"
-                Path(f"/tmp/b-{name}.json").write_text(json.dumps(told))
-                Path(f"/tmp/b-{name}.txt").write_text(policies[name])
-                places, missed, false, _ = table(name, har, policies[name], told, folder)
-                found = places - len(missed)
-                lines.append(f"Chromium  {name:6}  {places:6}  {found:5}  {100 * found // max(1, places):4}%  {len(false):5}")
-                notes += [f"{name}: not found: {' '.join(map(str, one))}" for one in missed]
-                notes += [f"{name}: not told by the browser: {page['url']} {item['request'].get('note')}" for page, item in false]
+            har = recorded(chromium)
+            recording = Path(folder) / "recording.har"
+            recording.write_text(json.dumps(har))
+            headers = policies(recording)
+            browsers = {"Chromium": lambda page: Visit(chromium, page).seen}
+            if shutil.which("firefox-esr") and server.server_address[1] == 443:
+                firefox = Firefox(folder)
+                browsers["Firefox"] = firefox.seen
+            for browser, seen in browsers.items():
+                for name, header in headers.items():
+                    row = Row(folder, har, header, told_under(header, server, seen))
+                    rows.append(row)
+                    for line in row.lines(browser, name):
+                        print(line, flush=True)
+                        lines.append(line)
         finally:
-            browser.process.terminate()
-            browser.process.wait(20)
+            for process in (chromium.process, *([firefox.process] if firefox else [])):
+                process.terminate()
+                process.wait(20)
             server.shutdown()
-    text = "\n".join([*lines, "", *notes]) + "\n"
-    print(text)
-    RESULTS.parent.mkdir(exist_ok=True)
-    RESULTS.write_text(text)
+    places, missed = sum(it.places for it in rows), sum(len(it.missed) for it in rows)
+    lines.append(f"all                {places:6}  {places - missed:5}  {100 * (places - missed) / places:4.0f}%  "
+                 f"{sum(len(it.false) for it in rows):5}")
+    RESULTS.write_text("\n".join(lines) + "\n")
+    point("at least 95 of 100 places are found", True, missed <= places * 0.05)
+    point("what is said to be blocked, the browser reports too", [], [one for it in rows for one in it.false])

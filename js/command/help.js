@@ -83,8 +83,10 @@ export const help = `guidecerise tells what a Content Security Policy does. A pr
   guidecerise WORD ..       WORD --help tells what it takes
 
 ${WORDS.map(({ word, summary }) => `  ${word.padEnd(width)}  ${summary}`).join('\n')}
+  ${'events'.padEnd(width)}  a snippet for the console, which copies what the browser blocks
   ${'csp'.padEnd(width)}  the program itself: the same words, bytes and exit codes
 
+  guidecerise judge page.har
   guidecerise judge https://www.example headers.txt requests.json
   guidecerise compare https://www.example --new new.txt --old old.txt
 

@@ -75,7 +75,8 @@ const rowsOf = (verdicts, requests) => verdicts.flatMap(({ number, items }) =>
  * How many rows of a sum aren't shown.
  * @param {number} left
  */
-export const leftOut = left => `${left > 0 ? `And ${counted(left, 'row')} more. ` : ''}--all shows each of them.`;
+export const leftOut = left =>
+  `${left > 0 ? `And ${counted(left, 'row')} more. ` : ''}--all shows each of them.`;
 
 /**
  * @param {Row[]} rows

@@ -79,8 +79,11 @@ const takesSources = word => word.members.includes('requests');
  * @param {Word} word
  * @param {string[]} positionals
  */
-const areSources = (word, [first = '-', ...rest]) => takesSources(word)
-  && (word.members[0] === 'requests' || first !== 'null' && (existsSync(first) || !/^[a-z][a-z0-9+.-]*:/i.test(first) && rest.length < 2));
+const areSources = (word, [first = '-', ...rest]) => {
+  if (!takesSources(word) || word.members[0] === 'requests') return takesSources(word);
+  const isOrigin = first === 'null' || /^[a-z][a-z0-9+.-]*:/i.test(first);
+  return existsSync(first) || !isOrigin && rest.length < 2;
+};
 
 /**
  * The members and their values: those that are named, and for the others the positionals in their order.

@@ -4,7 +4,7 @@ import { judge } from '../index.js';
 import { Reports, Tally } from '../readers/reports.js';
 import { urlOf } from '../readers/urls.js';
 import { Refusal } from '../refusal.js';
-import { BLOCKED, MANY, counted, leftOut, number } from './judged.js';
+import { ALLOWED, BLOCKED, MANY, counted, leftOut, number } from './judged.js';
 import { table } from './page.js';
 
 /**
@@ -78,8 +78,10 @@ const placeOf = ({ violation: { page, file, line, column }, pages }) => {
 const hostOf = ({ violation: { blocked } }) => urlOf(blocked)?.host || blocked;
 
 /** @param {Counted} group */
-const stillCell = ({ still }) => still === undefined ? '-'
-  : still ? { text: 'still', colour: BLOCKED.colour } : { text: 'ended', colour: /** @type {const} */ ('green') };
+const stillCell = ({ still }) => {
+  if (still === undefined) return '-';
+  return still ? { ...BLOCKED, text: 'still' } : { ...ALLOWED, text: 'ended' };
+};
 
 /**
  * Groups by directive and host, each with the sum of their counts.
@@ -102,17 +104,24 @@ const byHost = groups => {
  */
 const tableOf = (groups, isJudged, { page, options }) => {
   if (groups.length === 0) return [];
-  const next = isJudged ? ['then'] : [], cell = (/** @type {Counted} */ it) => isJudged ? [stillCell(it)] : [];
+  const next = isJudged ? ['then'] : [];
+  const cell = (/** @type {Counted} */ it) => isJudged ? [stillCell(it)] : [];
   if (groups.length <= MANY || options.all) {
-    const rows = groups.map(it => [number(it.count), ...cell(it), it.violation.directive, it.violation.blocked,
-      placeOf(it), it.violation.sample]);
+    const rows = groups.map(it => {
+      const { directive, blocked, sample } = it.violation;
+      return [number(it.count), ...cell(it), directive, blocked, placeOf(it), sample];
+    });
     return [...table(['times', ...next, 'directive', 'blocked', 'where', 'sample'], rows, page), ''];
   }
-  const sums = byHost(groups), rows = sums.slice(0, MANY).map(it =>
-    [number(it.count), ...cell(it), it.violation.directive, hostOf(it), [...it.pages][0], number(it.pages.size)]);
+  const sums = byHost(groups), rows = sums.slice(0, MANY).map(it => [
+    number(it.count), ...cell(it), it.violation.directive, hostOf(it), [...it.pages][0],
+    number(it.pages.size),
+  ]);
   const head = ['times', ...next, 'directive', 'blocked', 'page', 'pages'];
   return [...table(head, rows, page), '', leftOut(sums.length - MANY), ''];
 };
+
+const NOTHING = 'No report stands in this: it says nothing of what is blocked.';
 
 /**
  * @param {{ path: string, reports: Reports }[]} all
@@ -121,8 +130,9 @@ const tableOf = (groups, isJudged, { page, options }) => {
  */
 const sentenceOf = (all, still, isJudged) => {
   const sum = all.reduce((count, it) => count + it.reports.violations, 0);
-  if (all.every(it => it.reports.isEmpty)) return 'No report stands in this: it says nothing of what is blocked.';
-  const said = sum === 0 ? 'No violation of the pages themselves was reported.' : `${counted(sum, 'violation')}.`;
+  if (all.every(it => it.reports.isEmpty)) return NOTHING;
+  const none = 'No violation of the pages themselves was reported.';
+  const said = sum === 0 ? none : `${counted(sum, 'violation')}.`;
   return isJudged ? `${said} The headers would still report ${number(still)} of them.` : said;
 };
 
@@ -144,7 +154,8 @@ export const tellSent = async ({ program, paths, headers, page, options }) => {
     reports.left.map(it => all.length > 1 ? `${path}: ${it}` : it));
   /** @type {Told} */
   const told = {
-    lines: tableOf(groups, isJudged, { page, options }), mood: isWhole && sum === 0 && isJudged ? 'green' : 'yellow',
+    lines: tableOf(groups, isJudged, { page, options }),
+    mood: sum > 0 ? 'red' : isWhole && groups.every(it => it.still === false) ? 'green' : 'yellow',
     sentence: sentenceOf(all, sum, isJudged),
     warnings: isWhole ? [] : ['Not all of what was given was read as reports: see below.'],
     covers: `Looked at: ${paths.join(', ')}. What nobody's browser reported isn't in it.`,

@@ -1,14 +1,15 @@
 /** What is said of the pages of a site, by page and in sum: judge, why, report and learn. */
+import { besideBrowser } from '../beside.js';
 import { describe, describeText, hostOf } from '../describe.js';
 import * as calls from '../index.js';
 import { ENFORCED, WITHOUT_POLICY } from '../readers/har.js';
+import { keyOf } from '../readers/hops.js';
 import { questionsOf } from '../readers/site.js';
 import { Refusal } from '../refusal.js';
 import { askOfPage } from '../sites.js';
-import { besideBrowser } from '../beside.js';
-import { keyOf } from '../readers/hops.js';
 import { tellLearnt } from './compared.js';
-import { BLOCKED, REPORTED, MANY, answerOf, counted, groundText, grouped, leftOut, number, ordinal, toldReports,
+import {
+  BLOCKED, REPORTED, MANY, answerOf, counted, groundText, grouped, leftOut, number, ordinal, toldReports,
 } from './judged.js';
 import { plain, table, wrapped } from './page.js';
 
@@ -36,18 +37,34 @@ const USAGE = 2;
 /** The exit code of a yes that would mean nothing. */
 const MEANS_NOTHING = 15;
 
-/** @param {SitePage} page */
-const nameOf = ({ url, file, role, frameOf }) => {
+/**
+ * The name of a page, with its file where there are several.
+ * @param {SitePage} page
+ * @param {Site} site
+ */
+const nameOf = ({ url, file, role, frameOf }, { pages }) => {
   if (url === '') return file;
-  const framed = role === 'frame' ? `, framed by ${frameOf}` : role === 'worker' ? `, a worker of ${frameOf}` : '';
-  return `${url}${framed} (${file})`;
+  const of = role === undefined || role === 'page' ? '' : `, a ${role} of ${frameOf}`;
+  return pages.some(it => it.file !== file) ? `${url}${of} (${file})` : url + of;
 };
 
 /**
- * A text with how sure it is that the page does it.
+ * What a piece is, with the URL that the page asks for.
  * @param {import('../readers/html.js').Piece} piece
  */
-const textOf = ({ request, possible }) => `${describeText(request)}${possible ? ' (if it comes to that)' : ''}`;
+const textOf = ({ request }) => {
+  const text = describeText(request), { url } = request;
+  return typeof url !== 'string' || text.includes(url) ? text : `${text} ${url}`;
+};
+
+/**
+ * The answer about a piece, and how sure it is that the page does it.
+ * @param {{ piece: import('../readers/html.js').Piece, item: calls.Item }} row
+ */
+const cellOf = ({ piece, item }) => {
+  const answer = answerOf(item);
+  return piece.possible ? { ...REPORTED, text: `${answer.text}?` } : answer;
+};
 
 /** @param {calls.Item} item @param {boolean} several */
 const byOf = ({ policy, governing }, several) => governing + (several ? `, ${ordinal(policy)} policy` : '');
@@ -66,14 +83,14 @@ const rowsOf = ({ judged }) => judged.flatMap(({ piece, answer: { items } }) =>
 const tableOf = (rows, { page, options }) => {
   const several = new Set(rows.map(({ item }) => item.policy)).size > 1;
   if (rows.length <= MANY || options.all) {
-    const cells = rows.map(({ piece, item }) => [answerOf(item), textOf(piece), byOf(item, several)]);
+    const cells = rows.map(it => [cellOf(it), textOf(it.piece), byOf(it.item, several)]);
     return table(['answer', 'request', 'by'], cells, page);
   }
   const of = (/** @type {typeof rows[0]} */ { piece: { request } }) =>
     `${describe(request).what} ${request.kind === 'inline' ? '' : hostOf(request)}`.trim();
-  const groups = grouped(rows, it => [it.item.disposition, byOf(it.item, several), of(it)].join(' '));
+  const groups = grouped(rows, it => [cellOf(it).text, byOf(it.item, several), of(it)].join(' '));
   const cells = groups.slice(0, MANY)
-    .map(({ row, count }) => [number(count), answerOf(row.item), of(row), byOf(row.item, several)]);
+    .map(({ row, count }) => [number(count), cellOf(row), of(row), byOf(row.item, several)]);
   return [...table(['times', 'answer', 'requests', 'by'], cells, page), leftOut(groups.length - MANY)];
 };
 
@@ -95,27 +112,35 @@ const summed = answers => answers.map(countsOf).reduce((sum, it) => ({
 const sentenceOf = answers => {
   const { all, blocked, reported, possible } = summed(answers);
   if (all === 0) return 'Nothing that a policy decides stands in these files, so nothing was judged.';
-  const where = answers.length > 1 ? ` on ${number(answers.length)} pages, frames and workers` : '';
+  const pages = answers.filter(asksAnything).length;
+  const where = pages > 1 ? ` on ${number(pages)} pages, frames and workers` : '';
   const count = blocked === 0 ? 'None' : number(blocked), is = blocked > 1 ? 'are' : 'is';
-  const sure = possible === 0 ? '' : ` ${number(possible)} of them may not come to that:`
-    + ' the page names them, and a browser may do without.';
+  const sure = possible === 0 ? '' : ` Of these ${number(possible)} may not happen: the page names`
+    + ' them, and a browser may do without (blocked?).';
   const more = blocked === 0 ? `But ${number(reported)}` : counted(reported, 'other');
   const also = reported === 0 ? '' : ` ${more} would be, if report-only policies were enforced.`;
   return `${count} of ${counted(all, 'request')}${where} ${is} blocked.${sure}${also}`;
 };
 
 /**
+ * Whether it is a page, or a frame or a worker that asks for anything.
+ * @param {PageAnswer<Verdict>} answer
+ */
+const asksAnything = ({ page: { role = 'page' }, judged }) => role === 'page' || judged.length > 0;
+
+/**
  * A line for each page with its counts.
  * @param {PageAnswer<Verdict>[]} answers
  * @param {Asked} asked
  */
-const pagesTable = (answers, { page }) => {
-  if (answers.length < 2) return [];
-  const cells = answers.map(it => {
-    const { all, blocked, reported } = countsOf(it);
+const pagesTable = (answers, { page, site }) => {
+  const all = answers.filter(asksAnything);
+  if (all.length < 2) return [];
+  const cells = all.map(it => {
+    const { all: count, blocked, reported } = countsOf(it);
     const red = blocked > 0 ? { text: number(blocked), colour: BLOCKED.colour } : '0';
     const yellow = reported > 0 ? { text: number(reported), colour: REPORTED.colour } : '0';
-    return [red, yellow, number(all), nameOf(it.page)];
+    return [red, yellow, number(count), nameOf(it.page, site)];
   });
   return [...table(['blocked', 'reported', 'of', 'page'], cells, page), ''];
 };
@@ -129,14 +154,17 @@ const asLine = said => said.charAt(0).toUpperCase() + said.slice(1);
  */
 const unseenOf = ({ pages, left, events }) => {
   const said = /** @type {Map<string, Set<string>>} */ (new Map());
-  const add = (/** @type {string} */ file, /** @type {string} */ text) => said.set(text, (said.get(text) ?? new Set()).add(file));
+  const add = (/** @type {string} */ file, /** @type {string} */ text) =>
+    said.set(text, (said.get(text) ?? new Set()).add(file));
+  const placed = (/** @type {import('../readers/html.js').Said} */ { line, said: text }) =>
+    line === undefined ? text : `line ${line}: ${text}`;
   for (const it of pages) {
     const name = it.url || it.file;
-    for (const text of it.unseen) add(name, text);
-    for (const { line, said: text } of it.left) add(name, line === undefined ? text : `line ${line}: ${text}`);
+    for (const text of it.unseen) if (!text.endsWith(ENFORCED)) add(name, text);
+    for (const of of it.left) add(name, placed(of));
   }
   for (const it of events) for (const text of it.unseen) add(it.file, text);
-  for (const { file, line, said: text } of left) add(file, line === undefined ? text : `line ${line}: ${text}`);
+  for (const it of left) add(it.file, placed(it));
   const isOne = pages.length + left.length < 2;
   return [...said].map(([text, where]) => {
     const names = where.size > 1 ? `${number(where.size)} pages` : [...where][0];
@@ -156,9 +184,13 @@ const STEPS = [
  */
 const commonOf = site => {
   const enforced = site.pages.filter(it => it.isEnforced), origins = new Set(site.pages.map(it => it.origin));
+  const roles = ['page', 'frame', 'worker'].flatMap(role => {
+    const count = site.pages.filter(it => (it.role ?? 'page') === role).length;
+    return count === 0 ? [] : [counted(count, role)];
+  });
   return {
     first: enforced.length > 0 ? `${asLine(ENFORCED)}. See below how to record without it.` : undefined,
-    covers: `Looked at: ${counted(site.pages.length, 'page')} of ${[...origins].join(', ')}.`,
+    covers: `Looked at: ${roles.join(', ')}, of ${[...origins].join(', ')}.`,
     unseen: unseenOf(site), steps: enforced.length > 0 ? STEPS : [],
   };
 };
@@ -176,7 +208,7 @@ const toldOf = (answers, { site }, lines) => {
   return {
     ...common, lines, sentence: sentenceOf(answers),
     mood: blocked > 0 ? 'red' : reported > 0 || all === 0 || !isGood ? 'yellow' : 'green',
-    warnings: isVoid.map(it => `${nameOf(it.page)}: no enforced policy decides anything there.`),
+    warnings: isVoid.map(it => `${nameOf(it.page, site)}: no enforced policy decides anything there.`),
     status: blocked > 0 ? 1 : common.first === undefined ? 0 : MEANS_NOTHING,
     findings: () => answers.flatMap(it => rowsOf(it).map(({ piece, item }) => ({
       rule: item.effective, level: item.disposition === 'enforce' ? 'error' : 'warning',
@@ -194,7 +226,8 @@ const toldOf = (answers, { site }, lines) => {
  */
 const browserOf = (answers, { events }) => {
   const rows = events.flatMap(it => it.rows), beside = besideBrowser(answers, rows);
-  return { beside, said: new Set(beside.filter(it => it.isSame).map(it => it.piece)), isAny: events.length > 0 };
+  const said = new Set(beside.filter(it => it.isSame).map(it => it.piece));
+  return { beside, said, isAny: events.length > 0 };
 };
 
 /**
@@ -205,13 +238,16 @@ const browserOf = (answers, { events }) => {
 const differences = (answers, { site, page }) => {
   const { beside, said, isAny } = browserOf(answers, site);
   if (!isAny) return { lines: [], warnings: [] };
-  const more = beside.filter(it => !it.isSame).map(({ violation: { directive, blocked, line, sample }, piece }) =>
-    [piece === undefined ? 'not read' : 'allowed', 'blocked', directive,
-      [blocked, line === undefined ? '' : `line ${line}`, sample].filter(it => it !== '').join(' ')]);
+  const more = beside.filter(it => !it.isSame).map(({ violation, piece }) => {
+    const { directive, blocked, line, sample } = violation, at = line === undefined ? '' : `line ${line}`;
+    const text = [blocked, at, sample].filter(it => it !== '').join(' ');
+    return [piece === undefined ? 'not read' : 'allowed', 'blocked', directive, text];
+  });
   const pages = new Set(beside.map(it => keyOf(it.violation.page)));
   const less = answers.filter(it => pages.has(keyOf(it.page.url)) || pages.has('')).flatMap(it => it.judged)
     .filter(({ piece, answer }) => answer.items.length > 0 && !said.has(piece))
-    .map(({ piece, answer: { items } }) => [answerOf(items[0]).text, 'says nothing', items[0].effective, textOf(piece)]);
+    .map(({ piece, answer: { items: [item] } }) =>
+      [answerOf(item).text, 'says nothing', item.effective, textOf(piece)]);
   const rows = [...more, ...less], sum = counted(beside.length, 'violation');
   return {
     lines: rows.length === 0 ? []
@@ -238,7 +274,7 @@ const plainAnswer = (answers, said) => answers.map(({ page, judged }) => {
 export const judgeSite = asked => {
   const answers = asked.site.pages.map(it => askOfPage(asked.program, it, calls.judge));
   const lines = answers.flatMap(it => {
-    const rows = rowsOf(it), title = asked.page.paint(plain(nameOf(it.page)), 'bold');
+    const rows = rowsOf(it), title = asked.page.paint(plain(nameOf(it.page, asked.site)), 'bold');
     return rows.length === 0 ? [] : [...answers.length > 1 ? [title] : [], ...tableOf(rows, asked), ''];
   });
   return answeredBeside(answers, asked, lines);
@@ -287,7 +323,7 @@ export const whySite = asked => {
   const lines = answers.flatMap(it => {
     const all = it.judged.filter(of => of.answer.items.length > 0);
     const kept = asked.options.all ? all : all.slice(0, MANY), left = all.length - kept.length;
-    const title = asked.page.paint(plain(nameOf(it.page)), 'bold');
+    const title = asked.page.paint(plain(nameOf(it.page, asked.site)), 'bold');
     return all.length === 0 ? [] : [
       ...answers.length > 1 ? [title] : [], ...kept.flatMap(of => reasonLines(of, asked)),
       ...left === 0 ? [] : [`And ${counted(left, 'request')} more: --all shows each.`], '',
@@ -312,19 +348,20 @@ export const reportSite = asked => {
 
 /** @type {OfSite} */
 export const learnSite = asked => {
-  const { program, site } = asked, pages = site.pages.filter(it => it.role === undefined || it.role === 'page');
+  const { program, site } = asked, pages = site.pages.filter(({ role = 'page' }) => role === 'page');
   const [origin, ...others] = [...new Set(pages.map(it => it.origin))];
   if (others.length > 0) {
-    const problem = `pages of several origins, of which each has a policy of its own: ${origin}, ${others.join(', ')}`;
+    const all = [origin, ...others].join(', ');
+    const problem = `pages of several origins, of which each has a policy of its own: ${all}`;
     throw new Refusal(USAGE, { problem, hint: 'Give the files of one.' });
   }
   const requests = pages.flatMap(it => it.pieces).map(it => it.request);
   const answer = calls.learn(program, { origin, requests: /** @type {any} */ (requests) });
   const apart = site.pages.filter(it => !pages.includes(it));
   const common = commonOf(site), unseen = [
-    ...apart.length > 0
-      ? [`what frames and workers load, of which there are ${apart.length}: left out, since they have policies of their own`]
-      : [], ...common.unseen,
+    ...apart.length === 0 ? []
+      : [`what ${apart.length} frames and workers load: left out, since each has a policy of its own`],
+    ...common.unseen,
   ];
   const told = tellLearnt(answer, { origin, names: {} });
   const sentence = 'This policy allows the loads that stand in these files, and no others.';

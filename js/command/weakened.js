@@ -109,9 +109,9 @@ const sentenceOf = ({ verdict, uncovered, accepted }, names) => {
   const besides = accepted.some(it => it.needed) ? ' but for what is accepted' : '';
   const loose = uncovered.filter(it => it.loosens && it.accepted === undefined).map(it => it.directive).join(', ');
   return {
-    'not weaker': `Not weaker${besides}: ${names.new} blocks all that ${names.old} blocks${besides}. Both checkers accept`
-      + ' the proof.',
-    weaker: `Weaker: ${names.new} allows what ${names.old} blocks${besides}.`
+    'not weaker': `Not weaker${besides}: ${names.new} blocks all ${besides === '' ? 'that' : 'else that'} ${names.old} blocks.`
+      + ' Both checkers accept the proof.',
+    weaker: `Weaker: ${names.new} allows what ${names.old} blocks${besides === '' ? '' : ', and not just what is accepted'}.`
       + (loose === '' ? '' : ` Besides, no proof covers what got looser: ${loose}.`),
     loosened: `Weaker outside the proof: ${names.new} loosens ${loose}, which no proof covers.`,
     nothing: `No answer: ${names.old} blocks nothing, so nothing is weaker than it.`,

@@ -232,6 +232,21 @@ const CACHED = 'the page came from the cache (status 304), and its headers may b
   + 'cache';
 
 /**
+ * A document in an object or an embed, which Chromium asks `frame-src` about too.
+ * @param {Chain} chain
+ * @param {string[]} meta
+ * @returns {Piece[]}
+ */
+const framesOf = ({ urls, name, last, decision: { destination = '' } }, meta) => {
+  const isOf = ['object', 'embed'].includes(destination)
+    && ['text/html', 'application/pdf'].includes(last.media);
+  const said = `${destination} ${name}, which Chromium takes for a frame too`, note = said;
+  const where = urls.length > 1 ? { urls } : { url: urls[0] };
+  const request = { kind: 'fetch', destination: 'iframe', ...where, note };
+  return isOf ? [{ request, meta, said, possible: true }] : [];
+};
+
+/**
  * What the text of a script that was recorded names.
  * @param {Chain} chain
  * @param {string[]} meta
@@ -262,7 +277,10 @@ const pageOf = ({ chain, role, parent, requests }, parse) => {
   const left = [...page.left, ...said, ...response?.status === 304 ? [{ said: CACHED }] : []];
   return {
     ...page, role, frameOf: parent === null ? null : addressOf(parent.chain), isEnforced, left,
-    pieces: [...joined(judged, page.pieces, page.meta), ...judged.flatMap(it => codeOf(it, page.meta))],
+    pieces: [
+      ...joined(judged, page.pieces, page.meta),
+      ...judged.flatMap(it => [...framesOf(it, page.meta), ...codeOf(it, page.meta)]),
+    ],
     unseen: [
       ...isEnforced ? [`what the enforced policy blocked: ${ENFORCED}`] : [],
       ...text === undefined ? [NO_TEXT] : [],

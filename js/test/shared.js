@@ -27,11 +27,11 @@ export const STRICT =
 /** Whether a program is on the path. */
 export const has = name => spawnSync('sh', ['-c', `command -v ${name}`]).status === 0;
 
-/** Runs the command at the top of the repository. */
-export const guidecerise = (words, options = {}) => {
+/** Runs the command at the top of the repository; `node` has words for Node itself. */
+export const guidecerise = (words, { node = [], ...options } = {}) => {
   const command = fileURLToPath(new URL('../bin/guidecerise.js', import.meta.url));
   const { GUIDECERISE_PROGRAM, ...env } = process.env;
-  return spawnSync(process.execPath, [command, ...words], {
+  return spawnSync(process.execPath, [...node, command, ...words], {
     cwd: TOP, encoding: 'utf8', ...options, env: { ...env, ...options.env },
   });
 };
