@@ -1,279 +1,429 @@
-'use strict';
-// The page: its tabs, its fields, and a worker that asks the engine. The same script is the worker's.
-const at = id => document.getElementById(id);
+/** The page: its fields and questions. What decides runs in the worker. */
+import { Asking, NoAnswer, Stopped } from './asking.js';
+import { asJson, asMarkdown, asText } from './copy.js';
+import { Given, describedAs, takenFor } from './given.js';
+import { beginning, linkOf, stateOf } from './link.js';
+import { ownSite } from './own.js';
+import { questionOf } from './question.js';
+import { say } from './sentences.js';
+import { element, shown, told } from './show.js';
+import { textOf } from './answer.js';
 
-// The engine in its worker. A task that is stopped ends with its worker, and the next one gets a new worker.
-class Engine {
-  constructor(script, heard) {
-    Object.assign(this, { script, heard, next: 0, waiting: new Map() });
-    this.start();
-  }
-  start() {
-    const url = URL.createObjectURL(new Blob([this.script], { type: 'text/javascript' }));
-    this.worker = new Worker(url);
-    this.worker.onmessage = ({ data }) => this.hear(data);
-    this.worker.onerror = event => this.heard.failed(event.message || 'the worker does not start');
-  }
-  hear(data) {
-    if (data.ready) return this.heard.ready(data.commands);
-    if (data.failed) return this.heard.failed(data.failed);
-    const { tell, done } = this.waiting.get(data.id) ?? {};
-    if (data.done !== undefined) return tell?.(data.done, data.all);
-    this.waiting.delete(data.id);
-    done?.(data);
-  }
-  do(task, given, tell = () => {}) {
-    const id = this.next++;
-    return new Promise(done => {
-      this.waiting.set(id, { tell, done });
-      this.worker.postMessage({ id, task, given });
-    });
-  }
-  stop() {
-    this.worker.terminate();
-    for (const { done } of this.waiting.values()) done({ stopped: true });
-    this.waiting.clear();
-    this.start();
-  }
-}
+/**
+ * @typedef {import('./question.js').Name} Name
+ * @typedef {import('./answer.js').Answer} Answer
+ */
 
-// What a task is doing, once it takes longer than a moment
-class Busy {
-  constructor() {
-    this.since = null;
-    setInterval(() => this.show(), 200);
+/** @param {string} id @returns {any} */
+const by = id => document.getElementById(id);
+
+/** @param {string} selector @returns {any[]} */
+const all = selector => [...document.querySelectorAll(selector)];
+
+const given = new Given();
+const asking = new Asking(by('worker').textContent, by('engine').textContent);
+const answers = /** @type {Map<string, { revision: number, answer: Answer, element: HTMLElement }>} */ (new Map());
+const TABS = all('[role=tab]');
+let tab = 'blocked', revision = 0, running = 0;
+
+const chosen = (/** @type {string} */ name) => document.querySelector(`input[name=${name}]:checked`);
+
+/** @returns {Name} the question that is asked */
+const question = () => /** @type {any} */ (tab === 'more' ? /** @type {HTMLInputElement} */ (chosen('further')).value : tab);
+
+const choices = () => ({
+  form: /** @type {HTMLInputElement} */ (chosen('form')).value, unsafeHashes: by('hashes').checked, proof: by('proof').value,
+  required: by('required').value, embedder: by('embedder').value.trim(), subject: Number(by('subject').value || 0),
+});
+
+// Answers
+
+const STALE = () => element('p', { class: 'stale-note', 'data-says': 'stale' }, textOf(say('stale')));
+
+/** Shows the answer of the question at hand; grey where something was changed since. */
+const showAnswer = () => {
+  const found = answers.get(question()), box = by('answers');
+  box.replaceChildren(...found === undefined ? [] : [found.element]);
+  if (found === undefined) return;
+  const isStale = found.revision !== revision;
+  found.element.classList.toggle('stale', isStale);
+  found.element.querySelector('.stale-note')?.remove();
+  if (isStale) found.element.prepend(STALE());
+};
+
+/** @param {Name} name @param {Answer} answer @param {number} at the revision that was asked about */
+const keep = (name, answer, at) => {
+  answers.set(name, { revision: at, answer, element: shown(answer) });
+  by('said').textContent = textOf(answer.sentence);
+  showAnswer();
+  document.body.dataset.answered = String(Number(document.body.dataset.answered ?? 0) + 1);
+};
+
+const NAMES = /** @type {Record<string, string>} */ ({
+  headers: 'the headers', new: 'the new headers', old: 'the old headers', required: 'the required policy', response: 'the headers',
+  requests: 'the requests', proof: 'the proof',
+});
+
+/** @param {Error} error @returns {Answer} */
+const refusal = error => {
+  const told = /** @type {any} */ (error).refused ?? /** @type {any} */ (error).told ?? { problem: error.message };
+  const { file, line, problem, hint, said, found, write } = told;
+  const where = [file === undefined ? [] : NAMES[file] ?? file, line === undefined ? [] : `line ${line}`].flat().join(', ');
+  const what = problem ?? `${said}${found === undefined ? '' : `: "${found.slice(0, 60)}"`}`;
+  const todo = hint ?? (write === undefined ? '' : `${write}.`);
+  return {
+    mood: 'warn', sentence: say('refused', `${where === '' ? '' : `${where[0].toUpperCase()}${where.slice(1)}: `}${what}`),
+    more: todo === '' ? [] : todo.split('\n'), blocks: [], unseen: [], data: null,
+  };
+};
+
+const STOPPED = () => /** @type {Answer} */ ({ mood: 'plain', sentence: say('stopped'), more: [], blocks: [], unseen: [], data: null });
+
+/** @param {number} done @param {number} of */
+const progress = (done, of) => {
+  const bar = by('busy-bar');
+  bar.max = of;
+  bar.value = Math.min(done, of);
+};
+
+/** Asks the question at hand. */
+const ask = async () => {
+  const name = question(), at = revision, turn = running += 1;
+  const slow = setTimeout(() => { by('busy').hidden = false; }, 300);
+  by('busy-bar').removeAttribute('value');
+  try {
+    const asked = questionOf(name, given, choices());
+    const answer = 'lacks' in asked ? asked.lacks : await asking.ask(asked.task, asked.given, progress);
+    keep(name, answer, at);
+  } catch (error) {
+    keep(name, error instanceof Stopped ? STOPPED() : refusal(/** @type {Error} */ (error)), at);
+  } finally {
+    clearTimeout(slow);
+    if (turn === running) by('busy').hidden = true;
   }
-  begin(text) {
-    Object.assign(this, { since: performance.now(), text, part: null });
+};
+
+// What was given
+
+/** @param {string} id @param {string} text */
+const showReading = (id, text) => {
+  const list = by(`${id}-read`);
+  try {
+    const { taken } = given.readHeaders(text), own = given.files.some(it => it.kind === 'har') && id === 'headers';
+    const none = text.trim() !== '' ? [] : own ? [told('li', say('eachOwn'))] : [];
+    const all = own && text.trim() !== '' ? [told('li', say('forAll'))] : [];
+    list.replaceChildren(...none, ...all, ...taken.map(it => element('li', {}, `Line ${it.line}: ${it.said}`)));
+  } catch (error) {
+    list.replaceChildren(element('li', { class: 'bad' }, /** @type {Error} */ (error).message));
   }
-  tell(done, all) {
-    this.part = all > 0 ? [done, all] : null;
+};
+
+/** @param {import('./given.js').File} file @param {number} n */
+const fileItem = (file, n) => {
+  const remove = element('button', { type: 'button', 'data-remove': String(n), 'aria-label': `Remove ${file.name}` }, 'Remove');
+  let said = '';
+  try {
+    said = describedAs(given, file);
+  } catch (error) {
+    said = /** @type {Error} */ (error).message;
   }
-  show() {
-    const long = this.since !== null && performance.now() - this.since > 400;
-    if (long) {
-      const [done, all] = this.part ?? [];
-      const part = all ? `: ${done.toLocaleString('en')} of ${all.toLocaleString('en')}` : ' ..';
-      at('busy-text').textContent = this.text + part;
-      if (all) at('busy-bar').value = done / all;
-      else at('busy-bar').removeAttribute('value');
+  const address = element('input', { 'data-url': String(n), id: `url-${n}`, spellcheck: 'false', autocomplete: 'off' });
+  /** @type {HTMLInputElement} */ (address).value = file.url ?? '';
+  const url = file.kind !== 'html' ? [] : [element('label', { for: `url-${n}` }, 'Its address'), address];
+  const edit = element('textarea', { 'data-text': String(n), id: `text-${n}`, rows: '6', spellcheck: 'false', 'aria-label': file.name });
+  /** @type {HTMLTextAreaElement} */ (edit).value = file.text;
+  const isShort = file.kind !== 'reports' && file.text.length < 20_000;
+  const texts = isShort ? [element('details', {}, element('summary', {}, 'Its text'), edit)] : [];
+  return element('li', {}, element('p', {}, element('strong', {}, file.name), `: ${said} `, remove), ...url, ...texts);
+};
+
+/** Shows what was given, all but the fields that are being written in. */
+const showGiven = () => {
+  by('example').hidden = !given.isExample;
+  by('files').replaceChildren(...given.files.map(fileItem));
+  showReading('headers', given.headers);
+  showReading('newer', given.newer);
+  let subjects = /** @type {typeof given.subjects} */ ([]);
+  try {
+    subjects = given.subjects;
+  } catch {
+    // The fields tell what can't be read
+  }
+  by('subject').replaceChildren(...subjects.map((it, n) => element('option', { value: String(n) }, it.reading.name)));
+  showFields(subjects.length);
+};
+
+/** @param {number} subjects */
+const showFields = subjects => {
+  const name = question(), isSeveral = subjects > 1 && !['blocked', 'make', 'reports'].includes(name);
+  for (const it of all('[data-for]')) it.hidden = !it.dataset.for.split(' ').includes(name);
+  for (const it of all('fieldset[data-for*=framed]')) it.hidden = tab !== 'more';
+  by('files-field').hidden ||= given.files.length === 0;
+  by('subject-field').hidden = !isSeveral;
+  by('headers-label').textContent = ['weaker', 'proof'].includes(name) ? 'Old headers' : 'Headers of the page';
+};
+
+const changed = () => {
+  revision += 1;
+  showAnswer();
+};
+
+const clearExample = () => {
+  if (!given.isExample) return;
+  given.isExample = false;
+  given.files = [];
+  for (const id of ['headers', 'newer']) setHeaders(/** @type {'headers'} */ (id), '');
+};
+
+/** @param {'headers' | 'newer'} id @param {string} text */
+const setHeaders = (id, text) => {
+  given[id] = text;
+  by(id).value = text;
+};
+
+/** @param {import('./given.js').File} file a name of its own, so that two pages don't stand at one address */
+const withName = file => {
+  const others = given.files.map(it => it.name), base = file.name === '' ? NAMELESS[file.kind] : file.name;
+  const name = others.includes(base) ? `${base.replace(/(\.\w+)?$/, ` ${others.length + 1}$1`)}` : base;
+  return { ...file, name };
+};
+
+const NAMELESS = { har: 'pasted.har', html: 'page.html', requests: 'requests.json', events: 'console', reports: 'reports' };
+
+/** @param {string} name @param {string} text @param {Blob} [blob] puts a text where it belongs, and says what it was taken for */
+const take = (name, text, blob) => {
+  clearExample();
+  for (const it of takenFor(name, text, blob)) {
+    if (it.kind === 'headers') {
+      const isNew = ['weaker', 'proof'].includes(question()) && given.headers.trim() !== '';
+      setHeaders(isNew ? 'newer' : 'headers', it.text);
+      by('took').append(told('p', say('takenHeaders', name, isNew)));
+      continue;
     }
-    at('busy').hidden = !long;
+    const file = withName(it.file);
+    given.files.push(file);
+    by('took').append(tookFile(file));
   }
-  end() {
-    this.since = null;
-    this.show();
-  }
-}
-
-const TABS = ['judge', 'compare', 'check', 'learn', 'tidy', 'embed'];
-const WORKS = {
-  judge: 'Judging the requests', compare: 'Comparing the headers', check: 'Checking the proof',
-  learn: 'Learning a policy', tidy: 'Leaving out what changes nothing', embed: 'Comparing the policies', har: 'Reading the HAR',
 };
 
-const select = name => {
+/** @param {import('./given.js').File} file */
+const tookFile = file => {
+  try {
+    return told('p', say('takenFile', file.name, describedAs(given, file)));
+  } catch (error) {
+    given.files = given.files.filter(it => it !== file);
+    return told('p', say('notTaken', file.name, /** @type {Error} */ (error).message), { class: 'bad' });
+  }
+};
+
+const afterTaking = () => {
+  changed();
+  showGiven();
+  return ask();
+};
+
+const takePaste = () => {
+  const text = by('paste').value;
+  if (text.trim() === '') return;
+  by('took').replaceChildren();
+  by('paste').value = '';
+  take('', text);
+  afterTaking();
+};
+
+/** @param {FileList | File[]} files */
+const takeFiles = async files => {
+  by('took').replaceChildren();
+  for (const it of [...files]) {
+    const isLog = /\.gz$/i.test(it.name);
+    take(it.name, isLog ? '' : await it.text(), it);
+  }
+  afterTaking();
+};
+
+const addOne = () => {
+  const [kind, type] = by('one-kind').value.split(' '), of = by('one-of').value, nonce = by('one-nonce').value.trim();
+  const inline = { kind, type, source: of }, isPlain = ['form', 'base'].includes(kind);
+  const request = kind === 'inline' ? inline : isPlain ? { kind, url: of.trim() } : { kind: 'fetch', destination: kind, url: of.trim() };
+  const parsed = kind === 'script' ? { 'parser-inserted': true } : {};
+  const text = JSON.stringify([{ ...request, ...parsed, ...nonce === '' ? {} : { nonce } }], null, 1);
+  by('took').replaceChildren();
+  take('', text);
+  afterTaking();
+};
+
+// The state of the page
+
+const state = () => ({
+  question: tab, further: question(), origin: given.origin, headers: given.headers, newer: given.newer, isExample: given.isExample,
+  files: given.files.filter(it => it.kind !== 'reports').map(({ name, kind, text, url }) => ({ name, kind, text, url })),
+  ...choices(),
+});
+
+/** @param {Record<string, any>} from */
+const restore = from => {
+  given.origin = by('origin').value = String(from.origin ?? 'https://www.example');
+  setHeaders('headers', String(from.headers ?? ''));
+  setHeaders('newer', String(from.newer ?? ''));
+  given.isExample = from.isExample === true;
+  given.files = Array.isArray(from.files) ? from.files : [];
+  for (const id of ['proof', 'required', 'embedder']) if (typeof from[id] === 'string') by(id).value = from[id];
+  for (const name of ['further', 'form']) {
+    for (const it of all(`input[name=${name}]`)) it.checked = from[name] === undefined ? it.defaultChecked : it.value === from[name];
+  }
+  by('hashes').checked = from.unsafeHashes === true;
+  select(TABS.some(it => it.id === from.question) ? from.question : 'blocked');
+};
+
+const makeLink = () => {
+  const hash = linkOf(state()), isWhole = given.files.every(it => it.kind !== 'reports');
+  by('linked').replaceChildren(told('span', hash === undefined ? say('linkTooLong') : isWhole ? say('linked') : say('linkedWithout')));
+  if (hash !== undefined) history.replaceState(null, '', hash);
+};
+
+/** @param {string} id */
+const select = id => {
+  tab = id;
   for (const it of TABS) {
-    at(`tab-${it}`).ariaSelected = String(it === name);
-    at(`tab-${it}`).tabIndex = it === name ? 0 : -1;
-    at(it).hidden = it !== name;
+    it.setAttribute('aria-selected', String(it.id === id));
+    it.tabIndex = it.id === id ? 0 : -1;
   }
+  by('panel').setAttribute('aria-labelledby', id);
+  showGiven();
+  showAnswer();
+  if (answers.get(question())?.revision !== revision) ask();
 };
-const selected = () => TABS.find(it => !at(it).hidden);
-const onTabKey = event => {
-  const here = TABS.indexOf(selected()), last = TABS.length - 1;
-  const [next, before] = [here === last ? 0 : here + 1, here === 0 ? last : here - 1];
-  const to = { ArrowRight: next, ArrowLeft: before, Home: 0, End: last }[event.key];
+
+/** @param {KeyboardEvent} event */
+const tabKeys = event => {
+  const at = TABS.findIndex(it => it.id === tab), last = TABS.length - 1;
+  const to = { ArrowRight: at === last ? 0 : at + 1, ArrowLeft: at === 0 ? last : at - 1, Home: 0, End: last }[event.key];
   if (to === undefined) return;
   event.preventDefault();
-  select(TABS[to]);
-  at(`tab-${TABS[to]}`).focus();
+  select(TABS[to].id);
+  TABS[to].focus();
 };
 
-const namedIn = name => [...at(name).querySelectorAll('[name]')];
-const fieldsOf = name => Object.fromEntries(namedIn(name).map(it => [it.name, it.value]));
-const givenOf = name => {
-  const given = fieldsOf(name);
-  for (const key of ['origin', 'embedder']) if (key in given) given[key] = given[key].trim();
-  if ('requests' in given) given.requests = requestsOfText(given.requests);
-  return given;
+// Copying
+
+/** @param {string} text @param {HTMLElement} button */
+const copy = async (text, button) => {
+  await navigator.clipboard.writeText(text);
+  by('said').textContent = textOf(say('copied'));
+  button.classList.add('done');
 };
 
-const answered = (name, ...nodes) => at(`${name}-answer`).replaceChildren(...nodes.flat(Infinity).filter(it => it));
-
-// Has a screen reader say what was answered: the sentence alone, not the table
-const announce = name => {
-  at('said').textContent = at(`${name}-answer`).querySelector('.says')?.textContent ?? '';
+/** @param {string} as @param {HTMLElement} button */
+const copyAnswer = (as, button) => {
+  const found = answers.get(question());
+  if (found === undefined) return;
+  const { answer } = found, asked = { question: question(), origin: given.origin };
+  copy(as === 'JSON' ? asJson(answer, asked) : as === 'Markdown' ? asMarkdown(answer) : asText(answer), button);
 };
 
-class Page {
-  constructor(script) {
-    this.busy = new Busy();
-    this.engine = new Engine(script, {
-      ready: commands => this.ready(commands),
-      failed: text => this.failed(text),
+/** @param {string} name @param {string} text */
+const save = (name, text) => {
+  const link = element('a', { href: URL.createObjectURL(new Blob([text])), download: name });
+  link.click();
+};
+
+/** @param {any} event */
+const clicked = ({ target }) => {
+  const button = target.closest('button');
+  if (button === null) return;
+  const { copy: text, save: file, as, remove } = button.dataset;
+  if (text !== undefined) copy(text, button);
+  if (file !== undefined) save(file, button.dataset.text);
+  if (as !== undefined) copyAnswer(as, button);
+  if (remove === undefined) return;
+  given.files.splice(Number(remove), 1);
+  given.isExample = false;
+  afterTaking();
+};
+
+// What is heard
+
+const hearFields = () => {
+  for (const id of ['headers', 'newer']) {
+    by(id).addEventListener('input', () => {
+      given[/** @type {'headers'} */ (id)] = by(id).value;
+      showReading(id, by(id).value);
+      changed();
     });
   }
-  ready(commands) {
-    document.body.dataset.ready = Object.keys(commands).filter(it => commands[it]).join(' ');
-  }
-  failed(text) {
-    for (const it of TABS) answered(it, says('bad', 'This browser does not run the engine.', text));
-    this.busy.end();
-  }
-  async ask(name) {
-    let given;
-    try {
-      given = givenOf(name);
-    } catch (error) {
-      return answered(name, says('warn', 'The requests can’t be read.', error.message));
-    }
-    const got = await this.task(name, given);
-    if (got.answer) answered(name, SHOWN[name](got.answer));
-    at(`${name}-answer`).dataset.took = Math.round(got.took ?? 0);
-    return got;
-  }
-  // A task with its progress. What the engine refuses is shown in its own words, with a hint.
-  async task(name, given) {
-    const place = name === 'har' ? selected() : name;
-    this.busy.begin(WORKS[name]);
-    const got = await this.engine.do(name, given, (done, all) => this.busy.tell(done, all));
-    this.busy.end();
-    if (got.stopped) answered(place, says('warn', 'Stopped.'));
-    else if (got.refused) answered(place, says('warn', got.text.split('\n')[0], hintOf(got.text)));
-    else if (!got.answer) answered(place, says('bad', 'There is no answer.', got.text));
-    return got;
-  }
-  // The examples are answered as the page opens, the tab that is shown first
-  async askAll() {
-    const first = selected();
-    for (const name of [first, ...TABS.filter(it => it !== first)]) {
-      if (name === 'check' && at('check-proof').value === '') await this.proveExample();
-      await this.ask(name);
-      if (name === first) performance.mark('first-answer');
-    }
-    await this.judgeOneself();
-    document.body.dataset.answered = 'all';
-  }
-  // What the engine says of this page's own policy
-  async judgeOneself() {
-    const policy = document.querySelector('meta[http-equiv]')?.content;
-    if (!policy) return;
-    const requests = ['', 'font', 'frame', 'image', 'manifest', 'object', 'script', 'style', 'video']
-      .map(destination => ({ kind: 'fetch', destination, url: 'https://other.example/' }));
-    const files = [['policy', `Meta-Content-Security-Policy: ${policy}`], ['requests', JSON.stringify(requests)]];
-    const { answer } = await this.engine.do('call', { words: ['judge', 'null', 'policy', 'requests'], files });
-    const blocked = linesOf(answer.text).filter(it => judged(it).blocked).length;
-    const all = requests.length;
-    at('own').textContent =
-      `Of this page’s own policy the engine says that it blocks ${blocked} of ${all} kinds of loads.`;
-  }
-  async proveExample() {
-    const { answer } = await this.engine.do('compare', givenOf('check'));
-    if (answer?.holds) at('check-proof').value = answer.proof;
-  }
-  async takeHar(field, file) {
-    const { answer } = await this.task('har', { text: await file.text() });
-    if (!answer) return;
-    const name = selected(), form = at(name);
-    field.value = `[\n${answer.requests.map(it => JSON.stringify(it)).join(',\n')}\n]`;
-    if (answer.origin !== null) form.querySelector('[name=origin]').value = new URL(answer.origin).origin;
-    if (answer.block !== null && form.querySelector('[name=policy]')) {
-      form.querySelector('[name=policy]').value = answer.block.join('\n');
-    }
-    await this.ask(name);
-    if (answer.sayings.length > 0) {
-      const summary = el('summary', {}, `What the HAR leaves open: ${answer.sayings.length}`);
-      at(`${name}-answer`).append(el('details', {}, summary, el('ul', {}, answer.sayings.map(it => el('li', {}, it)))));
-    }
-  }
-}
-
-// The hashes of a text, as sources of a policy
-const hashesOf = async text => {
-  const bytes = new TextEncoder().encode(text), all = [];
-  for (const [name, bits] of [['sha256', 256], ['sha384', 384], ['sha512', 512]]) {
-    const hash = await crypto.subtle.digest(`SHA-${bits}`, bytes);
-    all.push(`'${name}-${btoa(String.fromCharCode(...new Uint8Array(hash)))}'`);
-  }
-  return all;
-};
-const addInline = async page => {
-  const type = at('inline-type').value, source = at('inline-source').value, nonce = at('inline-nonce').value;
-  const line = JSON.stringify({ kind: 'inline', type, source, ...nonce === '' ? {} : { nonce } });
-  const field = at('judge-requests'), text = field.value.trim();
-  field.value = text.startsWith('[') ? JSON.stringify([...JSON.parse(text), JSON.parse(line)], null, 1)
-    : `${text}\n${line}`;
-  const hashes = await hashesOf(source);
-  at('inline-hashes').replaceChildren('Sources that allow it: ', ...hashes.flatMap(it => [code(it), ' ']));
-  await page.ask('judge');
+  by('origin').addEventListener('input', () => { given.origin = by('origin').value.trim(); });
+  by('given').addEventListener('input', (/** @type {any} */ { target }) => {
+    const { url, text } = target.dataset;
+    if (url !== undefined) given.files[Number(url)].url = target.value.trim() || undefined;
+    if (text !== undefined) given.files[Number(text)].text = target.value;
+    if (target.name === 'further') select('more');
+    else if (target.id !== 'paste' && !target.id.startsWith('one-')) changed();
+  });
+  by('given').addEventListener('submit', (/** @type {Event} */ event) => {
+    event.preventDefault();
+    ask();
+  });
 };
 
-// A link holds what stands in the tab's fields, and only whoever asks for one gets it
-const encodeState = state => btoa(String.fromCharCode(...new TextEncoder().encode(JSON.stringify(state))))
-  .replaceAll('+', '-').replaceAll('/', '_').replace(/=*$/, '');
-const decodeState = text =>
-  JSON.parse(new TextDecoder().decode(bytesOf64(text.replaceAll('-', '+').replaceAll('_', '/'))));
-const makeLink = () => {
-  location.hash = encodeState([selected(), fieldsOf(selected())]);
-  at('linked').textContent = 'It is the address of this page now.';
+const hearKeys = () => {
+  document.addEventListener('keydown', event => {
+    if (event.key !== 'Enter' || !(event.ctrlKey || event.metaKey)) return;
+    event.preventDefault();
+    if (by('paste').value.trim() === '') ask();
+    else takePaste();
+  });
+  by('questions').addEventListener('keydown', tabKeys);
+  for (const it of TABS) it.addEventListener('click', () => select(it.id));
 };
-const takeLink = () => {
-  try {
-    const [name, fields] = decodeState(location.hash.slice(1));
-    if (!TABS.includes(name)) return;
-    for (const it of namedIn(name)) {
-      if (typeof fields[it.name] === 'string') it.value = fields[it.name];
+
+const hearGiving = () => {
+  by('take').addEventListener('click', takePaste);
+  by('paste').addEventListener('paste', () => setTimeout(takePaste));
+  by('open').addEventListener('change', () => takeFiles(by('open').files).then(() => { by('open').value = ''; }));
+  by('one-add').addEventListener('click', addOne);
+  by('clear').addEventListener('click', () => {
+    clearExample();
+    afterTaking();
+    by('paste').focus();
+  });
+  document.addEventListener('dragover', event => {
+    event.preventDefault();
+    document.querySelector('.drop')?.classList.add('over');
+  });
+  document.addEventListener('dragleave', () => document.querySelector('.drop')?.classList.remove('over'));
+  document.addEventListener('drop', event => {
+    event.preventDefault();
+    document.querySelector('.drop')?.classList.remove('over');
+    const { files } = /** @type {DataTransfer} */ (event.dataTransfer), text = event.dataTransfer?.getData('text') ?? '';
+    if (files.length > 0) takeFiles(files);
+    else if (text !== '') {
+      by('paste').value = text;
+      takePaste();
     }
-    select(name);
-  } catch {
-    at('linked').textContent = 'The address holds no question that this page can read.';
-  }
+  });
 };
 
-const attachFiles = page => {
-  for (const field of document.querySelectorAll('[data-har], [data-file]')) {
-    const take = async file => {
-      if ('har' in field.dataset) await page.takeHar(field, file);
-      else field.value = await file.text();
-    };
-    const input = field.form.querySelector('[type=file]');
-    input.addEventListener('change', () => input.files.length > 0 && take(input.files[0]));
-    field.addEventListener('dragover', event => { event.preventDefault(); field.classList.add('drop'); });
-    field.addEventListener('dragleave', () => field.classList.remove('drop'));
-    field.addEventListener('drop', event => {
-      field.classList.remove('drop');
-      if (event.dataTransfer.files.length === 0) return;
-      event.preventDefault();
-      take(event.dataTransfer.files[0]);
-    });
-  }
+/** @param {string} html the page as it was opened */
+const judgeItself = async html => {
+  const site = ownSite(html), [{ meta }] = site.pages, reading = { name: 'this page', lines: meta, left: [] };
+  const [judged, audited] = [await asking.ask('blocked', { site, reading, origin: 'null' }), await asking.ask('attacker', { origin: 'null', reading })];
+  by('own-answer').replaceChildren(...[judged, audited].map(shown));
+  for (const it of all('#own .copies')) it.remove();
 };
 
-const openPage = script => {
-  select('judge');
-  if (location.hash.length > 1) takeLink();
-  const page = new Page(script);
-  at('tabs').addEventListener('keydown', onTabKey);
-  for (const name of TABS) {
-    at(`tab-${name}`).addEventListener('click', () => select(name));
-    at(name).querySelector('form').addEventListener('submit', async event => {
-      event.preventDefault();
-      await page.ask(name);
-      announce(name);
-    });
-  }
-  at('stop').addEventListener('click', () => page.engine.stop());
-  at('link').addEventListener('click', makeLink);
-  at('inline-add').addEventListener('click', () => addInline(page));
-  attachFiles(page);
-  page.askAll();
-  // The program for whoever opens the console: words, and pairs of a name and what that file holds
-  globalThis.csp = async (words, files = []) => (await page.engine.do('call', { words, files })).answer;
+const begin = async () => {
+  const html = document.documentElement.outerHTML;
+  hearFields();
+  hearKeys();
+  hearGiving();
+  document.addEventListener('click', clicked);
+  by('stop').addEventListener('click', () => asking.stop());
+  by('link').addEventListener('click', makeLink);
+  window.addEventListener('hashchange', () => restore(stateOf(location.hash) ?? beginning()));
+  Object.assign(window, { csp: (/** @type {string[]} */ words, /** @type {any[]} */ files) => asking.ask('call', { words, files }) });
+  restore(stateOf(location.hash) ?? beginning());
+  await judgeItself(html);
+  performance.mark('judged-itself');
 };
 
-if (typeof document === 'undefined') {
-  work(bytesOf64(MODULE)).catch(error => self.postMessage({ failed: String(error) }));
-} else {
-  openPage(document.currentScript.textContent);
-}
+begin();
