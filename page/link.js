@@ -25,6 +25,6 @@ export const stateOf = hash => {
 
 /** What stands in the page that is opened without a link. */
 export const beginning = () => ({
-  question: 'blocked', origin: EXAMPLE.origin, headers: EXAMPLE.headers, newer: EXAMPLE.newer, isExample: true,
+  tab: 'blocked', origin: EXAMPLE.origin, headers: EXAMPLE.headers, newer: EXAMPLE.newer, isExample: true,
   files: [{ name: 'index.html', kind: 'html', text: EXAMPLE.page, url: `${EXAMPLE.origin}/` }],
 });

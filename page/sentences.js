@@ -150,7 +150,7 @@ export const SENTENCES = {
   optionsDecide: (/** @type {string} */ value, /** @type {boolean} */ isStopped) =>
     `X-Frame-Options: ${value} decides, since no enforced policy has frame-ancestors: it ${isStopped ? 'blocks' : 'allows'} this.`,
 
-  giveOld: () => 'No headers were given: paste them, or drop a recording of the page.',
+  giveHeaders: () => 'No headers were given: paste them, or drop a recording of the page.',
   giveNewer: () => 'No new headers were given: paste them beside the old ones.',
 
   // The page itself

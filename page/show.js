@@ -1,38 +1,13 @@
 /** Shows an answer in the page. */
 import { textOf } from './answer.js';
+import { element, told } from './element.js';
 
 /**
  * @typedef {import('./answer.js').Answer} Answer
  * @typedef {import('./answer.js').Block} Block
  * @typedef {import('./answer.js').Cell} Cell
  * @typedef {import('./answer.js').Text} Text
- * @typedef {string | Node} Content
  */
-
-/**
- * @param {string} tag
- * @param {Record<string, string | boolean>} attributes
- * @param {Content[]} content
- */
-export const element = (tag, attributes = {}, ...content) => {
-  const made = document.createElement(tag);
-  for (const [name, value] of Object.entries(attributes)) {
-    if (value !== false) made.setAttribute(name, value === true ? '' : value);
-  }
-  made.append(...content);
-  return made;
-};
-
-/**
- * A sentence in an element that tells its name.
- * @param {string} tag
- * @param {Text} text
- * @param {Record<string, string | boolean>} attributes
- */
-export const told = (tag, text, attributes = {}) => {
-  const says = typeof text === 'object' ? { 'data-says': text.says } : {};
-  return element(tag, { ...says, ...attributes }, textOf(text));
-};
 
 /** @param {Cell} cell */
 const cellContent = cell => {

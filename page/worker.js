@@ -1,34 +1,26 @@
-/** The worker: it has the engine, and does a task for each message. */
+/** The worker: it has the engine and the readers, and does a task for each message. */
 import { loadEngine } from '../js/engine.js';
 import { ReadingError } from '../js/readers/error.js';
 import { Refusal } from '../js/refusal.js';
-import { attacker } from './attacker.js';
-import { blocked } from './blocked.js';
-import { make } from './make.js';
-import { framed } from './more/framed.js';
-import { proof } from './more/proof.js';
-import { required } from './more/required.js';
-import { shorter } from './more/shorter.js';
-import { readLogs, reports } from './reports.js';
-import { weaker } from './weaker.js';
+import { described, takenFor } from './given.js';
+import { own } from './own.js';
+import { answerTo } from './question.js';
 
-/**
- * @typedef {import('../js/index.js').Program} Program
- * @typedef {(done: number, all: number) => void} Tell
- */
+/** @typedef {import('../js/index.js').Program} Program */
 
-/** @type {Record<string, (program: Program, given: any, tell: Tell) => unknown>} */
+/** @type {Record<string, (program: Program, given: any, tell: (done: number, all: number) => void) => unknown>} */
 const TASKS = {
+  answer: answerTo, own,
   call: (program, { words, files }) => program.call(words, files),
-  attacker, blocked, framed, proof, reports, required, shorter, weaker,
-  make: async (program, { logs, ...given }, tell) => {
-    const { tally, left } = await readLogs(logs, tell), ended = tally.ended();
-    const said = [...left, ...ended.left].map(it => ({ said: it }));
-    return make(program, { ...given, reports: ended.groups, left: [...given.left, ...said] });
-  },
+  describe: (program, raw) => described(raw),
+  take: (program, given) => takenFor(given),
 };
 
-/** @param {unknown} error what is said of it */
+/**
+ * Why there is no answer.
+ * @param {unknown} error
+ * @returns {import('./asking.js').Refused}
+ */
 const told = error => {
   if (error instanceof Refusal) return { file: error.file, line: error.line, problem: error.problem, hint: error.hint };
   if (!(error instanceof ReadingError)) return { problem: error instanceof Error ? error.stack ?? error.message : String(error) };
@@ -37,8 +29,8 @@ const told = error => {
 };
 
 const engine = /** @type {Promise<Program>} */ (new Promise(resolve => {
-  self.addEventListener('message', async ({ data }) => {
-    if (data.module) resolve(await loadEngine(data.module));
+  self.addEventListener('message', ({ data }) => {
+    if (data.module) resolve(loadEngine(data.module));
   });
 }));
 
