@@ -38,18 +38,26 @@ export const summed = ({ rows, blocksNothing }) => {
 const BADGES = { yes: 'possible', reported: 'possible, reported', no: 'blocked' };
 
 /**
+ * @param {import('../js/audit.js').Stop} stop
+ * @param {number} policies
+ */
+const stopText = ({ text, policy, directive }, policies) => {
+  if (policy === null) return policies < 2 ? text : `${text} in a new policy`;
+  if (directive === null) return `enforce the ${policies < 2 ? '' : `${ordinal(policy)} `}policy`;
+  return policies < 2 ? text : `${text} in the ${ordinal(policy)} policy`;
+};
+
+/**
  * @param {Row[]} rows of one action with one answer and one ground
  * @param {number} policies
  * @returns {Group}
  */
 const groupOf = (rows, policies) => {
   const [row] = rows, of = rows.flatMap(it => it.from ?? []), code = rows.some(isCode);
-  const where = (/** @type {number | null} */ it) =>
-    policies < 2 ? '' : it === null ? ' in a new policy' : ` in the ${ordinal(it)} policy`;
   return {
     mood: code ? 'bad' : 'warn', badge: BADGES[row.can], directive: row.action, of: joined(of), count: 1,
     because: [say('because', row.because), ...row.with === undefined ? [] : [say('takes', row.with)]],
-    todo: row.stops.map(it => say('stops', `${it.text}${where(it.policy)}`)), columns: [], rows: [],
+    todo: row.stops.map(it => say('stops', stopText(it, policies))), columns: [], rows: [],
   };
 };
 

@@ -16,7 +16,7 @@ export const own = async (program, { html }) => {
   const page = readHtml(html, { url: 'https://page.invalid/', parse: parseHtml }), { meta } = page;
   const more = [WORKER, MODULE].map(request => ({ request, meta, said: request.note }));
   const pieces = [...page.pieces.filter(it => it.request.kind !== 'wasm'), ...more];
-  const site = { pages: [{ ...page, pieces, file: 'this page', url: '', unseen: [], left: [] }], events: [], left: [] };
+  const site = { pages: [{ ...page, pieces, file: 'this page', url: '' }], events: [], left: [] };
   const reading = { name: 'this page', lines: meta, left: [] };
   return [
     await blocked(program, { site, reading, origin: 'null' }, () => {}), attacker(program, { origin: 'null', reading }),

@@ -154,10 +154,16 @@ const hearFields = () => {
   });
 };
 
-/** @param {string} html the page as it was opened */
+/**
+ * Shows what the page's own policy does: the sentences, and the rest folded.
+ * @param {string} html the page as it was opened
+ */
 const judgeItself = async html => {
-  by('own-answer').replaceChildren(.../** @type {any[]} */ (await asking.ask('own', { html })).map(shown));
-  for (const it of all('#own .copies')) it.remove();
+  const answers = /** @type {any[]} */ (await asking.ask('own', { html })).map(shown);
+  const told = answers.flatMap(it => [...it.querySelectorAll(':scope > .says, :scope > aside')]);
+  for (const it of answers) it.querySelector('.copies')?.remove();
+  const rest = element('details', {}, element('summary', {}, 'Row by row'), ...answers);
+  by('own-answer').replaceChildren(...told, rest);
 };
 
 /** Shows what the address tells, or else the example. */

@@ -4,6 +4,8 @@ import { counted, number } from './answer.js';
 
 const are = (/** @type {number} */ count) => count === 1 ? 'is' : 'are';
 
+const onPage = (/** @type {string} */ origin) => `On a page ${origin === 'null' ? 'without an origin' : `of ${origin}`}`;
+
 export const SENTENCES = {
   // What is blocked?
   noneBlocked: (/** @type {number} */ all, /** @type {string} */ where) =>
@@ -59,12 +61,12 @@ export const SENTENCES = {
     + (rest === 0 ? '' : ` ${counted(rest, 'other thing')} ${are(rest)} possible.`),
   noCode: (/** @type {number} */ rest) => `Injected markup couldn't run code. ${counted(rest, 'other thing')} ${are(rest)} possible.`,
   nothingPossible: () => 'Nothing of what was tried is possible to injected markup, or to a site that frames the page.',
-  attackerOf: (/** @type {string} */ origin) => `On a page of ${origin}, for an attacker who writes markup into it and knows no nonce. `
+  attackerOf: (/** @type {string} */ origin) => `${onPage(origin)}, for an attacker who writes markup into it and knows no nonce. `
     + 'One host that no policy names stands for all of them, one script without a nonce for all.',
   possible: (/** @type {number} */ count) => `What is possible (${number(count)})`,
   impossible: (/** @type {number} */ count) => `What is blocked (${number(count)})`,
   known: () => 'Known, and not proved',
-  because: (/** @type {string} */ why) => `${why[0].toUpperCase()}${why.slice(1)}.`,
+  because: (/** @type {string} */ why) => `${why.replace(/^no /, 'No ')}.`,
   takes: (/** @type {string} */ what) => `It takes ${what}.`,
   stops: (/** @type {string} */ what) => `To stop it: ${what}.`,
 
@@ -77,9 +79,9 @@ export const SENTENCES = {
   unproved: () => 'No answer: a checker rejects the proof. Please report this fault.',
   notWeaker: () => 'Not weaker: the new headers block all that the old ones block. Two checkers accept the proof.',
   oneShown: (/** @type {string} */ origin) =>
-    `On a page of ${origin}. One request is shown for each directive; there may be more.`,
+    `${onPage(origin)}. One request is shown for each directive; there may be more.`,
   coversAll: (/** @type {string} */ origin) =>
-    `On a page of ${origin}. The proof covers every request, whatever its host, nonce and code.`,
+    `${onPage(origin)}. The proof covers every request, whatever its host, nonce and code.`,
   noncesRenamed: (/** @type {string} */ names) => `The nonces are taken for those of two responses, and compared as the same: ${names}.`,
   noncesUnmatched: (/** @type {number} */ old, /** @type {number} */ newer) => `The nonces can't be matched: ${old} before, ${newer} now. `
     + 'What carries a nonce of the new headers is new.',

@@ -1,5 +1,5 @@
 /** Shows an answer in the page. */
-import { textOf } from './answer.js';
+import { counted, number, textOf } from './answer.js';
 import { element, told } from './element.js';
 
 /**
@@ -34,16 +34,25 @@ const tableOf = (caption, columns, rows, isTitled) => {
 
 const FEW = 3;
 
+/** @param {Cell[]} row the first of few, of which what stands in the last column is told above */
+const lineOf = row => element('p', { class: 'place' }, ...row.slice(0, -1).filter(it => textOf(it) !== '')
+  .flatMap((it, n) => [...n === 0 ? [] : [' · '], ...cellContent(it)]));
+
+/**
+ * @param {import('./answer.js').Group} group
+ * @param {string} name
+ */
+const placesOf = ({ columns, rows }, name) => rows.length <= FEW ? rows.map(lineOf)
+  : [element('details', {}, element('summary', {}, counted(rows.length, 'place')), tableOf(name, columns, rows, false))];
+
 /** @param {import('./answer.js').Group} group */
-const groupOf = ({ mood, badge, directive, of, count, because, todo, columns, rows }) => {
+const groupOf = group => {
+  const { mood, badge, directive, of, count, because, todo } = group;
   const head = element('p', { class: 'head' },
     element('span', { class: `badge ${mood}` }, badge), ' ', element('strong', {}, directive), ' ', of,
-    ...count > 1 ? [' ', element('span', { class: 'count' }, `× ${count.toLocaleString('en')}`)] : []);
-  const lines = [...because, ...todo.map(it => it)].map(it => told('p', it));
-  const table = rows.length === 0 ? [] : [tableOf(`${badge} ${directive} ${of}`, columns, rows, false)];
-  const places = rows.length <= FEW ? table
-    : [element('details', {}, element('summary', {}, `${rows.length.toLocaleString('en')} places`), ...table)];
-  return element('li', { class: `group ${mood}` }, head, ...lines, ...places);
+    ...count > 1 ? [' ', element('span', { class: 'count' }, `× ${number(count)}`)] : []);
+  return element('li', { class: `group ${mood}` }, head, ...placesOf(group, `${badge} ${directive} ${of}`),
+    ...[...because, ...todo].map(it => told('p', it)));
 };
 
 /** @param {Extract<Block, { kind: 'matrix' }>} block */
