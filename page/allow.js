@@ -11,8 +11,9 @@ import { PolicyList } from '../js/propose/policy.js';
  */
 
 /**
- * The sources that allow it in a directive, none where no source does; and what else can be done.
- * @typedef {{ directive: string, sources: string[], advice?: string }} Allowing
+ * The sources that allow it in a directive, none where no source does; and what else can be done, which is
+ * better where the sources are those of an attribute.
+ * @typedef {{ directive: string, sources: string[], advice?: string, isBetter: boolean }} Allowing
  */
 
 const WISH = /** @type {const} */ ({ form: 'addition', inline: 'hashes', unsafeHashes: true });
@@ -23,7 +24,7 @@ const WISH = /** @type {const} */ ({ form: 'addition', inline: 'hashes', unsafeH
  * @param {PageAnswer} answer
  */
 const addedTo = async (program, { page, judged }) => {
-  const found = /** @type {Map<unknown, Allowing>} */ (new Map()), list = new PolicyList(page.lines);
+  const found = /** @type {Map<unknown, { directive: string, sources: string[] }>} */ (new Map()), list = new PolicyList(page.lines);
   const own = list.policies.length;
   const pieces = judged.filter(({ answer: { items } }) =>
     items.length > 0 && items.every(it => it.policy < own)).map(it => it.piece);
@@ -35,8 +36,13 @@ const addedTo = async (program, { page, judged }) => {
   return found;
 };
 
-/** @param {import('../js/readers/html.js').Request} request whether its element could have a nonce */
-const isHandler = ({ kind, type }) => kind === 'inline' && type !== 'script' && type !== 'style';
+/**
+ * What else can be done about a piece for which there are sources: of an element with code, to give it the nonce.
+ * @param {Piece} piece
+ * @param {readonly string[]} lines
+ */
+const hasOther = ({ request: { kind, type } }, lines) =>
+  kind === 'inline' && (type !== 'script' && type !== 'style' || lines.some(it => /'nonce-/i.test(it)));
 
 /**
  * What to do about each piece of a page that isn't allowed.
@@ -48,13 +54,13 @@ export const allowingOf = async (program, answer) => {
   const added = await addedTo(program, answer), { page, judged } = answer;
   const own = new PolicyList(page.lines).policies.length;
   const pairs = judged.filter(it => it.answer.items.length > 0).map(({ piece, answer: { items } }) => {
-    const found = added.get(piece.request), { effective } = items[0];
-    const isOfPage = items.every(it => it.policy >= own);
+    const found = added.get(piece.request), [{ effective }] = items, { type } = piece.request;
     const item = { ...piece, page: page.url, origin: page.origin, isReport: false, count: 1 };
-    const needsAdvice = found === undefined || isHandler(piece.request);
-    const advice = needsAdvice ? adviceOf(item, { effective, isOfPage }) : undefined;
+    const isAdvised = found === undefined || hasOther(piece, page.lines);
+    const advice = isAdvised ? adviceOf(item, { effective, isOfPage: items.every(it => it.policy >= own) }) : undefined;
     return /** @type {[Piece, Allowing]} */ ([piece, {
-      directive: found?.directive ?? effective, sources: found?.sources ?? [], ...advice && { advice },
+      directive: found?.directive ?? effective, sources: found?.sources ?? [], isBetter: type !== 'script' && type !== 'style',
+      ...advice && { advice },
     }]);
   });
   return new Map(pairs);

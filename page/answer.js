@@ -7,9 +7,9 @@
  */
 
 /**
- * Things that are alike: what `of`, how many, why, and what to do. `rows` are its places.
+ * Things that are alike: what `of`, how many, why, and what to do. `rows` are its places, `copy` a text to be copied.
  * @typedef {{ mood: Mood, badge: string, directive: string, of: string, count: number, because: Text[],
- *   todo: Text[], columns: string[], rows: Cell[][] }} Group
+ *   todo: Text[], copy?: string, columns: string[], rows: Cell[][] }} Group
  */
 
 /**

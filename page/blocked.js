@@ -2,9 +2,11 @@
 import { besideBrowser } from '../js/beside.js';
 import { blocksNothing, why } from '../js/index.js';
 import { NO_TEXT, WITHOUT_POLICY } from '../js/readers/har.js';
+import { keyOf } from '../js/readers/hops.js';
+import { urlOf } from '../js/readers/urls.js';
 import { askOfPage } from '../js/sites.js';
 import { allowingOf } from './allow.js';
-import { number } from './answer.js';
+import { counted, groupedBy } from './answer.js';
 import { pageMatrix } from './matrix.js';
 import { readingBlocks, readingsOf } from './reading.js';
 import { allowedRows, groupsOf, nameOf, placeOf, sampleOf, short } from './rows.js';
@@ -71,9 +73,11 @@ class Summary {
   /** @returns {Text} */
   get sentence() {
     const { all, blocked } = this.counts, { alone, answers } = this;
+    if (alone.length > 0 && answers.length === 0) return say('eventsAlone', alone.length);
     if (alone.length > 0) return say('browserAlone', alone.length, blocked, all);
     if (all === 0) return say('nothingJudged');
-    const pages = answers.length, where = pages > 1 ? ` on ${number(pages)} pages, frames and workers` : '';
+    const isPages = answers.every(it => (it.page.role ?? 'page') === 'page'), pages = counted(answers.length, 'page');
+    const where = answers.length < 2 ? '' : ` on ${isPages ? pages : `${pages}, frames and workers`}`;
     return blocked === 0 ? say('noneBlocked', all, where) : say('someBlocked', blocked, all, where);
   }
 
@@ -86,31 +90,47 @@ class Summary {
       ...reported > 0 ? [say('wouldBlock', reported, blocked)] : [],
       ...this.nothing.map(it => say('decidesNothing', nameOf(it.page))),
       ...this.noInline.length > 0 ? [say('inlineNotGiven', this.noInline.map(it => nameOf(it.page)))] : [],
-      ...beside.length > 0 ? [say('browserTells', beside.length, beside.length - alone.length)] : [],
+      ...beside.length > 0 && this.answers.length > 0 ? [say('browserTells', beside.length, beside.length - alone.length)] : [],
     ];
   }
 }
 
 /**
- * Where a browser and the engine differ.
+ * What a browser tells of and this answer doesn't have, by directive and host.
  * @param {Summary} summary
- * @param {Set<unknown>} said the pieces that the browser tells of
  * @returns {Block[]}
  */
-const differences = ({ alone, beside, answers }, said) => {
-  if (beside.length === 0) return [];
-  const more = alone.map(({ violation, piece }) => {
-    const { directive, blocked, line, sample } = violation, at = line === undefined ? '' : `line ${line}`;
-    const which = [blocked, at, sample].filter(it => it !== '').join(' ');
-    return [piece === undefined ? 'not given' : 'allowed', 'blocked', { text: directive, isCode: true }, short(which)];
+const aloneBlock = ({ alone }) => {
+  if (alone.length === 0) return [];
+  const hostOf = (/** @type {string} */ blocked) => urlOf(blocked)?.host || blocked;
+  const nameOfGroup = (/** @type {typeof alone[0]} */ { violation: { directive, blocked, disposition }, piece }) =>
+    [directive, hostOf(blocked), disposition, piece === undefined].join('\n');
+  const groups = groupedBy(alone, nameOfGroup).map(all => {
+    const [{ violation: { directive, blocked, disposition }, piece }] = all, isReport = disposition === 'report';
+    return /** @type {import('./answer.js').Group} */ ({
+      mood: isReport ? 'warn' : 'bad', badge: isReport ? 'reported' : 'blocked', directive, of: hostOf(blocked), count: all.length,
+      because: [say(piece === undefined ? 'notGiven' : 'saysOther')], todo: [], columns: ['Which', 'Where', 'Code'],
+      rows: all.map(({ violation: { blocked: which, page, file, line, sample } }) =>
+        [short(which), [file || page, ...line === undefined ? [] : [`line ${line}`]].join(', '), { text: short(sample), isCode: true }]),
+    });
   });
-  const less = answers.flatMap(({ page, judged }) => judged.map(it => ({ page, ...it })))
+  return [{ kind: 'groups', head: say('toldAlone'), groups }];
+};
+
+/**
+ * What a browser says nothing of, on pages of which it tells anything.
+ * @param {Summary} summary
+ * @returns {Block[]}
+ */
+const untoldBlock = ({ beside, answers }) => {
+  const said = new Set(beside.map(it => it.piece)), pages = new Set(beside.map(it => keyOf(it.violation.page)));
+  const rows = answers.filter(it => pages.has(keyOf(it.page.url)) || pages.has(''))
+    .flatMap(({ page, judged }) => judged.map(it => ({ page, ...it })))
     .filter(({ piece, answer }) => answer.items.length > 0 && !said.has(piece))
-    .map(it => [it.answer.blocked ? 'blocked' : 'reported', 'says nothing',
-      { text: it.answer.items[0].effective, isCode: true }, `${sampleOf(it.piece)} (${placeOf(it)})`]);
-  const rows = [...more, ...less];
+    .map(it => [it.answer.blocked ? 'blocked' : 'reported', { text: it.answer.items[0].effective, isCode: true },
+      sampleOf(it.piece), placeOf(it)]);
   return rows.length === 0 ? [] : [{
-    kind: 'table', head: say('differs'), columns: ['This answer', 'The browser', 'Directive', 'Which'], rows,
+    kind: 'table', head: say('untold', rows.length), columns: ['This answer', 'Directive', 'Which', 'Where'], rows, isFolded: true,
   }];
 };
 
@@ -190,9 +210,9 @@ export const blocked = async (program, { site, reading, origin }, tell) => {
     mood: summary.mood, sentence: summary.sentence, more: summary.more, unseen: unseenOf(site),
     blocks: [
       ...readingBlocks(readings.length === 1 ? [{ ...readings[0], left: reading.left }] : readings),
-      ...differences(summary, said),
+      ...aloneBlock(summary),
       ...not.length === 0 ? [] : [/** @type {Block} */ ({ kind: 'groups', head: say('notAllowed'), groups: groupsOf(not) })],
-      ...pagesBlock(answers),
+      ...untoldBlock(summary), ...pagesBlock(answers),
       ...pageMatrix(program, answers),
       ...allowed.length === 0 ? [] : [/** @type {Block} */ ({
         kind: 'table', head: say('allowed', allowed.length), columns: ['Times', 'What', 'Allowed by'],

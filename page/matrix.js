@@ -118,14 +118,15 @@ const givenTo = (program, { origin, lines }, places) => {
  * @param {readonly string[]} lines
  * @param {string} origin
  * @param {Place[]} needed
+ * @param {string[]} urgent the columns that come first
  */
-const axesOf = (lines, origin, needed) => {
+const axesOf = (lines, origin, needed, urgent = /** @type {string[]} */ ([])) => {
   const names = new PolicyList(lines).policies.flat().map(it => it.name.replace(/-(?:elem|attr)$/, ''));
   const directives = DIRECTIVES.map(it => it[0]).filter(it =>
     ALWAYS.includes(it) || names.includes(it) || needed.some(of => of.directive === it));
   const counts = groupedBy(needed.map(it => it.column).filter(it => !SPECIAL.includes(it) && it !== OWN), it => it)
     .sort((a, b) => b.length - a.length).map(it => it[0]);
-  const hosts = [...new Set([...counts, ...namedIn(lines, origin)])];
+  const hosts = [...new Set([...counts.filter(it => urgent.includes(it)), ...counts, ...namedIn(lines, origin)])];
   const code = SPECIAL.filter(it => [ELEMENTS, ATTRIBUTES, EVAL].includes(it) || needed.some(of => of.column === it)
     || lines.join(' ').includes(it));
   return { directives, columns: [OWN, ...hosts.slice(0, MOST_HOSTS), OTHERS, ...code], hosts: hosts.length };
@@ -174,7 +175,8 @@ const matrixOf = (program, { origin, lines, name }, judged) => {
     counts.set(keyOf(place), sum);
     return place;
   }));
-  const { directives, columns, hosts } = axesOf(lines, origin, needed);
+  const urgent = judged.filter(it => it.answer.items.length > 0).flatMap(it => columnOf(it.piece.request, origin) ?? []);
+  const { directives, columns, hosts } = axesOf(lines, origin, needed, urgent);
   const gives = givenTo(program, { origin, lines }, allPlaces(directives, columns));
   return {
     kind: 'matrix', head: say('matrix', name, Math.min(hosts, MOST_HOSTS), hosts), columns,

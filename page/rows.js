@@ -54,6 +54,12 @@ export const sampleOf = ({ request }) => {
   return typeof first === 'string' ? short(first) : short(describeText(request));
 };
 
+/** @param {Piece} piece what it is, where that isn't its sample */
+const saidOf = piece => {
+  const said = short(piece.said || describe(piece.request).what), sample = sampleOf(piece);
+  return said.includes(sample) ? { said, sample: '' } : { said, sample };
+};
+
 /** @param {Row} row the item that is shown of it: what blocks it, or else what reports it */
 export const itemOf = ({ answer: { items } }) => items.find(it => it.disposition === 'enforce') ?? items[0];
 
@@ -103,27 +109,28 @@ export const becauseOf = row => {
   ];
 };
 
+const MOST_SOURCES = 3;
+
 /**
  * What to add so that the rows of a group are allowed, and what else can be done.
  * @param {Row[]} rows
- * @returns {Text[]}
+ * @returns {{ todo: Text[], sources: string[] }}
  */
 const todoOf = rows => {
   const all = rows.flatMap(it => it.allowing === undefined ? [] : [it.allowing]);
-  const adding = groupedBy(all.filter(it => it.sources.length > 0), it => it.directive).map(of => {
-    const sources = [...new Set(of.flatMap(it => it.sources))];
-    return say('toAllow', sources.slice(0, 6).join(' '), of[0].directive, Math.max(0, sources.length - 6));
-  });
+  const sources = [...new Set(all.flatMap(it => it.sources))], more = sources.length - MOST_SOURCES;
+  const adding = sources.length === 0 ? []
+    : [say('toAllow', sources.slice(0, MOST_SOURCES).join(' '), all[0].directive, Math.max(0, more))];
+  const how = adding.length === 0 ? 'instead' : all.some(it => it.isBetter) ? 'better' : 'orElse';
   const advice = [...new Set(all.flatMap(it => it.advice ?? []))];
-  return [...adding, ...advice.map(it => say(adding.length === 0 ? 'instead' : 'better', it))];
+  return { todo: [...adding, ...advice.map(it => say(how, it))], sources: more > 0 ? sources : [] };
 };
 
 /** @param {Row} row */
-const cellsOf = row => [
-  row.piece.said === undefined || row.piece.said === '' ? describe(row.piece.request).what : short(row.piece.said),
-  placeOf(row), { text: sampleOf(row.piece), isCode: true },
-  { text: (row.allowing?.sources ?? []).join(' '), isCode: true },
-];
+const cellsOf = row => {
+  const { said, sample } = saidOf(row.piece), sources = (row.allowing?.sources ?? []).join(' ');
+  return [said, placeOf(row), { text: sample, isCode: true }, { text: sources, isCode: true }];
+};
 
 const ORDER = ['bad', 'warn', 'plain', 'good'];
 
@@ -135,12 +142,12 @@ const ORDER = ['bad', 'warn', 'plain', 'good'];
 export const groupsOf = rows => {
   const near = (/** @type {Row} */ it) => it.answer.policies.flatMap(of => of.near.map(to => to.butFor)).join();
   const groups = groupedBy(rows, it =>
-    [badgeOf(it), directivesOf(it), whatOf(it.piece.request), near(it), it.allowing?.advice].join('\n'));
+    [badgeOf(it), directivesOf(it), whatOf(it.piece.request), near(it), it.allowing?.advice, it.allowing?.directive].join('\n'));
   return groups.map(all => {
-    const [first] = all, badge = /** @type {keyof typeof MOODS} */ (badgeOf(first));
+    const [first] = all, badge = /** @type {keyof typeof MOODS} */ (badgeOf(first)), { todo, sources } = todoOf(all);
     return /** @type {Group} */ ({
       mood: MOODS[badge], badge, directive: directivesOf(first), of: whatOf(first.piece.request), count: all.length,
-      because: becauseOf(first), todo: todoOf(all), columns: ['What', 'Where', 'Which', 'To allow it'],
+      because: becauseOf(first), todo, ...sources.length > 0 && { copy: sources.join(' ') }, columns: ['What', 'Where', 'Which', 'To allow it'],
       rows: all.map(cellsOf),
     });
   }).sort((a, b) => ORDER.indexOf(a.mood) - ORDER.indexOf(b.mood) || b.count - a.count);

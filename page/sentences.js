@@ -29,7 +29,12 @@ export const SENTENCES = {
     + `${names.slice(0, 3).join(', ')}${names.length > 3 ? ` and ${names.length - 3} more` : ''}.`,
   browserTells: (/** @type {number} */ all, /** @type {number} */ same) =>
     `The browser tells of ${counted(all, 'violation')}: ${number(same)} of them ${are(same)} in this answer too.`,
-  differs: () => 'Where this answer and the browser differ',
+  eventsAlone: (/** @type {number} */ count) =>
+    `The browser tells of ${counted(count, 'violation')}. No page was given, so nothing else was judged.`,
+  toldAlone: () => 'What the browser tells of, and this answer doesn\'t',
+  notGiven: () => 'Nothing of this was given, so this answer says nothing of it.',
+  saysOther: () => 'This answer says that it is allowed, but the browser says otherwise.',
+  untold: (/** @type {number} */ count) => `What this answer tells of, and the browser doesn't (${number(count)})`,
   notAllowed: () => 'What isn\'t allowed, by directive and host',
   allowed: (/** @type {number} */ count) => `What is allowed, and by which word (${number(count)})`,
   byPage: () => 'Page by page',
@@ -45,6 +50,7 @@ export const SENTENCES = {
   toAllow: (/** @type {string} */ sources, /** @type {string} */ directive, /** @type {number} */ more) =>
     `To allow it: add ${sources}${more > 0 ? ` and the ${number(more)} others below` : ''} to ${directive}.`,
   instead: (/** @type {string} */ advice) => `What to do: ${advice}.`,
+  orElse: (/** @type {string} */ advice) => `Or: ${advice}.`,
   better: (/** @type {string} */ advice) => `Better: ${advice}.`,
   matrix: (/** @type {string} */ name, /** @type {number} */ shown, /** @type {number} */ hosts) =>
     `Directives by hosts${name === '' ? '' : ` on ${name}`}${hosts > shown ? `: the first ${shown} of ${hosts} hosts` : ''}`,

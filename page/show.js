@@ -47,12 +47,13 @@ const placesOf = ({ columns, rows }, name) => rows.length <= FEW ? rows.map(line
 
 /** @param {import('./answer.js').Group} group */
 const groupOf = group => {
-  const { mood, badge, directive, of, count, because, todo } = group;
+  const { mood, badge, directive, of, count, because, todo, copy } = group;
   const head = element('p', { class: 'head' },
     element('span', { class: `badge ${mood}` }, badge), ' ', element('strong', {}, directive), ' ', of,
     ...count > 1 ? [' ', element('span', { class: 'count' }, `× ${number(count)}`)] : []);
   return element('li', { class: `group ${mood}` }, head, ...placesOf(group, `${badge} ${directive} ${of}`),
-    ...[...because, ...todo].map(it => told('p', it)));
+    ...[...because, ...todo].map(it => told('p', it)),
+    ...copy === undefined ? [] : [element('p', { class: 'buttons' }, element('button', { type: 'button', 'data-copy': copy }, 'Copy all sources'))]);
 };
 
 /** @param {Extract<Block, { kind: 'matrix' }>} block */
