@@ -66,8 +66,8 @@ const withoutAnswer = error => {
   if (!(error instanceof NoAnswer)) throw error;
   const { file, line, problem, hint = '' } = error.refused;
   const where = [...file === undefined ? [] : [NAMES[file] ?? file], ...line === undefined ? [] : [`line ${line}`]].join(', ');
-  const place = where === '' ? '' : `${where[0].toUpperCase()}${where.slice(1)}: `;
-  return { ...told, mood: 'warn', sentence: say('refused', place + problem), more: hint === '' ? [] : hint.split('\n') };
+  const text = where === '' ? problem : `${where}: ${problem}`;
+  return { ...told, mood: 'warn', sentence: say('refused', text[0].toUpperCase() + text.slice(1)), more: hint === '' ? [] : hint.split('\n') };
 };
 
 /**

@@ -14,18 +14,23 @@ export class NoAnswer extends Error {
 /** The task was stopped. */
 export class Stopped extends Error {}
 
-/** The bytes of a text in base64, unpacked. @param {string} text */
+/**
+ * The bytes of a text in base64, unpacked.
+ * @param {string} text
+ */
 const unpacked = async text => {
-  const bytes = Uint8Array.from(atob(text.trim()), it => it.charCodeAt(0));
-  const stream = new Blob([bytes]).stream().pipeThrough(new DecompressionStream('gzip'));
-  return new Response(stream).arrayBuffer();
+  const { DecompressionStream } = /** @type {any} */ (globalThis);
+  const bytes = Uint8Array.from(atob(text), it => it.charCodeAt(0));
+  return new Response(new Blob([bytes]).stream().pipeThrough(new DecompressionStream('gzip'))).arrayBuffer();
 };
+
+/** @typedef {{ resolve: (it: any) => void, reject: (it: Error) => void, tell: Function }} Waiting */
 
 export class Asking {
   #code;
   #module;
   #worker = /** @type {Promise<Worker> | undefined} */ (undefined);
-  #waiting = /** @type {Map<number, { resolve: (it: any) => void, reject: (it: Error) => void, tell: Function }>} */ (new Map());
+  #waiting = /** @type {Map<number, Waiting>} */ (new Map());
   #last = 0;
 
   /**

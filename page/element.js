@@ -34,6 +34,7 @@ export const element = (tag, attributes = {}, ...content) => {
  * @param {Record<string, string | boolean>} attributes
  */
 export const told = (tag, text, attributes = {}) => {
-  const says = typeof text === 'object' ? { 'data-says': text.says } : {};
-  return element(tag, { ...says, ...attributes }, textOf(text));
+  const made = element(tag, attributes, textOf(text));
+  if (typeof text === 'object') made.dataset.says = text.says;
+  return made;
 };

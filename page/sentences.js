@@ -82,7 +82,6 @@ export const SENTENCES = {
     + (loose === '' ? '' : ` Besides, no proof covers what got looser: ${loose}.`),
   loosened: (/** @type {string} */ loose) => `Weaker outside the proof: the new headers loosen ${loose}, which no proof covers.`,
   oldNothing: () => 'No answer: the old headers block nothing, so nothing is weaker than they.',
-  unproved: () => 'No answer: a checker rejects the proof. Please report this fault.',
   notWeaker: () => 'Not weaker: the new headers block all that the old ones block. Two checkers accept the proof.',
   oneShown: (/** @type {string} */ origin) =>
     `${onPage(origin)}. One request is shown for each directive; there may be more.`,
@@ -137,7 +136,6 @@ export const SENTENCES = {
   needed: () => 'Why each other word stays',
   accepted: () => 'Accepted by both checkers: the new headers block all that the old ones block.',
   rejected: (/** @type {number} */ line, /** @type {string} */ text) => `Rejected by both checkers: line ${line} breaks a rule: ${text}`,
-  checkersDiffer: () => 'No answer: the two checkers differ. Please report this fault.',
   checkedFor: (/** @type {string} */ origin) => `For these old and new headers, in this order, on a page of ${origin}.`,
   giveProof: () => 'No proof was given: paste one, as "Is the new one weaker?" shows it.',
   requiredAdded: (/** @type {string} */ policy) => `The response is shown, and this is enforced on it too, as it lets the embedder: ${policy}`,

@@ -63,7 +63,7 @@ export const restore = from => {
   state.isExample = from.isExample === true;
   state.files = [];
   for (const it of Array.isArray(from.files) ? from.files : []) addFile(it);
-  for (const id of ['proof', 'required', 'embedder']) if (typeof from[id] === 'string') by(id).value = from[id];
+  for (const id of ['proof', 'required', 'embedder']) by(id).value = String(from[id] ?? by(id).defaultValue);
   for (const name of ['further', 'form']) {
     for (const it of all(`input[name=${name}]`)) it.checked = from[name] === undefined ? it.defaultChecked : it.value === from[name];
   }

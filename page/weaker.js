@@ -35,7 +35,7 @@ const summed = ({ verdict, uncovered, directives }) => {
     case 'weaker': return { mood: 'bad', sentence: say('weaker', weak, loose) };
     case 'loosened': return { mood: 'bad', sentence: say('loosened', loose) };
     case 'nothing': return { mood: 'warn', sentence: say('oldNothing') };
-    case 'unproved': return { mood: 'bad', sentence: say('unproved') };
+    case 'unproved': throw new Error('a checker rejects the proof: please report this fault');
     default: return { mood: 'good', sentence: say('notWeaker') };
   }
 };

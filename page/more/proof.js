@@ -16,7 +16,7 @@ export const proof = (program, { origin, old, new: newer, proof: text }) => {
   const isNothing = blocksNothing(program, { origin, headers: second });
   const line = engine.accepted ? 0 : engine.line, said = { engine, second: other };
   const told = { more: [say('checkedFor', origin)], blocks: [], unseen: ['report-only policies: not compared'], data: said };
-  if (engine.accepted !== isSecond) return { ...told, mood: 'bad', sentence: say('checkersDiffer') };
+  if (engine.accepted !== isSecond) throw new Error('the two checkers differ: please report this fault');
   if (!engine.accepted) return { ...told, mood: 'bad', sentence: say('rejected', line, textOfLine(text, line)) };
   if (isNothing) return { ...told, mood: 'warn', sentence: say('oldNothing') };
   return { ...told, mood: 'good', sentence: say('accepted') };
