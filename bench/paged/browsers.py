@@ -103,9 +103,9 @@ class Chromium(Browser):
             raise RuntimeError(got["exceptionDetails"])
         return got["result"].get("value")
 
-    def key(self, name):
+    def key(self, name, ctrl=False):
         code, text = KEYS[name]
-        words = {"key": " " if name == "Space" else name, "code": name, "windowsVirtualKeyCode": code}
+        words = {"key": " " if name == "Space" else name, "code": name, "windowsVirtualKeyCode": code, "modifiers": 2 * ctrl}
         typed = {"text": "\r" if name == "Enter" else " "} if name in ("Enter", "Space") else {}
         self.ask("Input.dispatchKeyEvent", type="keyDown", **words, **typed)
         self.ask("Input.dispatchKeyEvent", type="keyUp", **words)
@@ -209,9 +209,9 @@ class Firefox(Browser):
     def act(self, kind, actions, **more):
         self.ask("WebDriver:PerformActions", actions=[{"type": kind, "id": kind, "actions": actions, **more}])
 
-    def key(self, name):
-        value = KEYS[name][1]
-        self.act("key", [{"type": "keyDown", "value": value}, {"type": "keyUp", "value": value}])
+    def key(self, name, ctrl=False):
+        keys = ["\ue009"] * ctrl + [KEYS[name][1]]
+        self.act("key", [{"type": it, "value": key} for it in ("keyDown", "keyUp") for key in keys])
 
     def click(self, selector):
         x, y = (int(it) for it in self.run(CENTRE % json.dumps(selector)))
