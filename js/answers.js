@@ -76,6 +76,30 @@
  *   | { weaker: true, request: import('./requests.js').Request })} Relation
  */
 
+/**
+ * A word behind the name of a directive, and what it is as a source, whatever the directive.
+ * @typedef {{ text: string, kind: 'star' | 'scheme' | 'host' | 'keyword' | 'nonce' | 'hash' | 'none'
+ *   | 'other' }} Token
+ */
+
+/** @typedef {{ name: string, decides: boolean, tokens: Token[] }} Directive whether a check may go by it */
+
+/**
+ * A policy as it was read: the number that `judge` tells, the line of its header, from 1, whether it stands
+ * in a meta element, and its directives.
+ * @typedef {{ policy: number, line: number, disposition: 'enforce' | 'report', meta: boolean,
+ *   directives: Directive[] }} Policy
+ */
+
+/**
+ * A piece that browsers drop, the line of its header, and the number of its policy, or null where nothing is
+ * left of that. Where `utf8` is false, each byte of it is shown as the character of that number.
+ * @typedef {{ dropped: string, line: number, reason: 'duplicate' | 'not-ascii' | 'not-in-meta'
+ *   | 'empty-policy', utf8?: false, policy: number | null }} Dropped
+ */
+
+/** @typedef {{ policies: Policy[], dropped: Dropped[] }} Reading */
+
 /** @param {string} text */
 const linesOf = text => text.split('\n').filter(it => it !== '');
 
@@ -246,3 +270,18 @@ const relationOf = text => {
 
 /** @param {string} text */
 export const relationsOf = text => text.split(/^(?=\d)/m).map(relationOf);
+
+/**
+ * @param {string} text
+ * @returns {Reading}
+ */
+export const readingOf = text => {
+  const reading = /** @type {Reading} */ ({ policies: [], dropped: [] }), { policies, dropped } = reading;
+  for (const told of linesOf(text).map(line => JSON.parse(line))) {
+    // What a policy lacks stands behind it
+    const policy = told.reason === 'empty-policy' ? null : policies.length - 1;
+    if ('dropped' in told) dropped.push({ ...told, policy });
+    else policies.push(told);
+  }
+  return reading;
+};

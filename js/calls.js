@@ -1,7 +1,7 @@
 /** The words of the program as calls with typed answers. Each throws a `Refusal` where there is no answer. */
 import {
-  checkOf, comparisonOf, differencesOf, embeddingOf, learntOf, reasonsOf, relationsOf, reportsOf, tidiedOf,
-  verdictsOf,
+  checkOf, comparisonOf, differencesOf, embeddingOf, learntOf, readingOf, reasonsOf, relationsOf, reportsOf,
+  tidiedOf, verdictsOf,
 } from './answers.js';
 import { refusalOf } from './refusal.js';
 
@@ -15,6 +15,7 @@ import { refusalOf } from './refusal.js';
 /** @typedef {import('./answers.js').Tidied} Tidied */
 /** @typedef {import('./answers.js').Learnt} Learnt */
 /** @typedef {import('./answers.js').Relation} Relation */
+/** @typedef {import('./answers.js').Reading} Reading */
 /** @typedef {import('./requests.js').Request} Request */
 
 /**
@@ -125,6 +126,16 @@ export const check = (program, { origin, new: newer, old, proof }) =>
  */
 export const embed = (program, { embedder, origin, required, response }) =>
   embeddingOf(ask(program, 'embed', { embedder, origin }, { required, response }));
+
+/**
+ * How headers are read: their policies with the directives that count, and the pieces that are dropped. The
+ * origin changes nothing of it.
+ * @param {Program} program
+ * @param {{ origin?: string, headers: Headers }} given
+ * @returns {Reading}
+ */
+export const read = (program, { origin = 'null', headers }) =>
+  readingOf(ask(program, 'read', { origin }, { headers }));
 
 /**
  * Headers that allow the same, without the sources that change nothing, and why each other source stays.

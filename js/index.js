@@ -4,7 +4,7 @@
  */
 export { audit } from './audit.js';
 export {
-  blocksNothing, check, compare, differ, embed, judge, learn, order, report, tidy, why,
+  blocksNothing, check, compare, differ, embed, judge, learn, order, read, report, tidy, why,
 } from './calls.js';
 export { Engine, loadEngine } from './engine.js';
 export { Refusal } from './refusal.js';
@@ -22,6 +22,7 @@ export { weaker } from './weaker.js';
 /** @typedef {import('./answers.js').Tidied} Tidied */
 /** @typedef {import('./answers.js').Learnt} Learnt */
 /** @typedef {import('./answers.js').Relation} Relation */
+/** @typedef {import('./answers.js').Reading} Reading */
 /** @typedef {import('./requests.js').Request} Request */
 /** @typedef {import('./calls.js').Program} Program */
 /** @typedef {import('./calls.js').Headers} Headers */
