@@ -8,15 +8,19 @@ import { PolicyList } from '../js/propose/policy.js';
  * @typedef {import('../js/index.js').Program} Program
  * @typedef {import('./rows.js').PageAnswer} PageAnswer
  * @typedef {import('../js/readers/html.js').Piece} Piece
+ * @typedef {{ directive: string, sources: string[] }} Added
  */
 
 /**
  * The sources that allow it in a directive, none where no source does; and what else can be done, which is
  * better where the sources are those of an attribute.
- * @typedef {{ directive: string, sources: string[], advice?: string, isBetter: boolean }} Allowing
+ * @typedef {Added & { advice?: string, isBetter: boolean }} Allowing
  */
 
 const WISH = /** @type {const} */ ({ form: 'addition', inline: 'hashes', unsafeHashes: true });
+
+/** @param {Piece} piece whether it is the code of an element, which can have a nonce */
+const isElement = ({ request: { type } }) => type === 'script' || type === 'style';
 
 /**
  * For each request that the headers of a page don't allow, the sources that would.
@@ -24,25 +28,26 @@ const WISH = /** @type {const} */ ({ form: 'addition', inline: 'hashes', unsafeH
  * @param {PageAnswer} answer
  */
 const addedTo = async (program, { page, judged }) => {
-  const found = /** @type {Map<unknown, { directive: string, sources: string[] }>} */ (new Map()), list = new PolicyList(page.lines);
-  const own = list.policies.length;
+  const found = /** @type {Map<unknown, Added>} */ (new Map());
+  const headers = new PolicyList(page.lines), own = headers.policies.length;
   const pieces = judged.filter(({ answer: { items } }) =>
     items.length > 0 && items.every(it => it.policy < own)).map(it => it.piece);
   if (own === 0 || pieces.length === 0) return found;
   const items = itemsOf([{ ...page, role: 'page', pieces }], [], 'addition');
-  for (const { addition: { directive, sources, count }, items: all } of await additionsOf(program, list, items, WISH)) {
+  for (const { addition, items: all } of await additionsOf(program, headers, items, WISH)) {
+    const { directive, sources, count } = addition;
     if (count === all.length) for (const it of all) found.set(it.request, { directive, sources });
   }
   return found;
 };
 
 /**
- * What else can be done about a piece for which there are sources: of an element with code, to give it the nonce.
+ * Whether something else can be done about a piece for which there are sources: an element can have the nonce.
  * @param {Piece} piece
  * @param {readonly string[]} lines
  */
-const hasOther = ({ request: { kind, type } }, lines) =>
-  kind === 'inline' && (type !== 'script' && type !== 'style' || lines.some(it => /'nonce-/i.test(it)));
+const hasOther = (piece, lines) =>
+  piece.request.kind === 'inline' && (!isElement(piece) || lines.some(it => /'nonce-/i.test(it)));
 
 /**
  * What to do about each piece of a page that isn't allowed.
@@ -54,14 +59,12 @@ export const allowingOf = async (program, answer) => {
   const added = await addedTo(program, answer), { page, judged } = answer;
   const own = new PolicyList(page.lines).policies.length;
   const pairs = judged.filter(it => it.answer.items.length > 0).map(({ piece, answer: { items } }) => {
-    const found = added.get(piece.request), [{ effective }] = items, { type } = piece.request;
+    const found = added.get(piece.request), [{ effective }] = items;
     const item = { ...piece, page: page.url, origin: page.origin, isReport: false, count: 1 };
-    const isAdvised = found === undefined || hasOther(piece, page.lines);
-    const advice = isAdvised ? adviceOf(item, { effective, isOfPage: items.every(it => it.policy >= own) }) : undefined;
-    return /** @type {[Piece, Allowing]} */ ([piece, {
-      directive: found?.directive ?? effective, sources: found?.sources ?? [], isBetter: type !== 'script' && type !== 'style',
-      ...advice && { advice },
-    }]);
+    const by = { effective, isOfPage: items.every(it => it.policy >= own) };
+    const advice = found === undefined || hasOther(piece, page.lines) ? adviceOf(item, by) : undefined;
+    const allowing = { directive: effective, sources: [], ...found, isBetter: !isElement(piece) };
+    return /** @type {[Piece, Allowing]} */ ([piece, { ...allowing, ...advice && { advice } }]);
   });
   return new Map(pairs);
 };

@@ -125,7 +125,8 @@ const hearDrops = () => {
   document.addEventListener('drop', async event => {
     event.preventDefault();
     over(false);
-    const { files } = /** @type {DataTransfer} */ (event.dataTransfer), text = event.dataTransfer?.getData('text') ?? '';
+    const transfer = /** @type {DataTransfer} */ (event.dataTransfer), text = transfer.getData('text');
+    const { files } = transfer;
     if (files.length > 0) taken(await textsOf(files));
     else if (text !== '') taken([{ name: '', text }]);
   });
@@ -186,7 +187,8 @@ const begin = async () => {
     state.revision += 1;
     show();
   });
-  Object.assign(window, { csp: (/** @type {string[]} */ words, /** @type {any[]} */ files) => asking.ask('call', { words, files }) });
+  const csp = (/** @type {string[]} */ words, /** @type {any[]} */ files) => asking.ask('call', { words, files });
+  Object.assign(window, { csp });
   await show();
   await judgeItself(html);
   document.body.dataset.own = 'judged';

@@ -65,7 +65,7 @@ export const restore = from => {
   for (const it of Array.isArray(from.files) ? from.files : []) addFile(it);
   for (const id of ['proof', 'required', 'embedder']) by(id).value = String(from[id] ?? by(id).defaultValue);
   for (const name of ['further', 'form']) {
-    for (const it of all(`input[name=${name}]`)) it.checked = from[name] === undefined ? it.defaultChecked : it.value === from[name];
+    for (const it of all(`input[name=${name}]`)) it.checked = it.value === from[name] || from[name] === undefined && it.defaultChecked;
   }
   by('hashes').checked = from.unsafeHashes === true;
 };

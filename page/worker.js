@@ -22,8 +22,10 @@ const TASKS = {
  * @returns {import('./asking.js').Refused}
  */
 const told = error => {
-  if (error instanceof Refusal) return { file: error.file, line: error.line, problem: error.problem, hint: error.hint };
-  if (!(error instanceof ReadingError)) return { problem: error instanceof Error ? error.stack ?? error.message : String(error) };
+  if (error instanceof Refusal) {
+    return { file: error.file, line: error.line, problem: error.problem, hint: error.hint };
+  }
+  if (!(error instanceof ReadingError)) return { problem: String(error) };
   const { said, found, write, line, file } = error.told;
   return { file, line, problem: found === undefined ? said : `${said}: "${found.slice(0, 60)}"`, hint: `${write}.` };
 };
