@@ -30,7 +30,7 @@ use Rattle.csp_run.specs.declared.fault.Role.TheVariants as role
 use Rattle.csp_run.specs.declared.files.Content.{Content}
 use Rattle.csp_run.specs.declared.files.Content.TheVariants as content
 use Rattle.csp_run.specs.declared.plan.Form.{Form}
-use Rattle.csp_run.specs.declared.plan.Form.TheVariants.{Judge, Report, Compare, Check, Drill, Embed, Tidy, Learn, Order, Why, Differ}
+use Rattle.csp_run.specs.declared.plan.Form.TheVariants.{Judge, Report, Compare, Check, Drill, Embed, Tidy, Learn, Order, Why, Differ, Read}
 use Rattle.csp_run.specs.Desk.{Desk}
 use Rattle.csp_run.specs.Due.{End, IsDue, IsEndOf, end_status}
 use Rattle.csp_run.specs.Files.{World, AreRead, file_limit, found_of, read_within}

@@ -20,7 +20,7 @@ use Rattle.csp_run.specs.declared.files.Content.{Content}
 use Rattle.csp_run.specs.declared.files.Content.TheVariants as content
 use Rattle.csp_output.specs.declared.built.Built.{Built}
 use Rattle.csp_run.specs.declared.plan.Form.{Form}
-use Rattle.csp_run.specs.declared.plan.Form.TheVariants.{Judge, Report, Compare, Check, Drill, Embed, Tidy, Learn, Order, Why, Differ}
+use Rattle.csp_run.specs.declared.plan.Form.TheVariants.{Judge, Report, Compare, Check, Drill, Embed, Tidy, Learn, Order, Why, Differ, Read}
 use Rattle.csp_output.specs.declared.status.Status.{Status}
 use Rattle.csp_output.specs.declared.status.Status.TheVariants.{Clean, Found}
 use Rattle.csp_compare.specs.declared.differences.Difference.{Difference}
