@@ -120,6 +120,7 @@ printed_done Why o (Ok (content.Policies list ∷ content.Requests bytes ∷ [])
     explained_done list _ built is.0
 printed_done Differ o (Ok (content.Policies first ∷ content.Policies second ∷ [])) desk built is =
     ap (λ (b : Built). is_done b.status) is.0.printed ∙ differing_done second is.0.entries
+printed_done Read o (Ok (content.Response block list ∷ [])) desk built is = ap (λ (b : Built). is_done b.status) is.0
 printed_done Order o (Ok contents) desk built is = ap is_done is.0.2.status
 printed_done form o (Ok contents) desk built is = absurd is
 

@@ -35,6 +35,7 @@ not_grown Learn contents desk other grew = grew
 not_grown Order contents desk other grew = grew
 not_grown Why contents desk other grew = grew
 not_grown Differ contents desk other grew = grew
+not_grown Read contents desk other grew = grew
 
 by_words : (w : World) (desk : Desk) (asked : Result Plan Fault) → HasGrown w desk asked → is_report asked ≡ false
     → IsUntouched desk
@@ -75,6 +76,7 @@ by_output Tidy o (Ok (content.Policies list ∷ [])) desk end is other = is.1
 by_output Learn o (Ok (content.Requests bytes ∷ [])) desk end is other = is.1
 by_output Why o (Ok (content.Policies list ∷ content.Requests bytes ∷ [])) desk end is other = is.1
 by_output Differ o (Ok (content.Policies first ∷ content.Policies second ∷ [])) desk end is other = is.1
+by_output Read o (Ok (content.Response block list ∷ [])) desk end is other = is.1
 by_output Order o (Ok contents) desk end is other = is.1
 by_output form o (Ok contents) desk end is other = absurd is
 
