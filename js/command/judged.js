@@ -191,7 +191,7 @@ const BUT = /** @type {Record<string, string>} */ ({
  * @param {import('../answers.js').Ground} ground
  * @param {boolean} several
  */
-export const groundText = ({ policy, directive, blocks, token, near }, several) => {
+export const groundText = ({ policy, directive, does, token, near, add }, several) => {
   const who = several ? `${ordinal(policy)} policy: ` : '';
   if (directive === '-') return `${who}no directive decides this`;
   if (does === 'allows') return `${who}${directive} allows it${token === undefined ? '' : ` by ${token}`}`;
