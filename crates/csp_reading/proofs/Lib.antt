@@ -1,1 +1,5 @@
+mod LineEnds
+mod OneText
+mod Sound
 mod Telling
+mod Written

@@ -1,6 +1,6 @@
 -- Printed values have no line feed, so that lines of them can be told apart.
-use Rattle.std.proofs.Common.{arith, ◌≡◌, ◌≢◌, ◌∙◌, sym, ap, ap₂, refl, ℕ, zero, suc, ◌+◌, ◌/◌, ◌%◌, ◌<◌, ◌≤◌, ◌^◌, Bool, true, false, cond, ◌==◌, ◌||◌, nat_lt, List, [], ◌∷◌, ◌++◌, length, get_or, append_assoc, decimal, ⊤, inl, inr, ◌⊎◌, subst}
-use Rattle.std.specs.Char.{digit_char}
+use Rattle.std.proofs.Common.{arith, ◌≡◌, ◌≢◌, ◌∙◌, sym, ap, ap₂, refl, ℕ, zero, suc, ◌+◌, ◌/◌, ◌%◌, ◌<◌, ◌≤◌, ◌^◌, Bool, true, false, cond, ◌==◌, ◌||◌, nat_lt, List, [], ◌∷◌, ◌++◌, length, get_or, append_assoc, decimal, inl, inr, ◌⊎◌, subst}
+use Rattle.std.specs.Prelude.{⊤}
 use Rattle.std.specs.List.{flat_map}
 use Rattle.std.proofs.lemmas.Bool.{cases_eq}
 use Rattle.std.proofs.lemmas.Fmt.{decimal_is_IsNumeral, decimal_digit}
@@ -34,6 +34,15 @@ letter x false false false false true f other = λ is. absurd (cc is)
 letter x false false false false false true other = λ is. absurd (cc is)
 letter x false false false false false false other = λ is. absurd (cc is)
 
+ne92 : 92 ≢ 10
+ne92 is = cc is
+
+ne117 : 117 ≢ 10
+ne117 is = cc is
+
+ne48 : 48 ≢ 10
+ne48 is = cc is
+
 digit : (b : Bool) (d : ℕ) → cond b (48 + d) (87 + d) ≢ 10
 digit true d is = absurd (omega (arith, is))
 digit false d is = absurd (omega (arith, is))
@@ -42,14 +51,14 @@ other_byte : (x : ℕ) → x ≢ 10 → NoFeed (escape_byte x)
 unfolding escape_byte
 other_byte x other =
     either (nat_lt 0 (escape_letter x)) _ _
-    ((λ is. absurd (cc is)), letter x ((x == 34) || (x == 92)) (x == 8) (x == 12) (x == 10) (x == 13) (x == 9) other, tt)
+    (ne92, (letter x ((x == 34) || (x == 92)) (x == 8) (x == 12) (x == 10) (x == 13) (x == 9) other, tt))
     (either (nat_lt x 32) _ _
-    ((λ is. absurd (cc is)), (λ is. absurd (cc is)), (λ is. absurd (cc is)), (λ is. absurd (cc is)),
-    digit (nat_lt (x / 16) 10) (x / 16), digit (nat_lt (x % 16) 10) (x % 16), tt) (other, tt))
+    (ne92, (ne117, (ne48, (ne48, (digit (nat_lt (x / 16) 10) (x / 16), (digit (nat_lt (x % 16) 10) (x % 16), tt))))))
+    (other, tt))
 
 feed_itself : NoFeed (escape_byte 10)
 unfolding escape_byte
-feed_itself = ((λ is. absurd (cc is)), (λ is. absurd (cc is)), tt)
+feed_itself = ((λ is. absurd (cc is)), ((λ is. absurd (cc is)), tt))
 
 byte : (x : ℕ) → NoFeed (escape_byte x)
 byte x = go (cases_eq x 10)
@@ -122,10 +131,10 @@ one_text end_array h = ((λ is. absurd (cc is)), tt)
 one_text (key s) h = feed_append (quoted s) (58 ∷ []) (quotes s) ((λ is. absurd (cc is)), tt)
 one_text (string s) h = quotes s
 one_text (number s) h = h.1
-one_text (boolean true) h = ((λ is. absurd (cc is)), (λ is. absurd (cc is)), (λ is. absurd (cc is)), (λ is. absurd (cc is)), tt)
+one_text (boolean true) h = ((λ is. absurd (cc is)), ((λ is. absurd (cc is)), ((λ is. absurd (cc is)), ((λ is. absurd (cc is)), tt))))
 one_text (boolean false) h =
-    ((λ is. absurd (cc is)), (λ is. absurd (cc is)), (λ is. absurd (cc is)), (λ is. absurd (cc is)), (λ is. absurd (cc is)), tt)
-one_text null h = ((λ is. absurd (cc is)), (λ is. absurd (cc is)), (λ is. absurd (cc is)), (λ is. absurd (cc is)), tt)
+    ((λ is. absurd (cc is)), ((λ is. absurd (cc is)), ((λ is. absurd (cc is)), ((λ is. absurd (cc is)), ((λ is. absurd (cc is)), tt)))))
+one_text null h = ((λ is. absurd (cc is)), ((λ is. absurd (cc is)), ((λ is. absurd (cc is)), ((λ is. absurd (cc is)), tt))))
 one_text bad h = absurd h
 
 pub no_feed_in_print : (after : Bool) (ts : List Token) → ArePlain ts → NoFeed (print_from after ts)

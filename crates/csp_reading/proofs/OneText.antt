@@ -32,28 +32,28 @@ use Rattle.csp_reading.proofs.Sound.{AreRead, AreSound, IsRead, IsSound}
 plain_tokens : (ts : List (List ℕ)) (sources : List Source) → ArePlain (items_tokens (token_items ts sources))
 plain_tokens [] sources = (tt, tt)
 plain_tokens (t ∷ ts) [] = (tt, tt)
-plain_tokens (t ∷ ts) (source ∷ sources) = (tt, tt, tt, tt, tt, tt, plain_tokens ts sources)
+plain_tokens (t ∷ ts) (source ∷ sources) = (tt, (tt, (tt, (tt, (tt, (tt, plain_tokens ts sources))))))
 
 plain_directives : (disposition : Disposition) (ds : List Directive) → ArePlain (items_tokens (directive_items disposition ds))
 plain_directives disposition [] = (tt, tt)
 plain_directives disposition (d ∷ ds) =
-    (tt, tt, tt, tt, tt, tt, tt,
+    (tt, (tt, (tt, (tt, (tt, (tt, (tt,
     plain_append (items_tokens (token_items d.tokens d.sources) ++ end_object ∷ []) (items_tokens (directive_items disposition ds))
     (plain_append (items_tokens (token_items d.tokens d.sources)) (end_object ∷ []) (plain_tokens d.tokens d.sources) (tt, tt))
-    (plain_directives disposition ds))
+    (plain_directives disposition ds))))))))
 
 plain_dropped : (utf8 : Bool) (text : List ℕ) (line : ℕ) (reason : List ℕ) → line < 2 ^ 64
     → ArePlain (json_tokens (object (dropped_members utf8 text line reason)))
 plain_dropped true text line reason few =
-    (tt, tt, tt, tt, (IsNumber-decimal line few, no_feed_in_decimal line few), tt, tt, tt, tt)
+    (tt, (tt, (tt, (tt, ((IsNumber-decimal line few, no_feed_in_decimal line few), (tt, (tt, (tt, tt))))))))
 plain_dropped false text line reason few =
-    (tt, tt, tt, tt, (IsNumber-decimal line few, no_feed_in_decimal line few), tt, tt, tt, tt, tt, tt)
+    (tt, (tt, (tt, (tt, ((IsNumber-decimal line few, no_feed_in_decimal line few), (tt, (tt, (tt, (tt, (tt, tt))))))))))
 
 plain : (t : Told) → IsSound t → ArePlain (json_tokens (told_value t))
 plain (Policy number line disposition meta ds) is =
-    (tt, tt, (IsNumber-decimal number is.0, no_feed_in_decimal number is.0), tt,
-    (IsNumber-decimal line is.1, no_feed_in_decimal line is.1), tt, tt, tt, tt, tt, tt,
-    plain_append (items_tokens (directive_items disposition ds)) (end_object ∷ []) (plain_directives disposition ds) (tt, tt))
+    (tt, (tt, ((IsNumber-decimal number is.0, no_feed_in_decimal number is.0), (tt,
+    ((IsNumber-decimal line is.1, no_feed_in_decimal line is.1), (tt, (tt, (tt, (tt, (tt, (tt,
+    plain_append (items_tokens (directive_items disposition ds)) (end_object ∷ []) (plain_directives disposition ds) (tt, tt))))))))))))
 plain (Dropped text line reason) is = plain_dropped (is_utf8 text) (shown_text text) line reason is
 
 -- Lines are the same only of the same values
@@ -164,6 +164,6 @@ same_numbered number [] [] is = refl
 same_numbered number [] (q ∷ qs) is = absurd (cc is)
 same_numbered number (p ∷ ps) [] is = absurd (cc is)
 same_numbered number (p ∷ ps) (q ∷ qs) is =
-    let first : p ≡ q = cc is in
+    let first : (number, p) ≡ (number, q) = cc is in
     let behind : numbered (number + 1) ps ≡ numbered (number + 1) qs = cc is in
-    ap₂ (λ (a : KeptPolicy) (b : List KeptPolicy). a ∷ b) first (same_numbered (number + 1) ps qs behind)
+    ap₂ (λ (a : KeptPolicy) (b : List KeptPolicy). a ∷ b) (ap (λ (x : ℕ × KeptPolicy). x.1) first) (same_numbered (number + 1) ps qs behind)

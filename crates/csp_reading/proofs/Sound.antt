@@ -1,20 +1,21 @@
 -- What is told of a file has numbers that can be printed, and directives as reading makes them.
-use Rattle.std.proofs.Common.{arith, ◌≡◌, refl, ap, subst, sym, ℕ, suc, ◌+◌, ◌<◌, ◌≤◌, ◌^◌, Bool, true, false, cond, not, ◌||◌, List, [], ◌∷◌, ◌++◌, map, length, Option, Some, None, ⊤}
+use Rattle.std.proofs.Common.{arith, ◌≡◌, refl, ap, subst, sym, ℕ, suc, ◌+◌, ◌<◌, ◌≤◌, ◌^◌, Bool, true, false, cond, not, ◌||◌, List, [], ◌∷◌, ◌++◌, map, length, Option, Some, None, codes}
+use Rattle.std.specs.Prelude.{⊤}
 use Rattle.std.specs.List.{cons_option, filter_map, flat_map}
-use Rattle.csp_model.specs.Ascii.{is_ascii_text, split_at, words}
+use Rattle.std.specs.Str.{bytes_eq}
+use Rattle.csp_model.specs.Ascii.{is_ascii_text, lower, split_at, words}
 use Rattle.csp_model.specs.Policies.{Line, Skipped, Bad, Header, directive_of, directive_of_words, firsts, is_for_meta, policy_with}
 use Rattle.csp_model.specs.Reading.{source_of}
 use Rattle.csp_model.specs.declared.policy.Directive.{Directive}
 use Rattle.csp_model.specs.declared.policy.Disposition.{Disposition}
+use Rattle.csp_model.specs.declared.policy.Disposition.TheVariants.{Enforce, Report}
 use Rattle.csp_model.specs.declared.policy.Policy.{Policy as KeptPolicy}
 use Rattle.csp_model.specs.declared.url.Origin.{Origin}
 use Rattle.csp_policy.specs.Delivered.{policy_kept}
-use Rattle.csp_policy.specs.Fates.{Serialized, delivered_as, delivered_by, delivered_from, delivery_of, fate_of, fate_with, fates, fates_behind, has_name, kept}
+use Rattle.csp_policy.specs.Fates.{Serialized, delivered_as, delivered_by, delivered_from, fate_of, fate_with, fates, fates_behind, has_name, kept}
 use Rattle.csp_policy.specs.declared.fate.Fate.{Fate}
 use Rattle.csp_policy.specs.declared.fate.Fate.TheVariants as fate
 use Rattle.csp_policy.specs.declared.fate.Reason.TheVariants.{Duplicate, NotAscii, NotInMeta}
-use Rattle.csp_policy.specs.declared.serialized.Delivery.{Delivery}
-use Rattle.csp_policy.specs.declared.serialized.Delivery.TheVariants.{InHeader, InMeta, Not}
 use Rattle.csp_reading.specs.Told.{Told, Policy, Dropped, directives_in, number_behind, told_dropped, told_from, told_policy, told_with}
 
 abbrev pub IsRead : Directive → Type 0
@@ -52,7 +53,9 @@ chosen_read false false d is = tt
 words_read : (meta : Bool) (before : List Directive) (ws : List (List ℕ))
     → IsReadFate (fate_with meta before (directive_of_words ws))
 words_read meta before [] = tt
-words_read meta before (w ∷ ws) = chosen_read (has_name _ before) (not meta || is_for_meta _) _ refl
+words_read meta before (w ∷ ws) =
+    let d : Directive = record { name = lower w; tokens = ws; sources = map source_of ws } in
+    chosen_read (has_name d.name before) (not meta || is_for_meta d) d refl
 
 ascii_read : (ascii meta : Bool) (before : List Directive) (ws : List (List ℕ))
     → IsReadFate (cond ascii (fate_with meta before (directive_of_words ws)) (fate.Dropped NotAscii))
@@ -86,15 +89,21 @@ lines_between : (line : ℕ) (disposition : Disposition) (texts : List (List ℕ
 lines_between line disposition [] few = tt
 lines_between line disposition (text ∷ texts) few = (few, lines_between line disposition texts few)
 
-lines_as : (line : ℕ) (delivery : Delivery) (value : List ℕ) → line < 2 ^ 64 → HaveLines (delivered_as line delivery value)
-lines_as line (InHeader disposition) value few = lines_between line disposition (split_at 44 value) few
-lines_as line InMeta value few = (few, tt)
-lines_as line Not value few = tt
+one_of : {A : Type 0} (P : A → Type 0) (a b c : Bool) (w x y z : A) → P w → P x → P y → P z
+    → P (cond a w (cond b x (cond c y z)))
+one_of P true b c w x y z p q r s = p
+one_of P false true c w x y z p q r s = q
+one_of P false false true w x y z p q r s = r
+one_of P false false false w x y z p q r s = s
 
 lines_by : (number : ℕ) (line : Line) → number < 2 ^ 64 → HaveLines (delivered_by number line)
 lines_by number Skipped few = tt
 lines_by number Bad few = tt
-lines_by number (Header name value) few = lines_as number (delivery_of name) value few
+lines_by number (Header name value) few =
+    one_of (λ way. HaveLines (delivered_as number way value)) (bytes_eq (lower name) (codes "content-security-policy"))
+    (bytes_eq (lower name) (codes "content-security-policy-report-only"))
+    (bytes_eq (lower name) (codes "meta-content-security-policy")) _ _ _ _
+    (lines_between number Enforce (split_at 44 value) few) (lines_between number Report (split_at 44 value) few) (few, tt) tt
 
 pub lines_from : (number : ℕ) (lines : List Line) → number + length lines ≤ 2 ^ 63 → HaveLines (delivered_from number lines)
 lines_from number [] few = tt
@@ -114,7 +123,7 @@ policy_sound : (origin : Origin) (number : ℕ) (s : Serialized) (ds : List Dire
     → number + length (policy_with origin s.disposition s.meta ds ++ ps) ≤ 64 → s.line < 2 ^ 64 → AreRead ds
     → IsSound (told_policy number s ds)
 policy_sound origin number s [] ps few line read = line
-policy_sound origin number s (d ∷ ds) ps few line read = (omega (arith, few), line, read)
+policy_sound origin number s (d ∷ ds) ps few line read = (omega (arith, few), (line, read))
 
 few_behind : (origin : Origin) (number : ℕ) (s : Serialized) (ds : List Directive) (ps : List KeptPolicy)
     → number + length (policy_with origin s.disposition s.meta ds ++ ps) ≤ 64 → number_behind number ds + length ps ≤ 64

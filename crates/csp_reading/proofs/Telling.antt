@@ -11,6 +11,7 @@ use Rattle.csp_model.specs.declared.policy.Policy.{Policy as KeptPolicy}
 use Rattle.csp_model.specs.declared.policy.PolicyList.{PolicyList}
 use Rattle.csp_model.specs.declared.url.Origin.{Origin}
 use Rattle.csp_policy.specs.Delivered.{policy_kept}
+use Rattle.csp_policy.specs.Fields.{trimmed}
 use Rattle.csp_policy.specs.Fates.{Serialized, fates, has_text, is_told, kept, piece_text}
 use Rattle.csp_policy.specs.Refusal.{list_of, refusal_of, unless_refused}
 use Rattle.csp_policy.specs.declared.error.BlockError.{BlockError}
@@ -18,7 +19,7 @@ use Rattle.csp_policy.specs.declared.fate.Fate.{Fate}
 use Rattle.csp_policy.specs.declared.fate.Fate.TheVariants as fate
 use Rattle.csp_policy.specs.declared.fate.Reason.TheVariants.{Duplicate, NotAscii, NotInMeta}
 use Rattle.csp_reading.specs.Laws.{directives_told, is_piece, numbered, policy_line, policy_told}
-use Rattle.csp_reading.specs.Told.{Told, Policy, Dropped, directives_in, number_behind, told_dropped, told_from, told_policy, told_with}
+use Rattle.csp_reading.specs.Told.{Told, Policy, Dropped, directives_in, number_behind, reason_text, told_dropped, told_from, told_policy, told_with}
 
 -- The pieces that are dropped are no policies
 
@@ -40,9 +41,12 @@ all_pieces : (line : ℕ) (pieces : List (List ℕ × Fate))
     → filter is_piece (filter_map (told_dropped line) pieces) ≡ filter_map (told_dropped line) pieces
 all_pieces line [] = refl
 all_pieces line ((text, fate.Empty) ∷ pieces) = all_pieces line pieces
-all_pieces line ((text, fate.Dropped Duplicate) ∷ pieces) = ap (λ (l : List Told). _ ∷ l) (all_pieces line pieces)
-all_pieces line ((text, fate.Dropped NotAscii) ∷ pieces) = ap (λ (l : List Told). _ ∷ l) (all_pieces line pieces)
-all_pieces line ((text, fate.Dropped NotInMeta) ∷ pieces) = ap (λ (l : List Told). _ ∷ l) (all_pieces line pieces)
+all_pieces line ((text, fate.Dropped Duplicate) ∷ pieces) =
+    ap (λ (l : List Told). Dropped (trimmed text) line (reason_text Duplicate) ∷ l) (all_pieces line pieces)
+all_pieces line ((text, fate.Dropped NotAscii) ∷ pieces) =
+    ap (λ (l : List Told). Dropped (trimmed text) line (reason_text NotAscii) ∷ l) (all_pieces line pieces)
+all_pieces line ((text, fate.Dropped NotInMeta) ∷ pieces) =
+    ap (λ (l : List Told). Dropped (trimmed text) line (reason_text NotInMeta) ∷ l) (all_pieces line pieces)
 all_pieces line ((text, fate.Kept d) ∷ pieces) = all_pieces line pieces
 
 no_line : (line : ℕ) (pieces : List (List ℕ × Fate))
