@@ -1,3 +1,4 @@
+mod Determined
 mod LineEnds
 mod OneText
 mod Sound

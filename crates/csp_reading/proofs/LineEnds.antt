@@ -34,13 +34,13 @@ letter x false false false false true f other = λ is. absurd (cc is)
 letter x false false false false false true other = λ is. absurd (cc is)
 letter x false false false false false false other = λ is. absurd (cc is)
 
-ne92 : 92 ≢ 10
+ne92 : ◌≢◌ {A = ℕ} 92 10
 ne92 is = cc is
 
-ne117 : 117 ≢ 10
+ne117 : ◌≢◌ {A = ℕ} 117 10
 ne117 is = cc is
 
-ne48 : 48 ≢ 10
+ne48 : ◌≢◌ {A = ℕ} 48 10
 ne48 is = cc is
 
 digit : (b : Bool) (d : ℕ) → cond b (48 + d) (87 + d) ≢ 10

@@ -164,6 +164,6 @@ same_numbered number [] [] is = refl
 same_numbered number [] (q ∷ qs) is = absurd (cc is)
 same_numbered number (p ∷ ps) [] is = absurd (cc is)
 same_numbered number (p ∷ ps) (q ∷ qs) is =
-    let first : (number, p) ≡ (number, q) = cc is in
+    let first : ◌≡◌ {A = ℕ × KeptPolicy} (number, p) (number, q) = cc is in
     let behind : numbered (number + 1) ps ≡ numbered (number + 1) qs = cc is in
     ap₂ (λ (a : KeptPolicy) (b : List KeptPolicy). a ∷ b) (ap (λ (x : ℕ × KeptPolicy). x.1) first) (same_numbered (number + 1) ps qs behind)

@@ -123,7 +123,7 @@ policy_sound : (origin : Origin) (number : ℕ) (s : Serialized) (ds : List Dire
     → number + length (policy_with origin s.disposition s.meta ds ++ ps) ≤ 64 → s.line < 2 ^ 64 → AreRead ds
     → IsSound (told_policy number s ds)
 policy_sound origin number s [] ps few line read = line
-policy_sound origin number s (d ∷ ds) ps few line read = (omega (arith, few), (line, read))
+policy_sound origin number s (d ∷ ds) ps few line read = (omega (arith, few), line, read)
 
 few_behind : (origin : Origin) (number : ℕ) (s : Serialized) (ds : List Directive) (ps : List KeptPolicy)
     → number + length (policy_with origin s.disposition s.meta ds ++ ps) ≤ 64 → number_behind number ds + length ps ≤ 64

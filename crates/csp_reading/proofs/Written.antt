@@ -15,7 +15,7 @@ use Rattle.csp_policy.specs.Fates.{Serialized}
 use Rattle.csp_policy.specs.Fields.{trimmed}
 use Rattle.csp_reading.specs.Lines.{directive_items, directive_members, dropped_members, isomorphic_decode, token_items, told_value}
 use Rattle.csp_reading.specs.Told.{Told, Policy, Dropped, decides, told_policy}
-use Rattle.csp_reading.specs.Tokens.{boolean_tokens, directive_tokens, directives_member, kept_tokens, number_tokens, other_tokens, pair, pair_tokens, policy_front, policy_tokens, text_tokens, told_tokens, tokens_member, utf8_tokens}
+use Rattle.csp_reading.specs.Tokens.{boolean_tokens, directive_front, directive_tokens, directives_member, kept_tokens, number_tokens, other_tokens, pair, pair_tokens, policy_front, policy_tokens, text_tokens, told_tokens, tokens_member, utf8_tokens}
 
 -- Policies
 
@@ -25,7 +25,7 @@ tokens_end (t ∷ ts) [] = refl
 tokens_end (t ∷ ts) (source ∷ sources) = ap (λ (l : List Token). pair t source ++ l) (tokens_end ts sources)
 
 directive_is : (disposition : Disposition) (d : Directive) → directive_tokens disposition d ≡ json_tokens (object (directive_members disposition d))
-unfolding directive_tokens tokens_member
+unfolding directive_tokens directive_front tokens_member
 directive_is disposition d =
     ap (λ (l : List Token). begin_object ∷ (text_tokens (codes "name") d.name
     ++ (boolean_tokens (codes "decides") (decides disposition d.name)
@@ -40,8 +40,8 @@ directives_end disposition (d ∷ ds) =
     ∙ ap (λ (l : List Token). json_tokens (object (directive_members disposition d)) ++ l) (directives_end disposition ds)
 
 pub policy_is : (number line : ℕ) (disposition : Disposition) (meta : Bool) (ds : List Directive)
-    → policy_tokens number line disposition meta ds ≡ json_tokens (told_value (Policy number line disposition meta ds))
-unfolding policy_tokens directives_member number_tokens
+    → policy_tokens number line disposition meta ds ≡ told_tokens (Policy number line disposition meta ds)
+unfolding told_tokens policy_tokens directives_member number_tokens
 policy_is number line disposition meta ds =
     ap (λ (l : List Token). policy_front number line disposition meta ++ ((key (codes "directives") ∷ begin_array ∷ l) ++ end_object ∷ []))
     (directives_end disposition ds)
@@ -73,12 +73,9 @@ dropped_other shown text line reason same none =
 
 -- Serialized policies
 
-pub kept_is : (number : ℕ) (s : Serialized) (ds : List Directive) → is_nonempty ds ≡ true
-    → Policy number s.line s.disposition s.meta ds ≡ told_policy number s ds
-kept_is number s [] is = let no : false ≡ true = is in absurd (false≢true no)
-kept_is number s (d ∷ ds) is = refl
-
-pub none_is : (number : ℕ) (s : Serialized) (ds : List Directive) → is_nonempty ds ≡ false
-    → Dropped (trimmed s.text) s.line (codes "empty-policy") ≡ told_policy number s ds
-none_is number s [] is = refl
-none_is number s (d ∷ ds) is = let no : true ≡ false = is in absurd (false≢true (sym no))
+pub none_told : (number : ℕ) (s : Serialized) (ds : List Directive) (text : List ℕ) (kept : Bool) → kept ≡ is_nonempty ds
+    → kept ≡ false → text ≡ trimmed s.text → Dropped text s.line (codes "empty-policy") ≡ told_policy number s ds
+none_told number s [] text kept is none same = ap (λ (l : List ℕ). Dropped l s.line (codes "empty-policy")) same
+none_told number s (d ∷ ds) text kept is none same =
+    let some : is_nonempty (d ∷ ds) ≡ true = grind (arith) in
+    absurd (false≢true (sym none ∙ is ∙ some))

@@ -38,11 +38,14 @@ unfoldable pub tokens_member : List (List ℕ) → List Source → List Token
 tokens_member tokens sources =
     key (codes "tokens") ∷ begin_array ∷ (pair_tokens tokens sources ++ end_array ∷ [])
 
+-- what a directive is, but for its tokens
+unfoldable pub directive_front : Disposition → List ℕ → List Token
+directive_front disposition name =
+    begin_object ∷ (text_tokens (codes "name") name ++ boolean_tokens (codes "decides") (decides disposition name))
+
 unfoldable pub directive_tokens : Disposition → Directive → List Token
 directive_tokens disposition d =
-    begin_object ∷ (text_tokens (codes "name") d.name
-    ++ (boolean_tokens (codes "decides") (decides disposition d.name)
-    ++ (tokens_member d.tokens d.sources ++ end_object ∷ [])))
+    directive_front disposition d.name ++ (tokens_member d.tokens d.sources ++ end_object ∷ [])
 
 abbrev pub kept_tokens : Disposition → List Directive → List Token
 kept_tokens disposition ds = flat_map (directive_tokens disposition) ds

@@ -1,5 +1,5 @@
 //! Laws of how a policy file is told to be read, each the contract of a function with no body of its own.
-ghost use Rattle.std.specs.Prelude.{◌≡◌, ℕ, List as Items, Ok, filter, map};
+ghost use Rattle.std.specs.Prelude.{◌≡◌, ℕ, ◌<◌, ◌-◌, ◌^◌, List as Items, Ok, filter, length, map};
 ghost use Rattle.std.specs.List.{filter_map, flat_map};
 ghost use Rattle.csp_model.specs.Policies.{policies};
 ghost use Rattle.csp_model.specs.declared.policy.PolicyList.{PolicyList};
@@ -8,6 +8,7 @@ ghost use Rattle.csp_policy.specs.Fates.{delivered, has_text, is_told, kept, pie
 ghost use Rattle.csp_policy.specs.Refusal.{list_of};
 ghost use Rattle.csp_reading.specs.Laws.{directives_told, dropped_in, fates_in, is_piece, numbered};
 ghost use Rattle.csp_reading.specs.Laws.{pieces_in, policy_line, policy_told};
+ghost use Rattle.csp_reading.specs.Lines.{reading_text};
 ghost use Rattle.csp_reading.specs.Told.{told};
 
 use csp_policy::laws::{each_piece_is_kept_or_dropped, what_is_kept_is_the_list};
@@ -41,3 +42,14 @@ pub fn each_piece_is_told_once()
 pub fn each_policy_is_told_once()
     ensures { (bytes : Items ℕ) → filter_map policy_line (told bytes) ≡ map (λ s. s.line) (delivered bytes) }
 {}
+
+/// What is printed determines the list: where two header blocks that `read_block` gives lists of are told alike, the
+/// lists are the same.
+pub fn the_text_determines_the_list()
+    ensures { (origin : Origin) (one other : Items ℕ) (first second : PolicyList)
+        → length one < 2 ^ 32 - 1 → length other < 2 ^ 32 - 1
+        → list_of one origin ≡ Ok first → list_of other origin ≡ Ok second
+        → reading_text one ≡ reading_text other → first ≡ second }
+{
+    what_is_kept_is_the_list();
+}

@@ -2,9 +2,9 @@
 ghost use Rattle.std.specs.Prelude.{◌≡◌, ◌++◌, IfOk, OnOk, map};
 ghost use Rattle.csp_policy.specs.Delivered.{piece_said};
 ghost use Rattle.csp_reading.specs.Lines.{told_line};
-ghost use Rattle.csp_reading.specs.Tokens.{boolean_tokens, directive_tokens, directives_member, kept_tokens};
-ghost use Rattle.csp_reading.specs.Tokens.{number_tokens, pair, pair_tokens, policy_front, policy_tokens};
-ghost use Rattle.csp_reading.specs.Tokens.{text_tokens, tokens_member};
+ghost use Rattle.csp_reading.specs.Tokens.{boolean_tokens, directive_front, directive_tokens, directives_member};
+ghost use Rattle.csp_reading.specs.Tokens.{kept_tokens, number_tokens, pair, pair_tokens, policy_front, policy_tokens};
+ghost use Rattle.csp_reading.specs.Tokens.{text_tokens, told_tokens, tokens_member};
 ghost use Rattle.csp_reading.specs.Told.{Policy, directives_in};
 
 use crate::kinds::{decides, kind_text};
@@ -80,6 +80,17 @@ fn write_tokens(out: &mut Writer, tokens: &[Text], sources: &[Source]) -> Result
     out.end_array()
 }
 
+// Writes what a directive is, but for its tokens.
+#[tactic(auto, unfolding(crate::specs::Tokens::directive_front))]
+fn write_name(out: &mut Writer, disposition: Disposition, name: &str) -> Result<(), AllocError>
+    ensures tokens { OnOk result (out.new.tokens ≡ out.old.tokens ++ directive_front disposition name.now) }
+    ensures before { out.new.before ≡ out.old.before }
+{
+    out.begin_object()?;
+    write_text(out, "name", name)?;
+    write_boolean(out, "decides", decides(disposition, name))
+}
+
 // Writes a directive of a policy of this disposition.
 #[tactic(auto, unfolding(crate::specs::Tokens::directive_tokens))]
 fn write_directive(
@@ -91,10 +102,7 @@ fn write_directive(
         (out.new.tokens ≡ out.old.tokens ++ directive_tokens disposition directive.now) }
     ensures before { out.new.before ≡ out.old.before }
 {
-    let name = directive.name.as_str();
-    out.begin_object()?;
-    write_text(out, "name", name)?;
-    write_boolean(out, "decides", decides(disposition, name))?;
+    write_name(out, disposition, directive.name.as_str())?;
     write_tokens(
         out,
         directive.tokens.as_slice(),
@@ -155,8 +163,9 @@ fn write_front(
     write_boolean(out, "meta", policy.meta)
 }
 
+// Writes a policy, part by part.
 #[tactic(auto, unfolding(crate::specs::Tokens::policy_tokens))]
-fn write_policy(
+fn write_parts(
     out: &mut Writer,
     number: u64,
     policy: &SerializedPolicy<'_>,
@@ -172,8 +181,22 @@ fn write_policy(
     out.end_object()
 }
 
+fn write_policy(
+    out: &mut Writer,
+    number: u64,
+    policy: &SerializedPolicy<'_>,
+    pieces: &[Piece<'_>],
+) -> Result<(), AllocError>
+    ensures tokens { OnOk result (out.new.tokens
+        ≡ out.old.tokens ++ told_tokens (Policy number policy.now.line policy.now.disposition
+        policy.now.meta (directives_in (map piece_said pieces.now)))) }
+    ensures before { out.new.before ≡ out.old.before }
+{
+    write_parts(out, number, policy, pieces)
+}
+
 // The text, and behind it the line of the policy of this number, which has these pieces.
-#[tactic(auto, using(crate::proofs::Written::policy_is), unfolding(crate::specs::Lines::told_line))]
+#[tactic(auto, unfolding(crate::specs::Lines::told_line, crate::specs::Tokens::told_tokens))]
 pub(crate) fn append_policy(
     text: Vec<u8>,
     number: u64,
