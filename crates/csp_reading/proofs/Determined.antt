@@ -1,7 +1,6 @@
 -- The text of a reading determines the list that a block gives.
 use Rattle.std.proofs.Common.{arith, ◌≡◌, ◌∙◌, sym, ap, refl, subst, ℕ, ◌+◌, ◌-◌, ◌<◌, ◌≤◌, ◌^◌, Bool, true, false, cond, nat_lt, List, length, map, Option, Some, None, Ok, inl, inr, ◌⊎◌}
-use Rattle.std.proofs.lemmas.Bool.{cases_lt}
-use Rattle.std.proofs.lemmas.Bool.Decides.{nat_tests}
+use Rattle.std.proofs.lemmas.Bool.{ltb-false}
 use Rattle.std.proofs.lemmas.List.{length-map}
 use Rattle.std.specs.List.{flat_map}
 use Rattle.std.specs.Str.Lines.{strip_carriage_return}
@@ -13,6 +12,8 @@ use Rattle.csp_model.specs.declared.url.Origin.{Origin}
 use Rattle.csp_policy.specs.Delivered.{policy_kept}
 use Rattle.csp_policy.specs.Fates.{delivered}
 use Rattle.csp_policy.specs.Refusal.{excess, list_of, refusal_at, unless_refused}
+use Rattle.csp_policy.specs.declared.error.BlockError.{BlockError}
+use Rattle.csp_policy.specs.declared.error.BlockError.TheVariants.{TooManyPolicies}
 use Rattle.csp_policy.proofs.LinesSoFar.{few_lines}
 use Rattle.csp_reading.specs.Lines.{reading_text}
 use Rattle.csp_reading.specs.Told.{told}
@@ -21,14 +22,13 @@ use Rattle.csp_reading.proofs.Sound.{AreSound, lines_from, sound_from}
 use Rattle.csp_reading.proofs.Telling.{listed, told_policies}
 
 -- a list that is given is no longer than the limit
+not_more : (more : Bool) (other : Option BlockError) (ps : List Policy) (list : PolicyList)
+    → unless_refused (cond more (Some TooManyPolicies) other) ps ≡ Ok list → more ≡ false
+not_more true other ps list is = absurd (cc is)
+not_more false other ps list is = refl
+
 few_of : (ps : List Policy) (list : PolicyList) → unless_refused (excess ps) ps ≡ Ok list → length ps ≤ 64
-few_of ps list is = go (cases_lt 64 (length ps))
-  where
-    go : (64 < length ps) ⊎ (length ps ≤ 64) → length ps ≤ 64
-    go (inl more) =
-        let long : nat_lt 64 (length ps) ≡ true = grind (arith, nat_tests, more) in
-        absurd (cc (sym is ∙ ap (λ (b : Bool). unless_refused (cond b _ _) ps) long))
-    go (inr few) = few
+few_of ps list is = ltb-false 64 (length ps) (not_more (nat_lt 64 (length ps)) _ ps list is)
 
 few : (bad : Option ℕ) (ps : List Policy) (list : PolicyList) → unless_refused (refusal_at bad ps) ps ≡ Ok list → length ps ≤ 64
 few None ps list is = few_of ps list is
@@ -37,7 +37,7 @@ few (Some line) ps list is = absurd (cc is)
 short_lines : (bytes : List ℕ) → length (block_lines bytes) ≤ length bytes + 1
 short_lines bytes =
     let as_many : length (block_lines bytes) ≡ length (split_at 10 (without_status bytes)) =
-    length-map line_of (lines_of (without_status bytes)) ∙ length-map strip_carriage_return (split_at 10 (without_status bytes)) in
+    length-map (lines_of (without_status bytes)) line_of ∙ length-map (split_at 10 (without_status bytes)) strip_carriage_return in
     omega (arith, as_many, few_lines bytes)
 
 abbrev pub KeepsTheList : Type 0
@@ -46,8 +46,10 @@ KeepsTheList = (bytes : List ℕ) (origin : Origin) → flat_map (policy_kept or
 sound : KeepsTheList → (origin : Origin) (bytes : List ℕ) (list : PolicyList) → length bytes < 2 ^ 32 - 1
     → list_of bytes origin ≡ Ok list → AreSound (told bytes)
 sound law origin bytes list short is =
+    let as_many : length (flat_map (policy_kept origin) (delivered bytes)) ≡ length (policies bytes origin) =
+    ap (λ (ps : List Policy). length ps) (law bytes origin) in
     sound_from origin 0 (delivered bytes)
-    (subst (λ (ps : List Policy). 0 + length ps ≤ 64) (sym (law bytes origin)) (few (first_bad bytes) (policies bytes origin) list is))
+    (omega (arith, as_many, few (first_bad bytes) (policies bytes origin) list is))
     (lines_from 1 (block_lines bytes) (omega (arith, short, short_lines bytes)))
 
 pub determined : KeepsTheList → (origin : Origin) (one other : List ℕ) (first second : PolicyList) → length one < 2 ^ 32 - 1
