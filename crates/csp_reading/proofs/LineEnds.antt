@@ -1,14 +1,11 @@
 -- Printed values have no line feed, so that lines of them can be told apart.
-use Rattle.std.proofs.Common.{arith, ◌≡◌, ◌≢◌, ◌∙◌, sym, ap, ap₂, refl, ℕ, zero, suc, ◌+◌, ◌/◌, ◌%◌, ◌<◌, ◌≤◌, ◌^◌, Bool, true, false, cond, ◌==◌, ◌||◌, nat_lt, List, [], ◌∷◌, ◌++◌, length, get_or, append_assoc, decimal, inl, inr, ◌⊎◌, subst}
+use Rattle.std.proofs.Common.{arith, ◌≡◌, ◌≢◌, sym, ap₂, refl, ℕ, zero, suc, ◌+◌, ◌/◌, ◌%◌, ◌<◌, ◌≤◌, ◌^◌, Bool, true, false, cond, ◌==◌, ◌||◌, nat_lt, List, [], ◌∷◌, ◌++◌, length, get_or, decimal, inl, inr, ◌⊎◌, subst}
 use Rattle.std.specs.Prelude.{⊤}
-use Rattle.std.specs.List.{flat_map}
 use Rattle.std.proofs.lemmas.Bool.{cases_eq}
 use Rattle.std.proofs.lemmas.Fmt.{decimal_is_IsNumeral, decimal_digit}
 use Rattle.std.proofs.lemmas.Str.Parse.{digit_at}
-use Rattle.json.specs.Json.{Json, Members, object}
-use Rattle.json.specs.Print.{IsNumber, ArePrintable, begins, ends, escape, escape_byte, escape_letter, print, print_from, quoted, separator, token_text}
+use Rattle.json.specs.Print.{IsNumber, ArePrintable, ends, escape, escape_byte, escape_letter, print_from, quoted, separator, token_text}
 use Rattle.json.specs.Token.{Token, begin_object, end_object, begin_array, end_array, key, string, number, boolean, null, bad}
-use Rattle.json.specs.Tree.{json_tokens}
 
 abbrev pub NoFeed : List ℕ → Type 0
 NoFeed [] = ⊤

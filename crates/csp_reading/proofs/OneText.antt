@@ -1,10 +1,10 @@
 -- The text of a reading determines the policies that are told.
-use Rattle.std.proofs.Common.{arith, ◌≡◌, ◌≢◌, ◌∙◌, sym, ap, ap₂, refl, subst, ℕ, ◌+◌, ◌<◌, ◌≤◌, ◌^◌, Bool, true, false, cond, List, [], ◌∷◌, ◌++◌, map, length, append_assoc, append-nil, decimal, le_refl, Option, Some, None, Ok, codes}
+use Rattle.std.proofs.Common.{◌≡◌, ◌≢◌, ◌∙◌, sym, ap, ap₂, refl, subst, ℕ, ◌+◌, ◌<◌, ◌^◌, Bool, true, false, List, [], ◌∷◌, ◌++◌, map, append_assoc, append-nil, decimal, le_refl, Option, Some}
 use Rattle.std.specs.List.{cons_option, filter_map, flat_map}
 use Rattle.std.specs.Str.{is_utf8}
 use Rattle.std.proofs.lemmas.Fmt.{decimal_injective}
 use Rattle.json.specs.Find.{BeginsWith}
-use Rattle.json.specs.Json.{Members, member, object, value}
+use Rattle.json.specs.Json.{Members, object, value}
 use Rattle.json.specs.Lex.{tokens}
 use Rattle.json.specs.Print.{print}
 use Rattle.json.specs.Token.{end_object}
@@ -36,11 +36,30 @@ plain_tokens (t ∷ ts) (source ∷ sources) = (tt, (tt, (tt, (tt, (tt, (tt, pla
 
 plain_directives : (disposition : Disposition) (ds : List Directive) → ArePlain (items_tokens (directive_items disposition ds))
 plain_directives disposition [] = (tt, tt)
-plain_directives disposition (d ∷ ds) =
-    (tt, (tt, (tt, (tt, (tt, (tt, (tt,
-    plain_append (items_tokens (token_items d.tokens d.sources) ++ end_object ∷ []) (items_tokens (directive_items disposition ds))
-    (plain_append (items_tokens (token_items d.tokens d.sources)) (end_object ∷ []) (plain_tokens d.tokens d.sources) (tt, tt))
-    (plain_directives disposition ds))))))))
+plain_directives disposition (d ∷ ds) = (
+  tt,
+  (
+    tt,
+    (
+      tt,
+      (
+        tt,
+        (
+          tt,
+          (
+            tt,
+            (
+              tt,
+              plain_append (items_tokens (token_items d.tokens d.sources) ++ end_object ∷ []) (items_tokens (directive_items disposition ds))
+                  (plain_append (items_tokens (token_items d.tokens d.sources)) (end_object ∷ []) (plain_tokens d.tokens d.sources) (tt, tt))
+                  (plain_directives disposition ds),
+            ),
+          ),
+        ),
+      ),
+    ),
+  ),
+)
 
 plain_dropped : (utf8 : Bool) (text : List ℕ) (line : ℕ) (reason : List ℕ) → line < 2 ^ 64
     → ArePlain (json_tokens (object (dropped_members utf8 text line reason)))
@@ -50,18 +69,51 @@ plain_dropped false text line reason few =
     (tt, (tt, (tt, (tt, ((IsNumber-decimal line few, no_feed_in_decimal line few), (tt, (tt, (tt, (tt, (tt, tt))))))))))
 
 plain : (t : Told) → IsSound t → ArePlain (json_tokens (told_value t))
-plain (Policy number line disposition meta ds) is =
-    (tt, (tt, ((IsNumber-decimal number is.0, no_feed_in_decimal number is.0), (tt,
-    ((IsNumber-decimal line is.1, no_feed_in_decimal line is.1), (tt, (tt, (tt, (tt, (tt, (tt,
-    plain_append (items_tokens (directive_items disposition ds)) (end_object ∷ []) (plain_directives disposition ds) (tt, tt))))))))))))
+plain (Policy number line disposition meta ds) is = (
+  tt,
+  (
+    tt,
+    (
+      (IsNumber-decimal number is.0, no_feed_in_decimal number is.0),
+      (
+        tt,
+        (
+          (IsNumber-decimal line is.1, no_feed_in_decimal line is.1),
+          (
+            tt,
+            (
+              tt,
+              (
+                tt,
+                (
+                  tt,
+                  (
+                    tt,
+                    (
+                      tt,
+                      plain_append (items_tokens (directive_items disposition ds)) (end_object ∷ []) (plain_directives disposition ds) (tt, tt),
+                    ),
+                  ),
+                ),
+              ),
+            ),
+          ),
+        ),
+      ),
+    ),
+  ),
+)
 plain (Dropped text line reason) is = plain_dropped (is_utf8 text) (shown_text text) line reason is
 
 -- Lines are the same only of the same values
 
 begins : (ms : Members) → BeginsWith (json_tokens (object ms)) (object ms)
-begins ms =
-    (depth (object ms), [], ap (value (depth (object ms))) (sym (append-nil (json_tokens (object ms))))
-    ∙ value-json_tokens (object ms) (depth (object ms)) [] (le_refl (depth (object ms))))
+begins ms = (
+  depth (object ms),
+  [],
+  ap (value (depth (object ms))) (sym (append-nil (json_tokens (object ms))))
+      ∙ value-json_tokens (object ms) (depth (object ms)) [] (le_refl (depth (object ms))),
+)
 
 same_values : (t u : Told) → IsSound t → IsSound u → print (json_tokens (told_value t)) ≡ print (json_tokens (told_value u))
     → told_members t ≡ told_members u

@@ -1,5 +1,5 @@
 -- What is told of a file has numbers that can be printed, and directives as reading makes them.
-use Rattle.std.proofs.Common.{arith, ◌≡◌, refl, ap, subst, sym, ℕ, suc, ◌+◌, ◌<◌, ◌≤◌, ◌^◌, Bool, true, false, cond, not, ◌||◌, List, [], ◌∷◌, ◌++◌, map, length, Option, Some, None, codes}
+use Rattle.std.proofs.Common.{arith, ◌≡◌, refl, ℕ, ◌+◌, ◌<◌, ◌≤◌, ◌^◌, Bool, true, false, cond, not, ◌||◌, List, [], ◌∷◌, ◌++◌, map, length, codes}
 use Rattle.std.specs.Prelude.{⊤}
 use Rattle.std.specs.List.{cons_option, filter_map, flat_map}
 use Rattle.std.specs.Str.{bytes_eq}
@@ -136,7 +136,8 @@ sound_from origin number [] few lines = tt
 sound_from origin number (s ∷ rest) few lines =
     let ds : List Directive = directives_in (fates s.meta s.text) in
     let ps : List KeptPolicy = flat_map (policy_kept origin) rest in
-    sound_append (told_with number s (fates s.meta s.text)) (told_from (number_behind number ds) rest)
-    (policy_sound origin number s ds ps few lines.0 (read_behind s.meta [] (split_at 59 s.text)),
-    dropped_sound s.line (fates s.meta s.text) lines.0)
+    sound_append (told_with number s (fates s.meta s.text)) (told_from (number_behind number ds) rest) (
+      policy_sound origin number s ds ps few lines.0 (read_behind s.meta [] (split_at 59 s.text)),
+      dropped_sound s.line (fates s.meta s.text) lines.0,
+    )
     (sound_from origin (number_behind number ds) rest (few_behind origin number s ds ps few) lines.1)

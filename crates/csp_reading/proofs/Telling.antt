@@ -1,5 +1,5 @@
 -- What is told of serialized policies.
-use Rattle.std.proofs.Common.{◌≡◌, ◌∙◌, sym, ap, refl, ℕ, ◌+◌, Bool, true, false, cond, List, [], ◌∷◌, ◌++◌, map, append-nil, append_assoc, Option, Some, None, Ok}
+use Rattle.std.proofs.Common.{◌≡◌, ◌∙◌, sym, ap, refl, ℕ, Bool, false, cond, List, [], ◌∷◌, ◌++◌, map, append-nil, Option, Some, None, Ok}
 use Rattle.std.specs.List.{cons_option, filter, filter_map, flat_map}
 use Rattle.std.proofs.lemmas.Grind.{flat_map-append}
 use Rattle.std.proofs.lemmas.List.{map-append}
@@ -19,7 +19,7 @@ use Rattle.csp_policy.specs.declared.fate.Fate.{Fate}
 use Rattle.csp_policy.specs.declared.fate.Fate.TheVariants as fate
 use Rattle.csp_policy.specs.declared.fate.Reason.TheVariants.{Duplicate, NotAscii, NotInMeta}
 use Rattle.csp_reading.specs.Laws.{directives_told, is_piece, numbered, policy_line, policy_told}
-use Rattle.csp_reading.specs.Told.{Told, Policy, Dropped, directives_in, number_behind, reason_text, told_dropped, told_from, told_policy, told_with}
+use Rattle.csp_reading.specs.Told.{Told, Dropped, directives_in, number_behind, reason_text, told_dropped, told_from, told_policy, told_with}
 
 -- The pieces that are dropped are no policies
 

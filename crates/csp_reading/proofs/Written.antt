@@ -1,6 +1,5 @@
 -- Tokens that are written one after the other are those of a value.
-use Rattle.std.proofs.Common.{arith, ◌≡◌, ◌∙◌, sym, ap, refl, ℕ, Bool, true, false, cond, List, [], ◌∷◌, ◌++◌, append_assoc, append-nil, IsUtf8, codes}
-use Rattle.std.specs.List.{flat_map}
+use Rattle.std.proofs.Common.{arith, ◌≡◌, ◌∙◌, sym, ap, refl, ℕ, Bool, true, false, cond, List, [], ◌∷◌, ◌++◌, append_assoc, IsUtf8, codes}
 use Rattle.std.proofs.lemmas.Bool.{false≢true}
 use Rattle.std.specs.Str.{is_utf8}
 use Rattle.std.proofs.lemmas.Str.{is_utf8-from_IsUtf8, IsUtf8-from_is_utf8}
@@ -13,8 +12,8 @@ use Rattle.csp_model.specs.declared.policy.Disposition.{Disposition}
 use Rattle.csp_model.specs.declared.source.Source.{Source}
 use Rattle.csp_policy.specs.Fates.{Serialized}
 use Rattle.csp_policy.specs.Fields.{trimmed}
-use Rattle.csp_reading.specs.Lines.{directive_items, directive_members, dropped_members, isomorphic_decode, token_items, told_value}
-use Rattle.csp_reading.specs.Told.{Told, Policy, Dropped, decides, told_policy}
+use Rattle.csp_reading.specs.Lines.{directive_items, directive_members, dropped_members, isomorphic_decode, token_items}
+use Rattle.csp_reading.specs.Told.{Policy, Dropped, decides, told_policy}
 use Rattle.csp_reading.specs.Tokens.{boolean_tokens, directive_front, directive_tokens, directives_member, kept_tokens, number_tokens, other_tokens, pair, pair_tokens, policy_front, policy_tokens, text_tokens, told_tokens, tokens_member, utf8_tokens}
 
 -- Policies

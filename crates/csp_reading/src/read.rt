@@ -58,7 +58,13 @@ fn append_front(
     if has_kept(pieces) {
         append_policy(text, number, policy, pieces)
     } else {
-        append_dropped(alloc, text, trimmed(policy.text), policy.line, "empty-policy")
+        append_dropped(
+            alloc,
+            text,
+            trimmed(policy.text),
+            policy.line,
+            "empty-policy",
+        )
     }
 }
 

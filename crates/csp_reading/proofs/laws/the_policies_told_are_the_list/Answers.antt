@@ -1,5 +1,4 @@
-use Rattle.std.proofs.Common.{◌∙◌, ap, ℕ, List}
-use Rattle.csp_model.specs.declared.policy.Policy.{Policy}
+use Rattle.std.proofs.Common.{◌∙◌, ap}
 use Rattle.csp_policy.specs.Fates.{delivered}
 use Rattle.csp_reading.specs.Laws.{numbered}
 use Rattle.csp_reading.proofs.Telling.{listed, told_policies}

@@ -10,7 +10,7 @@ pub returns-clause-tokens : goal.returns-clause-tokens
 returns-clause-tokens c =
     on_ok_weaker c.write_parts.result
     (λ is.
-        is ∙ ap (λ (l : List Token). c.args.out.now.tokens ++ l)
-        (policy_is c.args.number c.args.policy.now.line c.args.policy.now.disposition c.args.policy.now.meta
-        (directives_in (map piece_said c.args.pieces.now))))
+    is ∙ ap (λ (l : List Token). c.args.out.now.tokens ++ l)
+    (policy_is c.args.number c.args.policy.now.line c.args.policy.now.disposition c.args.policy.now.meta
+    (directives_in (map piece_said c.args.pieces.now))))
     c.write_parts.ensures.tokens
