@@ -2,7 +2,7 @@
  * What headers say, policy by policy, so that one word of them can be changed and the engine asked again.
  * Policies are numbered as the engine numbers them. Nothing here decides what a policy does.
  */
-import { compare } from './index.js';
+import { compare } from './calls.js';
 import { piecesOf } from './readers/marks.js';
 
 /**
@@ -54,7 +54,7 @@ export const headersOf = policies => policies.map(({ disposition, isMeta, direct
 
 /**
  * The policies of header lines. That they allow exactly what the lines allow, the engine is asked.
- * @param {import('./index.js').Program} program
+ * @param {import('./calls.js').Program} program
  * @param {{ origin: string, headers: string | Uint8Array }} given
  */
 export const readPolicies = (program, { origin, headers }) => {

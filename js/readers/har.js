@@ -226,8 +226,8 @@ const UNSEEN = [
   'blob: URLs, and the data: URLs that scripts and style sheets load: not looked at',
   'who frames the page: not looked at',
 ];
-export const NO_TEXT = 'inline code, nonces, integrity, forms and meta policies, since the recording has no text of '
-  + 'this page: not looked at (export the HAR with content)';
+export const NO_TEXT = 'inline code, nonces, integrity, forms and meta policies, since the recording has no '
+  + 'text of this page: not looked at (export the HAR with content)';
 const CACHED = 'the page came from the cache (status 304), and its headers may be missing: record it without '
   + 'cache';
 
