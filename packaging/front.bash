@@ -16,6 +16,7 @@ csp tells what a Content Security Policy does. Each answer is proved.
   csp check ORIGIN NEW OLD PROOF            whether a proof of that is right
   csp embed EMBEDDER ORIGIN REQUIRED RESPONSE
                                             whether an embedder that requires a policy may show a response
+  csp read ORIGIN POLICY                    how the policies were read, and what was dropped of them
   csp tidy ORIGIN POLICY                    the same policies without what changes nothing, and why the rest stays
   csp learn ORIGIN REQUESTS                 a first policy, which allows what the requests load
   csp order ORIGIN LISTS                    which of 2 to 16 headers are at least as strict as which
@@ -42,7 +43,7 @@ tell_files() {
         compare | differ) roles=(- first second) ;;
         check) roles=(- first second proof) ;;
         embed) roles=(- - required response) ;;
-        tidy) roles=(- policy) ;;
+        tidy | read) roles=(- policy) ;;
         learn) roles=(- requests) ;;
         *) roles=(-) ;;
     esac

@@ -1,0 +1,6 @@
+mod Determined
+mod LineEnds
+mod OneText
+mod Sound
+mod Telling
+mod Written

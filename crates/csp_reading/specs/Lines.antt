@@ -1,7 +1,7 @@
 -- The lines that `read` prints: a JSON object for each thing that is told.
 use Rattle.std.specs.Prelude.{ℕ, Bool, true, false, if◌then◌else◌, List, [], ◌∷◌, ◌++◌, codes, decimal, encode_utf8}
 use Rattle.std.specs.List.{flat_map}
-use Rattle.core.specs.Str.{is_utf8}
+use Rattle.std.specs.Str.{is_utf8}
 use Rattle.json.specs.Json.{Json, boolean, number, string, array, object, Items, no_items, item, Members, no_members, member}
 use Rattle.json.specs.Print.{print}
 use Rattle.json.specs.Tree.{json_tokens}

@@ -1,12 +1,13 @@
 -- What is told of how a policy file is read: each policy that is kept, and each piece that is dropped.
-use Rattle.std.specs.Prelude.{◌≡◌, ℕ, ◌+◌, ◌&&◌, not, Bool, true, false, if◌then◌else◌, List, [], ◌∷◌, ◌++◌, Option, Some, None, codes}
+use Rattle.std.specs.Prelude.{ℕ, ◌+◌, Bool, if◌then◌else◌, List, [], ◌∷◌, ◌++◌, Option, Some, None, codes}
 use Rattle.std.specs.List.{filter_map, list_any}
 use Rattle.std.specs.Str.{bytes_eq}
+use Rattle.csp_match.specs.Candidates.{names}
 use Rattle.csp_model.specs.Ascii.{lower}
 use Rattle.csp_model.specs.Names.{name_text}
 use Rattle.csp_model.specs.Verdict.{is_enforce}
 use Rattle.csp_model.specs.declared.name.Name.{Name}
-use Rattle.csp_model.specs.declared.name.Name.TheVariants.{ConnectSrc, FontSrc, FrameSrc, ImgSrc, ManifestSrc, MediaSrc, ObjectSrc, StyleSrcElem, ScriptSrcElem, WorkerSrc, ScriptSrcAttr, StyleSrcAttr, ScriptSrc, StyleSrc, ChildSrc, DefaultSrc, BaseUri, FormAction, FrameAncestors, Sandbox}
+use Rattle.csp_model.specs.declared.name.Name.TheVariants.{Sandbox}
 use Rattle.csp_model.specs.declared.policy.Directive.{Directive}
 use Rattle.csp_model.specs.declared.policy.Disposition.{Disposition}
 use Rattle.csp_model.specs.declared.source.Source.{Source}
@@ -67,17 +68,17 @@ told bytes = told_from 0 (delivered bytes)
 
 -- The directives that decide
 
-abbrev pub names : List Name
-names =
-    ConnectSrc ∷ FontSrc ∷ FrameSrc ∷ ImgSrc ∷ ManifestSrc ∷ MediaSrc ∷ ObjectSrc ∷ StyleSrcElem ∷ ScriptSrcElem
-    ∷ WorkerSrc ∷ ScriptSrcAttr ∷ StyleSrcAttr ∷ ScriptSrc ∷ StyleSrc ∷ ChildSrc ∷ DefaultSrc ∷ BaseUri
-    ∷ FormAction ∷ FrameAncestors ∷ []
+abbrev pub is_name : Name → List ℕ → Bool
+is_name known name = bytes_eq name (name_text known)
+
+-- it is the name of a directive that may govern a check
+unfoldable pub may_govern : List ℕ → Bool
+may_govern name = list_any (λ known. is_name known name) names
 
 -- A check may be governed by a directive of this name. A sandbox governs where the policy is enforced.
 unfoldable pub decides : Disposition → List ℕ → Bool
 decides disposition name =
-    if bytes_eq name (name_text Sandbox) then is_enforce disposition
-    else list_any (λ n. bytes_eq name (name_text n)) names
+    if is_name Sandbox name then is_enforce disposition else may_govern name
 
 -- Tokens
 

@@ -2,8 +2,9 @@
 ghost use Rattle.std.specs.Prelude.{◌≡◌, ◌++◌, IfOk, OnOk, string_bytes};
 ghost use Rattle.csp_reading.specs.Lines.{isomorphic_decode, told_line};
 ghost use Rattle.csp_reading.specs.Told.{Dropped};
-ghost use Rattle.csp_reading.specs.Tokens.{dropped_tokens};
+ghost use Rattle.csp_reading.specs.Tokens.{other_tokens, piece_front, told_tokens, utf8_tokens};
 
+use crate::policies::{write_boolean, write_number, write_text};
 use csp_model::Memory;
 use json::Writer;
 use std::alloc::{AllocError, Global};
@@ -19,34 +20,68 @@ fn decoded(alloc: Global, bytes: &[u8]) -> Result<String, Memory>
     Ok(text)
 }
 
-#[tactic(auto, unfolding(crate::specs::Tokens::dropped_tokens))]
-fn write_dropped(
-    out: &mut Writer,
-    shown: &str,
-    line: u64,
-    reason: &str,
-    utf8: bool,
-) -> Result<(), AllocError>
+// Writes a piece that is dropped, but for what stands behind the reason.
+fn write_piece(out: &mut Writer, shown: &str, line: u64, reason: &str) -> Result<(), AllocError>
     ensures tokens { OnOk result
-        (out.new.tokens ≡ out.old.tokens ++ dropped_tokens utf8 shown.now line reason.now) }
+        (out.new.tokens ≡ out.old.tokens ++ piece_front shown.now line reason.now) }
     ensures before { out.new.before ≡ out.old.before }
 {
     out.begin_object()?;
-    out.key("dropped")?;
-    out.string(shown)?;
-    out.key("line")?;
-    out.u64(line)?;
-    out.key("reason")?;
-    out.string(reason)?;
-    if !utf8 {
-        out.key("utf8")?;
-        out.boolean(false)?;
-    }
+    write_text(out, "dropped", shown)?;
+    write_number(out, "line", line)?;
+    write_text(out, "reason", reason)
+}
+
+// Writes a piece that is dropped and is UTF-8.
+#[tactic(auto, unfolding(crate::specs::Tokens::utf8_tokens))]
+fn write_utf8(out: &mut Writer, piece: &str, line: u64, reason: &str) -> Result<(), AllocError>
+    ensures tokens { OnOk result
+        (out.new.tokens ≡ out.old.tokens ++ utf8_tokens piece.now line reason.now) }
+    ensures before { out.new.before ≡ out.old.before }
+{
+    write_piece(out, piece, line, reason)?;
     out.end_object()
 }
 
-// The text, and behind it the line of a piece that is dropped for this reason. Bytes that aren't UTF-8 are shown
-// each as the code point of that number.
+// Writes a piece that is dropped and isn't, as it is shown.
+#[tactic(auto, unfolding(crate::specs::Tokens::other_tokens))]
+fn write_other(out: &mut Writer, shown: &str, line: u64, reason: &str) -> Result<(), AllocError>
+    ensures tokens { OnOk result
+        (out.new.tokens ≡ out.old.tokens ++ other_tokens shown.now line reason.now) }
+    ensures before { out.new.before ≡ out.old.before }
+{
+    write_piece(out, shown, line, reason)?;
+    write_boolean(out, "utf8", false)?;
+    out.end_object()
+}
+
+// Writes a piece that is dropped. Bytes that aren't UTF-8 are shown each as the code point of that number.
+fn write_dropped(
+    alloc: Global,
+    out: &mut Writer,
+    piece: &[u8],
+    line: u64,
+    reason: &str,
+) -> Result<(), Memory>
+    ensures tokens { OnOk result
+        (out.new.tokens ≡ out.old.tokens ++ told_tokens (Dropped piece.now line reason.now)) }
+    ensures before { out.new.before ≡ out.old.before }
+{
+    match str::from_utf8(piece) {
+        Ok(shown) => {
+            write_utf8(out, shown, line, reason)?;
+            Ok(())
+        }
+        Err(_) => {
+            let shown = decoded(alloc, piece)?;
+            write_other(out, shown.as_str(), line, reason)?;
+            Ok(())
+        }
+    }
+}
+
+// The text, and behind it the line of a piece that is dropped for this reason.
+#[tactic(auto, unfolding(crate::specs::Lines::told_line, crate::specs::Tokens::told_tokens))]
 pub(crate) fn append_dropped(
     alloc: Global,
     text: Vec<u8>,
@@ -58,13 +93,7 @@ pub(crate) fn append_dropped(
         (λ made. made.items ≡ text.items ++ told_line (Dropped piece.now line reason.now)) }
 {
     let mut out = Writer::new(text);
-    match str::from_utf8(piece) {
-        Ok(shown) => write_dropped(&mut out, shown, line, reason, true)?,
-        Err(_) => {
-            let shown = decoded(alloc, piece)?;
-            write_dropped(&mut out, shown.as_str(), line, reason, false)?;
-        }
-    }
+    write_dropped(alloc, &mut out, piece, line, reason)?;
     let mut text = out.into_inner();
     text.push(b'\n')?;
     Ok(text)

@@ -2,41 +2,33 @@
 ghost use Rattle.std.specs.Prelude.{◌≡◌};
 ghost use Rattle.csp_reading.specs.Told as spec;
 
+use csp_match::names;
 use csp_model::{Disposition, Name, Source, name_text};
 use csp_policy::Reason;
 
-// The names of directives that may govern checks whatever the policy's disposition.
-const NAMES: [Name; 19] = [
-    Name::ConnectSrc,
-    Name::FontSrc,
-    Name::FrameSrc,
-    Name::ImgSrc,
-    Name::ManifestSrc,
-    Name::MediaSrc,
-    Name::ObjectSrc,
-    Name::StyleSrcElem,
-    Name::ScriptSrcElem,
-    Name::WorkerSrc,
-    Name::ScriptSrcAttr,
-    Name::StyleSrcAttr,
-    Name::ScriptSrc,
-    Name::StyleSrc,
-    Name::ChildSrc,
-    Name::DefaultSrc,
-    Name::BaseUri,
-    Name::FormAction,
-    Name::FrameAncestors,
-];
+fn is_name(known: Name, name: &str) -> bool
+    ensures { result ≡ spec.is_name known name.now }
+{
+    name == name_text(known)
+}
+
+// Whether it is the name of a directive that may govern a check.
+#[tactic(auto, unfolding(crate::specs::Told::may_govern))]
+fn may_govern(name: &str) -> bool
+    ensures { result ≡ spec.may_govern name.now }
+{
+    names().iter().any(|known| is_name(*known, name))
+}
 
 // Whether a check may be governed by the directive of this name. A sandbox governs where the policy is enforced.
 #[tactic(auto, unfolding(crate::specs::Told::decides))]
 pub(crate) fn decides(disposition: Disposition, name: &str) -> bool
     ensures { result ≡ spec.decides disposition name.now }
 {
-    if name == name_text(Name::Sandbox) {
+    if is_name(Name::Sandbox, name) {
         disposition == Disposition::Enforce
     } else {
-        NAMES.iter().any(|known| name == name_text(*known))
+        may_govern(name)
     }
 }
 

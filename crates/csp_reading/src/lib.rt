@@ -3,6 +3,7 @@
 
 mod dropped;
 mod kinds;
+pub mod laws;
 mod policies;
 mod read;
 

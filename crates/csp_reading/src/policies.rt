@@ -2,7 +2,9 @@
 ghost use Rattle.std.specs.Prelude.{◌≡◌, ◌++◌, IfOk, OnOk, map};
 ghost use Rattle.csp_policy.specs.Delivered.{piece_said};
 ghost use Rattle.csp_reading.specs.Lines.{told_line};
-ghost use Rattle.csp_reading.specs.Tokens.{policy_front, directive_tokens, kept_tokens, pair_tokens, policy_tokens};
+ghost use Rattle.csp_reading.specs.Tokens.{boolean_tokens, directive_front, directive_tokens, directives_member};
+ghost use Rattle.csp_reading.specs.Tokens.{kept_tokens, number_tokens, pair, pair_tokens, policy_front, policy_tokens};
+ghost use Rattle.csp_reading.specs.Tokens.{text_tokens, told_tokens, tokens_member};
 ghost use Rattle.csp_reading.specs.Told.{Policy, directives_in};
 
 use crate::kinds::{decides, kind_text};
@@ -11,30 +13,86 @@ use csp_policy::{Fate, Piece, SerializedPolicy};
 use json::Writer;
 use std::alloc::AllocError;
 
-// Writes the tokens of a directive, each with its kind.
-fn write_tokens(out: &mut Writer, tokens: &[Text], sources: &[Source]) -> Result<(), AllocError>
+// Writes a member whose value is a text.
+pub(crate) fn write_text(out: &mut Writer, name: &str, text: &str) -> Result<(), AllocError>
+    ensures tokens { OnOk result (out.new.tokens ≡ out.old.tokens ++ text_tokens name.now text.now) }
+    ensures before { out.new.before ≡ out.old.before }
+{
+    out.key(name)?;
+    out.string(text)
+}
+
+// Writes a member whose value is a number.
+#[tactic(auto, unfolding(crate::specs::Tokens::number_tokens))]
+pub(crate) fn write_number(out: &mut Writer, name: &str, number: u64) -> Result<(), AllocError>
+    ensures tokens { OnOk result (out.new.tokens ≡ out.old.tokens ++ number_tokens name.now number) }
+    ensures before { out.new.before ≡ out.old.before }
+{
+    out.key(name)?;
+    out.u64(number)
+}
+
+// Writes a member whose value is true or false.
+pub(crate) fn write_boolean(out: &mut Writer, name: &str, value: bool) -> Result<(), AllocError>
+    ensures tokens { OnOk result (out.new.tokens ≡ out.old.tokens ++ boolean_tokens name.now value) }
+    ensures before { out.new.before ≡ out.old.before }
+{
+    out.key(name)?;
+    out.boolean(value)
+}
+
+// Writes a token of a directive with its kind.
+fn write_token(out: &mut Writer, token: &Text, source: &Source) -> Result<(), AllocError>
+    ensures tokens { OnOk result (out.new.tokens ≡ out.old.tokens ++ pair token.now source.now) }
+    ensures before { out.new.before ≡ out.old.before }
+{
+    out.begin_object()?;
+    write_text(out, "text", token.as_str())?;
+    write_text(out, "kind", kind_text(source))?;
+    out.end_object()
+}
+
+// Writes tokens of a directive, each with its kind.
+fn write_each(out: &mut Writer, tokens: &[Text], sources: &[Source]) -> Result<(), AllocError>
     ensures tokens { OnOk result (out.new.tokens ≡ out.old.tokens ++ pair_tokens tokens.now sources.now) }
     ensures before { out.new.before ≡ out.old.before }
 {
-    let mut tokens = tokens;
     let mut sources = sources;
-    'tokens: while let (Some((token, tokens_behind)), Some((source, sources_behind))) = (
-        tokens.split_first(),
-        sources.split_first(),
-    ) {
-        out.begin_object()?;
-        out.key("text")?;
-        out.string(token.as_str())?;
-        out.key("kind")?;
-        out.string(kind_text(source))?;
-        out.end_object()?;
-        tokens = tokens_behind;
-        sources = sources_behind;
+    for token in tokens {
+        let Some((source, behind)) = sources.split_first() else {
+            return Ok(());
+        };
+        write_token(out, token, source)?;
+        sources = behind;
     }
     Ok(())
 }
 
+// Writes the member with the tokens of a directive.
+#[tactic(auto, unfolding(crate::specs::Tokens::tokens_member))]
+fn write_tokens(out: &mut Writer, tokens: &[Text], sources: &[Source]) -> Result<(), AllocError>
+    ensures tokens { OnOk result (out.new.tokens ≡ out.old.tokens ++ tokens_member tokens.now sources.now) }
+    ensures before { out.new.before ≡ out.old.before }
+{
+    out.key("tokens")?;
+    out.begin_array()?;
+    write_each(out, tokens, sources)?;
+    out.end_array()
+}
+
+// Writes what a directive is, but for its tokens.
+#[tactic(auto, unfolding(crate::specs::Tokens::directive_front))]
+fn write_name(out: &mut Writer, disposition: Disposition, name: &str) -> Result<(), AllocError>
+    ensures tokens { OnOk result (out.new.tokens ≡ out.old.tokens ++ directive_front disposition name.now) }
+    ensures before { out.new.before ≡ out.old.before }
+{
+    out.begin_object()?;
+    write_text(out, "name", name)?;
+    write_boolean(out, "decides", decides(disposition, name))
+}
+
 // Writes a directive of a policy of this disposition.
+#[tactic(auto, unfolding(crate::specs::Tokens::directive_tokens))]
 fn write_directive(
     out: &mut Writer,
     disposition: Disposition,
@@ -44,20 +102,12 @@ fn write_directive(
         (out.new.tokens ≡ out.old.tokens ++ directive_tokens disposition directive.now) }
     ensures before { out.new.before ≡ out.old.before }
 {
-    let name = directive.name.as_str();
-    out.begin_object()?;
-    out.key("name")?;
-    out.string(name)?;
-    out.key("decides")?;
-    out.boolean(decides(disposition, name))?;
-    out.key("tokens")?;
-    out.begin_array()?;
+    write_name(out, disposition, directive.name.as_str())?;
     write_tokens(
         out,
         directive.tokens.as_slice(),
         directive.sources.as_slice(),
     )?;
-    out.end_array()?;
     out.end_object()
 }
 
@@ -79,6 +129,23 @@ fn write_directives(
     Ok(())
 }
 
+// Writes the member with the directives among these pieces.
+#[tactic(auto, unfolding(crate::specs::Tokens::directives_member))]
+fn write_member(
+    out: &mut Writer,
+    disposition: Disposition,
+    pieces: &[Piece<'_>],
+) -> Result<(), AllocError>
+    ensures tokens { OnOk result (out.new.tokens
+        ≡ out.old.tokens ++ directives_member disposition (directives_in (map piece_said pieces.now))) }
+    ensures before { out.new.before ≡ out.old.before }
+{
+    out.key("directives")?;
+    out.begin_array()?;
+    write_directives(out, disposition, pieces)?;
+    out.end_array()
+}
+
 // Writes what a policy is, but for its directives.
 fn write_front(
     out: &mut Writer,
@@ -90,19 +157,15 @@ fn write_front(
     ensures before { out.new.before ≡ out.old.before }
 {
     out.begin_object()?;
-    out.key("policy")?;
-    out.u64(number)?;
-    out.key("line")?;
-    out.u64(policy.line)?;
-    out.key("disposition")?;
-    out.string(policy.disposition.as_str())?;
-    out.key("meta")?;
-    out.boolean(policy.meta)?;
-    out.key("directives")?;
-    out.begin_array()
+    write_number(out, "policy", number)?;
+    write_number(out, "line", policy.line)?;
+    write_text(out, "disposition", policy.disposition.as_str())?;
+    write_boolean(out, "meta", policy.meta)
 }
 
-fn write_policy(
+// Writes a policy, part by part.
+#[tactic(auto, unfolding(crate::specs::Tokens::policy_tokens))]
+fn write_parts(
     out: &mut Writer,
     number: u64,
     policy: &SerializedPolicy<'_>,
@@ -114,12 +177,26 @@ fn write_policy(
     ensures before { out.new.before ≡ out.old.before }
 {
     write_front(out, number, policy)?;
-    write_directives(out, policy.disposition, pieces)?;
-    out.end_array()?;
+    write_member(out, policy.disposition, pieces)?;
     out.end_object()
 }
 
+fn write_policy(
+    out: &mut Writer,
+    number: u64,
+    policy: &SerializedPolicy<'_>,
+    pieces: &[Piece<'_>],
+) -> Result<(), AllocError>
+    ensures tokens { OnOk result (out.new.tokens
+        ≡ out.old.tokens ++ told_tokens (Policy number policy.now.line policy.now.disposition
+        policy.now.meta (directives_in (map piece_said pieces.now)))) }
+    ensures before { out.new.before ≡ out.old.before }
+{
+    write_parts(out, number, policy, pieces)
+}
+
 // The text, and behind it the line of the policy of this number, which has these pieces.
+#[tactic(auto, unfolding(crate::specs::Lines::told_line, crate::specs::Tokens::told_tokens))]
 pub(crate) fn append_policy(
     text: Vec<u8>,
     number: u64,

@@ -4,7 +4,7 @@ ghost use Rattle.std.specs.List.{filter_map, flat_map};
 ghost use Rattle.csp_model.specs.Ascii.{is_nonempty};
 ghost use Rattle.csp_policy.specs.Delivered.{piece_said, serialized_said};
 ghost use Rattle.csp_reading.specs.Lines.{reading_text, told_line};
-ghost use Rattle.csp_reading.specs.Told.{directives_in, told_dropped, told_with};
+ghost use Rattle.csp_reading.specs.Told.{directives_in, told_dropped, told_policy, told_with};
 
 use crate::dropped::append_dropped;
 use crate::kinds::reason_text;
@@ -44,8 +44,31 @@ fn append_pieces(
     Ok(text)
 }
 
-// The text, and behind it what is told of a serialized policy with these pieces. Where it is kept, it has this
-// number.
+// The text, and behind it the line of a serialized policy with these pieces. Where one is kept, it has this number.
+fn append_front(
+    alloc: Global,
+    text: Vec<u8>,
+    number: u64,
+    policy: &SerializedPolicy<'_>,
+    pieces: &[Piece<'_>],
+) -> Result<Vec<u8>, Memory>
+    ensures { IfOk result (λ made. made.items ≡ text.items ++ told_line
+        (told_policy number (serialized_said policy.now) (directives_in (map piece_said pieces.now)))) }
+{
+    if has_kept(pieces) {
+        append_policy(text, number, policy, pieces)
+    } else {
+        append_dropped(
+            alloc,
+            text,
+            trimmed(policy.text),
+            policy.line,
+            "empty-policy",
+        )
+    }
+}
+
+// The text, and behind it what is told of a serialized policy with these pieces.
 fn append_told(
     alloc: Global,
     text: Vec<u8>,
@@ -56,17 +79,7 @@ fn append_told(
     ensures { IfOk result (λ made. made.items ≡ text.items ++ flat_map told_line
         (told_with number (serialized_said policy.now) (map piece_said pieces.now))) }
 {
-    let text = if has_kept(pieces) {
-        append_policy(text, number, policy, pieces)?
-    } else {
-        append_dropped(
-            alloc,
-            text,
-            trimmed(policy.text),
-            policy.line,
-            "empty-policy",
-        )?
-    };
+    let text = append_front(alloc, text, number, policy, pieces)?;
     append_pieces(alloc, text, policy.line, pieces)
 }
 

@@ -30,7 +30,7 @@ use Rattle.csp_run.specs.declared.fault.Role.TheVariants as role
 use Rattle.csp_run.specs.declared.files.Content.{Content}
 use Rattle.csp_run.specs.declared.files.Content.TheVariants as content
 use Rattle.csp_run.specs.declared.plan.Form.{Form}
-use Rattle.csp_run.specs.declared.plan.Form.TheVariants.{Judge, Report, Compare, Check, Drill, Embed, Tidy, Learn, Order, Why, Differ}
+use Rattle.csp_run.specs.declared.plan.Form.TheVariants.{Judge, Report, Compare, Check, Drill, Embed, Tidy, Learn, Order, Why, Differ, Read}
 use Rattle.csp_run.specs.Desk.{Desk}
 use Rattle.csp_run.specs.Due.{End, IsDue, IsEndOf, end_status}
 use Rattle.csp_run.specs.Files.{World, AreRead, file_limit, found_of, read_within}
@@ -138,6 +138,7 @@ within_calm o role.Second bytes = policies_calm _ (list_calm role.Second _ _)
 within_calm o role.Proof bytes = refl
 within_calm o role.Required bytes = required_calm _ (list_calm role.Required _ _)
 within_calm o role.Response bytes = response_calm bytes _ (list_calm role.Response _ _)
+within_calm o role.Block bytes = response_calm bytes _ (list_calm role.Block _ _)
 within_calm o (role.List number) bytes = policies_calm _ (list_calm (role.List number) _ _)
 
 ended_calm : (ended : Bool) (file : Role) (found : Result Content Fault) → refuses found ≡ false
@@ -218,6 +219,7 @@ by_output Learn o (content.Requests bytes ∷ []) desk reporter is =
 by_output Why o (content.Policies list ∷ content.Requests bytes ∷ []) desk reporter is =
     absurd (no_refusal reporter _ (explained_calm list (requests_of bytes)) is.0)
 by_output Differ o (content.Policies first ∷ content.Policies second ∷ []) desk reporter is = absurd is.0
+by_output Read o (content.Response block list ∷ []) desk reporter is = absurd is.0
 by_output Order o contents desk reporter is = absurd is.0.2
 by_output form o contents desk reporter is = absurd is
 

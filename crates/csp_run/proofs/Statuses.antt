@@ -20,7 +20,7 @@ use Rattle.csp_run.specs.declared.files.Content.{Content}
 use Rattle.csp_run.specs.declared.files.Content.TheVariants as content
 use Rattle.csp_output.specs.declared.built.Built.{Built}
 use Rattle.csp_run.specs.declared.plan.Form.{Form}
-use Rattle.csp_run.specs.declared.plan.Form.TheVariants.{Judge, Report, Compare, Check, Drill, Embed, Tidy, Learn, Order, Why, Differ}
+use Rattle.csp_run.specs.declared.plan.Form.TheVariants.{Judge, Report, Compare, Check, Drill, Embed, Tidy, Learn, Order, Why, Differ, Read}
 use Rattle.csp_output.specs.declared.status.Status.{Status}
 use Rattle.csp_output.specs.declared.status.Status.TheVariants.{Clean, Found}
 use Rattle.csp_compare.specs.declared.differences.Difference.{Difference}
@@ -120,6 +120,7 @@ printed_done Why o (Ok (content.Policies list ∷ content.Requests bytes ∷ [])
     explained_done list _ built is.0
 printed_done Differ o (Ok (content.Policies first ∷ content.Policies second ∷ [])) desk built is =
     ap (λ (b : Built). is_done b.status) is.0.printed ∙ differing_done second is.0.entries
+printed_done Read o (Ok (content.Response block list ∷ [])) desk built is = ap (λ (b : Built). is_done b.status) is.0
 printed_done Order o (Ok contents) desk built is = ap is_done is.0.2.status
 printed_done form o (Ok contents) desk built is = absurd is
 

@@ -11,7 +11,7 @@ use Rattle.csp_run.specs.declared.files.Content.{Content}
 use Rattle.csp_run.specs.declared.files.Content.TheVariants as content
 use Rattle.csp_output.specs.declared.built.Built.{Built}
 use Rattle.csp_run.specs.declared.plan.Form.{Form}
-use Rattle.csp_run.specs.declared.plan.Form.TheVariants.{Judge, Report, Compare, Check, Drill, Embed, Tidy, Learn, Order, Why, Differ}
+use Rattle.csp_run.specs.declared.plan.Form.TheVariants.{Judge, Report, Compare, Check, Drill, Embed, Tidy, Learn, Order, Why, Differ, Read}
 use Rattle.csp_run.specs.Desk.{Desk, IsUntouched}
 use Rattle.csp_run.specs.Due.{End, IsDue, IsEndOf, HasGrown, end_status}
 use Rattle.csp_run.specs.Files.{World}
@@ -35,6 +35,7 @@ not_grown Learn contents desk other grew = grew
 not_grown Order contents desk other grew = grew
 not_grown Why contents desk other grew = grew
 not_grown Differ contents desk other grew = grew
+not_grown Read contents desk other grew = grew
 
 by_words : (w : World) (desk : Desk) (asked : Result Plan Fault) → HasGrown w desk asked → is_report asked ≡ false
     → IsUntouched desk
@@ -75,6 +76,7 @@ by_output Tidy o (Ok (content.Policies list ∷ [])) desk end is other = is.1
 by_output Learn o (Ok (content.Requests bytes ∷ [])) desk end is other = is.1
 by_output Why o (Ok (content.Policies list ∷ content.Requests bytes ∷ [])) desk end is other = is.1
 by_output Differ o (Ok (content.Policies first ∷ content.Policies second ∷ [])) desk end is other = is.1
+by_output Read o (Ok (content.Response block list ∷ [])) desk end is other = is.1
 by_output Order o (Ok contents) desk end is other = is.1
 by_output form o (Ok contents) desk end is other = absurd is
 

@@ -4,6 +4,7 @@ pub mod Files
 pub mod Gathered
 pub mod Laws
 pub mod Outputs
+pub mod Readings
 pub mod Reports
 pub mod Shown
 pub mod Texts

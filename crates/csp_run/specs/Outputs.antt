@@ -17,7 +17,7 @@ use Rattle.csp_run.specs.declared.files.Content.{Content}
 use Rattle.csp_run.specs.declared.files.Content.TheVariants as content
 use Rattle.csp_output.specs.declared.built.Built.{Built}
 use Rattle.csp_run.specs.declared.plan.Form.{Form}
-use Rattle.csp_run.specs.declared.plan.Form.TheVariants.{Judge, Report, Compare, Check, Drill, Embed, Tidy, Learn, Order, Why, Differ}
+use Rattle.csp_run.specs.declared.plan.Form.TheVariants.{Judge, Report, Compare, Check, Drill, Embed, Tidy, Learn, Order, Why, Differ, Read}
 use Rattle.csp_differ.specs.Differing.{IsDiffering}
 use Rattle.csp_output.specs.Checks.{IsChecked}
 use Rattle.csp_output.specs.Comparisons.{IsComparison}
@@ -29,6 +29,7 @@ use Rattle.csp_output.specs.Lines.{judgment}
 use Rattle.csp_output.specs.Orders.{IsOrdering}
 use Rattle.csp_output.specs.Tidyings.{IsTidying}
 use Rattle.csp_reasons.specs.Explanations.{explanation}
+use Rattle.csp_run.specs.Readings.{told_output}
 use Rattle.csp_run.specs.Reports.{violations_in, IsReport}
 
 -- the fault of what a request file is refused for
@@ -103,6 +104,8 @@ IsOutput Why origin (Ok (content.Policies list ∷ content.Requests bytes ∷ []
     (end ≡ explained list (requests_of bytes)) × IsUntouched desk
 IsOutput Differ origin (Ok (content.Policies first ∷ content.Policies second ∷ [])) desk end =
     IsBuilt (IsDiffering first second) end × IsUntouched desk
+IsOutput Read origin (Ok (content.Response block list ∷ [])) desk end =
+    IsBuilt (λ built. built ≡ told_output block) end × IsUntouched desk
 IsOutput Order origin (Ok contents) desk end = IsOrdered contents end × IsUntouched desk
 IsOutput form origin (Ok contents) desk end = ⊥
 

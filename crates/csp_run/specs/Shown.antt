@@ -23,7 +23,7 @@ use Rattle.csp_output.specs.declared.built.Built.{Built}
 use Rattle.csp_run.specs.declared.output.Outcome.{Outcome}
 use Rattle.csp_run.specs.declared.output.Outcome.TheVariants.{Text, Reporters}
 use Rattle.csp_run.specs.declared.plan.Form.{Form}
-use Rattle.csp_run.specs.declared.plan.Form.TheVariants.{Judge, Report, Compare, Check, Drill, Embed, Tidy, Learn, Order, Why, Differ}
+use Rattle.csp_run.specs.declared.plan.Form.TheVariants.{Judge, Report, Compare, Check, Drill, Embed, Tidy, Learn, Order, Why, Differ, Read}
 use Rattle.csp_run.specs.declared.plan.Plan.{Plan as Held}
 use Rattle.csp_run.specs.declared.printed.Printed.{Printed}
 use Rattle.csp_run.specs.declared.printed.Printed.TheVariants as printed
@@ -68,6 +68,7 @@ fits Tidy (content.Policies list ∷ []) = true
 fits Learn (content.Requests bytes ∷ []) = true
 fits Why (content.Policies list ∷ content.Requests bytes ∷ []) = true
 fits Differ (content.Policies first ∷ content.Policies second ∷ []) = true
+fits Read (content.Response block list ∷ []) = true
 fits Order contents = takes Order (length contents) && list_all is_list contents
 fits form contents = false
 

@@ -15,6 +15,7 @@ use Rattle.csp_output.specs.declared.status.Status.TheVariants as status
 unfoldable pub role_word : Role → List ℕ
 role_word role.Policy = codes "policy"
 role_word role.Requests = codes "requests"
+role_word role.Block = codes "policy"
 role_word role.First = codes "first"
 role_word role.Second = codes "second"
 role_word role.Proof = codes "proof"
@@ -42,7 +43,8 @@ fault_pieces fault.Usage =
     ∷ codes " | compare ORIGIN FIRST SECOND | check ORIGIN FIRST SECOND PROOF"
     ∷ codes " | drill N | embed EMBEDDER ORIGIN REQUIRED RESPONSE"
     ∷ codes " | tidy ORIGIN POLICY | learn ORIGIN REQUESTS | order ORIGIN LISTS"
-    ∷ codes " | why ORIGIN POLICY REQUESTS" ∷ codes " | differ ORIGIN FIRST SECOND\n" ∷ []
+    ∷ codes " | why ORIGIN POLICY REQUESTS"
+    ∷ codes " | differ ORIGIN FIRST SECOND | read ORIGIN POLICY\n" ∷ []
 fault_pieces fault.BadOrigin = codes "bad origin" ∷ [] ∷ [] ∷ [] ∷ [] ∷ codes "\n" ∷ []
 fault_pieces (fault.BadPolicy file line) =
     codes "bad policy: " ∷ role_word file ∷ role_number file ∷ codes " line " ∷ decimal line ∷ codes "\n" ∷ []

@@ -12,7 +12,7 @@ use Rattle.csp_run.specs.declared.fault.Fault.TheVariants.{Usage, BadOrigin}
 use Rattle.csp_run.specs.declared.fault.Role.{Role}
 use Rattle.csp_run.specs.declared.fault.Role.TheVariants as role
 use Rattle.csp_run.specs.declared.plan.Form.{Form}
-use Rattle.csp_run.specs.declared.plan.Form.TheVariants.{Judge, Report, Compare, Check, Drill, Embed, Tidy, Learn, Order, Why, Differ}
+use Rattle.csp_run.specs.declared.plan.Form.TheVariants.{Judge, Report, Compare, Check, Drill, Embed, Tidy, Learn, Order, Why, Differ, Read}
 
 -- how many pairs of sources a drill has: a decimal number from 1 to 200, without leading zeros
 unfoldable pub is_drill_number : List ℕ → Bool
@@ -37,6 +37,7 @@ form_of verb word =
     else if bytes_eq verb (codes "order") then Some Order
     else if bytes_eq verb (codes "why") then Some Why
     else if bytes_eq verb (codes "differ") then Some Differ
+    else if bytes_eq verb (codes "read") then Some Read
     else None
 
 -- the origin of the policies of a form's files, which that word is; a drill reads no file, and has another
@@ -58,6 +59,7 @@ takes Learn files = files == 1
 takes Order files = nat_le 2 files && nat_le files 16
 takes Why files = files == 2
 takes Differ files = files == 2
+takes Read files = files == 1
 
 -- what the file at a place, counted from 0, is where requests are judged
 abbrev pub judged_role : ℕ → Role
@@ -84,6 +86,7 @@ role_at Learn place = role.Requests
 role_at Order place = role.List (place + 1)
 role_at Why place = judged_role place
 role_at Differ place = compared_role place
+role_at Read place = role.Block
 
 -- a file that a command reads
 pub record File : Type 0 where

@@ -16,6 +16,8 @@ pub enum Role {
     Policy,
     /// A request file.
     Requests,
+    /// A header block of which each piece is told.
+    Block,
     /// The header block of the first of two lists.
     First,
     /// The header block of the second.

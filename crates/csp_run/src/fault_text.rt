@@ -17,6 +17,7 @@ fn role_word<'a>(role: Role) -> &'a str
     match role {
         Role::Policy => "policy",
         Role::Requests => "requests",
+        Role::Block => "policy",
         Role::First => "first",
         Role::Second => "second",
         Role::Proof => "proof",
@@ -87,7 +88,7 @@ fn pieces<'a>(fault: Fault, list: &'a mut Buffer, digits: &'a mut Buffer) -> [&'
             " | drill N | embed EMBEDDER ORIGIN REQUIRED RESPONSE",
             " | tidy ORIGIN POLICY | learn ORIGIN REQUESTS | order ORIGIN LISTS",
             " | why ORIGIN POLICY REQUESTS",
-            " | differ ORIGIN FIRST SECOND\n",
+            " | differ ORIGIN FIRST SECOND | read ORIGIN POLICY\n",
         ],
         Fault::BadOrigin => ["bad origin", "", "", "", "", "\n"],
         Fault::BadPolicy { file, line } => [

@@ -13,6 +13,7 @@ mod lists;
 mod output;
 mod plan;
 mod printed;
+mod read;
 mod report;
 mod top;
 mod why;

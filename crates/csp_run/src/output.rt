@@ -15,6 +15,7 @@ use crate::judge::judge;
 use crate::learn::learn;
 use crate::lists::order_lists;
 use crate::plan::{Form, Plan};
+use crate::read::read;
 use crate::report::report;
 use crate::why::explain;
 use csp_desk::Reporter;
@@ -107,6 +108,12 @@ pub(crate) fn output(
                 unreachable!()
             };
             Ok(Outcome::Text(differ(alloc, first, second)?))
+        }
+        (Form::Read, files) => {
+            let [Content::Response { block, .. }] = files else {
+                unreachable!()
+            };
+            Ok(Outcome::Text(read(alloc, block.as_slice())?))
         }
         (Form::Order, files) => Ok(Outcome::Text(order_lists(alloc, files)?)),
         _ => unreachable!(),

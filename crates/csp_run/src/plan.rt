@@ -35,6 +35,8 @@ pub enum Form {
     Why,
     /// Each directive under which the first of two policy files allows more than the second, with a check.
     Differ,
+    /// How a policy file is read, piece by piece.
+    Read,
 }
 
 /// A command, the origin of the policies of its files, and the names of these in order.
@@ -57,6 +59,7 @@ pub(crate) fn role_at(form: &Form, place: usize) -> Role
         Form::Tidy => Role::Policy,
         Form::Learn => Role::Requests,
         Form::Order => Role::List { number: place + 1 },
+        Form::Read => Role::Block,
     }
 }
 
@@ -203,6 +206,7 @@ fn form_of(verb: &str, word: &str) -> Option<Form>
         "order" => Some(Form::Order),
         "why" => Some(Form::Why),
         "differ" => Some(Form::Differ),
+        "read" => Some(Form::Read),
         _ => None,
     }
 }
@@ -220,7 +224,7 @@ fn takes(form: &Form, files: usize) -> bool
         | Form::Differ => files == 2,
         Form::Check => files == 3,
         Form::Drill { .. } => files == 0,
-        Form::Tidy | Form::Learn => files == 1,
+        Form::Tidy | Form::Learn | Form::Read => files == 1,
         Form::Order => 2 <= files && files <= 16,
     }
 }

@@ -16,10 +16,11 @@ use csp_run::{Status, exit_code, run};
 use std::alloc::Global;
 use std::fs;
 
-const FILES: [&str; 15] = [
+const FILES: [&str; 16] = [
     "examples.runs",
     "words.runs",
     "policies.runs",
+    "reading.runs",
     "urls.runs",
     "kinds.runs",
     "descriptions.runs",

@@ -16,6 +16,8 @@ mod model;
 #[cfg(test)]
 mod policies;
 #[cfg(test)]
+mod readings;
+#[cfg(test)]
 mod shapes;
 #[cfg(test)]
 mod sources;
