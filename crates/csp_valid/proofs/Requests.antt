@@ -1,5 +1,5 @@
 -- The URLs of described requests are valid.
-use Rattle.std.proofs.Common.{◌≡◌, ◌+◌, ◌-◌, ◌^◌, refl, sym, subst, ℕ, Bool, true, false, cond, List, [], ◌∷◌, ◌++◌, map, All, Option, Some, None, Result, Ok, Err}
+use Rattle.std.proofs.Common.{◌≡◌, ◌+◌, ◌-◌, ◌^◌, refl, subst, ℕ, Bool, true, false, cond, List, [], ◌∷◌, All, Option, Some, None, Result, Ok, Err}
 use Rattle.std.specs.Prelude.{IfSome, is_some, unwrap_or, codes}
 use Rattle.std.specs.Result.{result_ok}
 use Rattle.std.proofs.lemmas.List.Elements.{All-nil, All-cons, All-head, All-tail, All-append, All-map}
@@ -7,7 +7,7 @@ use Rattle.serde_json.specs.Data.{Data}
 use Rattle.serde_json.specs.Find.{as_str, as_object}
 use Rattle.csp_model.specs.Destinations.{destination_named, group_of}
 use Rattle.csp_model.specs.Names.{capability_named}
-use Rattle.csp_model.specs.Validity.{IsValidUrl}
+use Rattle.csp_model.specs.Validity.{IsValidUrl, is_piece}
 use Rattle.csp_model.specs.declared.check.Check.{Check}
 use Rattle.csp_model.specs.declared.check.Check.TheVariants as check
 use Rattle.csp_model.specs.declared.check.Digests.{Digests}
@@ -21,12 +21,8 @@ use Rattle.csp_request.specs.Members.{◌>>=◌, Form, array, by_form, demand, e
 use Rattle.csp_request.specs.Json.{present}
 use Rattle.csp_request.specs.Requests.{described_from, each_from, first_before, requests_in, requests_of}
 use Rattle.csp_request.specs.Urls.{chain_from, chain_of, chain_of_items, chain_of_url, chain_of_urls, hop, hops_from, located_url, response_hops, url_by_text, url_items, url_parts, web_url}
-use Rattle.csp_request.specs.declared.chain.Chain.{Chain}
-use Rattle.csp_request.specs.declared.chain.Hop.{Hop}
 use Rattle.csp_request.specs.declared.error.DescriptionError.{DescriptionError}
-use Rattle.csp_request.specs.declared.error.DescriptionError.TheVariants.{Misused}
 use Rattle.csp_request.specs.declared.error.RequestError.{RequestError}
-use Rattle.csp_request.specs.declared.fetch.FetchOptions.{FetchOptions}
 use Rattle.csp_request.specs.declared.field.Field.{Field}
 use Rattle.csp_request.specs.declared.field.Field.TheVariants as field
 use Rattle.csp_request.specs.declared.kind.Kind.{Kind}
@@ -37,7 +33,6 @@ use Rattle.csp_token.specs.Digests.{digests_of}
 use Rattle.csp_url.specs.Parts.{url_of_parts}
 use Rattle.csp_url.specs.Reading.{url_of}
 use Rattle.csp_url.specs.declared.strip.ShownUrl.{ShownUrl}
-use Rattle.csp_url.specs.declared.error.PartsError.{PartsError}
 use Rattle.csp_valid.specs.ValidUrls.{HasValidUrl, HaveValidUrls}
 use Rattle.csp_valid.proofs.Urls.{parts_url_valid, url_valid}
 
@@ -47,6 +42,9 @@ found_then : {A B : Type 0} (step : Result A DescriptionError) (next : A → Res
     → (step >>= next) ≡ Ok y → (x : A) × (step ≡ Ok x) × (next x ≡ Ok y)
 found_then (Ok x) next y is = (x, refl, is)
 found_then (Err e) next y is = absurd (cc is)
+
+found_same : {A : Type 0} (x y : A) → ◌≡◌ {A = Result A DescriptionError} (Ok x) (Ok y) → x ≡ y
+found_same x y is = cc is
 
 needed_found : {A : Type 0} (at : Field) (o : Option A) (x : A) → needed at o ≡ Ok x → o ≡ Some x
 needed_found at (Some y) x is = cc is
@@ -112,29 +110,26 @@ IsShown shown = IsValidUrl shown.url
 located_found : (texts : ReportTexts) → Finds IsShown (located_url texts)
 located_found texts at value shown is =
     let one = found_then (web_url at value) _ shown is in
-    let same : _ ≡ shown = cc one.2 in
+    let same = found_same _ shown one.2 in
     subst IsShown same (web_found at value one.0 one.1)
 
 -- Chains
 
-abbrev IsAtValid : Hop → Type 0
-IsAtValid at = IsValidUrl at.url
-
-from_valid : (redirects : ℕ) (urls : List Url) → All IsValidUrl urls → All IsAtValid (hops_from redirects urls)
-from_valid redirects [] all = All-nil IsAtValid
+from_valid : (redirects : ℕ) (urls : List Url) → All IsValidUrl urls → All (λ at. HasValidUrl (form_check at)) (hops_from redirects urls)
+from_valid redirects [] all = All-nil (λ at. HasValidUrl (form_check at))
 from_valid redirects (there ∷ urls) all =
-    All-cons IsAtValid (hop there redirects) (hops_from (redirects + 1) urls) (All-head IsValidUrl there urls all)
+    All-cons (λ at. HasValidUrl (form_check at)) (hop there redirects) (hops_from (redirects + 1) urls) (All-head IsValidUrl there urls all)
     (from_valid (redirects + 1) urls (All-tail IsValidUrl there urls all))
 
-chain_valid : (redirects : ℕ) (first : ShownUrl) (others : List Url) (chain : Chain) → IsShown first
-    → All IsValidUrl others → chain_from redirects first others ≡ chain → All IsAtValid chain.hops
+chain_valid : (redirects : ℕ) (first : ShownUrl) (others : List Url) (chain : _) → IsShown first
+    → All IsValidUrl others → chain_from redirects first others ≡ chain → All (λ at. HasValidUrl (form_check at)) chain.hops
 chain_valid redirects first others chain one all is =
-    subst (λ (c : Chain). All IsAtValid c.hops) is
-    (All-cons IsAtValid (hop first.url redirects) (hops_from (redirects + 1) others) one
+    subst (λ c. All (λ at. HasValidUrl (form_check at)) c.hops) is
+    (All-cons (λ at. HasValidUrl (form_check at)) (hop first.url redirects) (hops_from (redirects + 1) others) one
     (from_valid (redirects + 1) others all))
 
-url_chain : (texts : ReportTexts) (value : Data) (chain : Chain) → chain_of_url texts value ≡ Ok chain
-    → All IsAtValid chain.hops
+url_chain : (texts : ReportTexts) (value : Data) (chain : _) → chain_of_url texts value ≡ Ok chain
+    → All (λ at. HasValidUrl (form_check at)) chain.hops
 url_chain texts value chain is =
     let there = found_then (required (located_url texts) field.Url value) _ chain is in
     let count = found_then (or_else 0 (number (2 ^ 32 - 1)) field.Redirects value) _ chain there.2 in
@@ -142,8 +137,8 @@ url_chain texts value chain is =
     (required_finds IsShown (located_url texts) (located_found texts) field.Url value there.0 there.1)
     (All-nil IsValidUrl) (cc count.2)
 
-items_chain : (texts : ReportTexts) (items : List Data) (chain : Chain) → chain_of_items texts items ≡ Ok chain
-    → All IsAtValid chain.hops
+items_chain : (texts : ReportTexts) (items : List Data) (chain : _) → chain_of_items texts items ≡ Ok chain
+    → All (λ at. HasValidUrl (form_check at)) chain.hops
 items_chain texts [] chain is = absurd (cc is)
 items_chain texts (first ∷ others) chain is =
     let there = found_then (located_url texts field.Urls first) _ chain is in
@@ -151,20 +146,20 @@ items_chain texts (first ∷ others) chain is =
     chain_valid 0 there.0 urls.0 chain (located_found texts field.Urls first there.0 there.1)
     (each_finds IsValidUrl web_url web_found field.Urls others urls.0 urls.1) (cc urls.2)
 
-urls_chain : (texts : ReportTexts) (value : Data) (chain : Chain) → chain_of_urls texts value ≡ Ok chain
-    → All IsAtValid chain.hops
+urls_chain : (texts : ReportTexts) (value : Data) (chain : _) → chain_of_urls texts value ≡ Ok chain
+    → All (λ at. HasValidUrl (form_check at)) chain.hops
 urls_chain texts value chain is =
     let items = found_then (url_items value) _ chain is in
     let made = found_then (chain_of_items texts items.0) _ chain items.2 in
     let counted = found_then (demand field.Redirects (is_absent field.Redirects value)) _ chain made.2 in
     let same : made.0 ≡ chain = cc counted.2 in
-    subst (λ (c : Chain). All IsAtValid c.hops) same (items_chain texts items.0 made.0 made.1)
+    subst (λ c. All (λ at. HasValidUrl (form_check at)) c.hops) same (items_chain texts items.0 made.0 made.1)
 
-chain_found : (texts : ReportTexts) (value : Data) (chain : Chain) → chain_of texts value ≡ Ok chain
-    → All IsAtValid chain.hops
+chain_found : (texts : ReportTexts) (value : Data) (chain : _) → chain_of texts value ≡ Ok chain
+    → All (λ at. HasValidUrl (form_check at)) chain.hops
 chain_found texts value chain is = by (is_absent field.Urls value) is where
   by : (absent : Bool) → cond absent (chain_of_url texts value) (chain_of_urls texts value) ≡ Ok chain
-      → All IsAtValid chain.hops
+      → All (λ at. HasValidUrl (form_check at)) chain.hops
   by true e = url_chain texts value chain e
   by false e = urls_chain texts value chain e
 
@@ -173,15 +168,15 @@ chain_found texts value chain is = by (is_absent field.Urls value) is where
 abbrev Outcome : Type 0
 Outcome = Result Described DescriptionError
 
-fetched : (group : Option Group) (options : FetchOptions) (hops : List Hop) → All IsAtValid hops
+fetched : (group : Option Group) (options : _) (hops : List _) → All (λ at. HasValidUrl (form_check at)) hops
     → All HasValidUrl (fetch_checks group options hops)
 fetched None options hops all = All-nil HasValidUrl
 fetched (Some group) options hops all = All-map HasValidUrl (fetch_check group options) hops all
 
-answered : (hops : List Hop) (response : Option Url) → IfSome response IsValidUrl
-    → All IsAtValid (response_hops hops response)
-answered hops None all = All-nil IsAtValid
-answered hops (Some there) all = All-cons IsAtValid _ [] all (All-nil IsAtValid)
+answered : (hops : List _) (response : Option Url) → IfSome response IsValidUrl
+    → All (λ at. HasValidUrl (form_check at)) (response_hops hops response)
+answered hops None all = All-nil (λ at. HasValidUrl (form_check at))
+answered hops (Some there) all = All-cons (λ at. HasValidUrl (form_check at)) _ [] all (All-nil (λ at. HasValidUrl (form_check at)))
 
 of_fetch : (texts : ReportTexts) (value : Data) (d : Described) → fetch texts value ≡ Ok d → HaveValidUrls d
 of_fetch texts value d is =
@@ -189,10 +184,10 @@ of_fetch texts value d is =
     let chain = found_then (chain_of texts value) _ d to.2 in
     let response = found_then (optional web_url field.Response value) _ d chain.2 in
     let options = found_then (fetch_options value) _ d response.2 in
-    let same : _ ≡ d = cc options.2 in
+    let same = found_same _ d options.2 in
     subst HaveValidUrls same
     (fetched (group_of to.0) options.0 _
-    (All-append IsAtValid chain.0.hops (response_hops chain.0.hops response.0)
+    (All-append (λ at. HasValidUrl (form_check at)) chain.0.hops (response_hops chain.0.hops response.0)
     (chain_found texts value chain.0 chain.1)
     (answered chain.0.hops response.0
     (optional_finds IsValidUrl web_url web_found field.Response (present (field_text field.Response) value) response.0 response.1))))
@@ -200,7 +195,7 @@ of_fetch texts value d is =
 of_base : (texts : ReportTexts) (value : Data) (d : Described) → base texts value ≡ Ok d → HaveValidUrls d
 of_base texts value d is =
     let there = found_then (required web_url field.Url value) _ d is in
-    let same : _ ≡ d = cc there.2 in
+    let same = found_same _ d there.2 in
     subst HaveValidUrls same
     (All-cons HasValidUrl (check.Base there.0) []
     (required_finds IsValidUrl web_url web_found field.Url value there.0 there.1) (All-nil HasValidUrl))
@@ -208,10 +203,11 @@ of_base texts value d is =
 of_form : (texts : ReportTexts) (value : Data) (d : Described) → form texts value ≡ Ok d → HaveValidUrls d
 of_form texts value d is =
     let chain = found_then (chain_of texts value) _ d is in
-    let same : _ ≡ d = cc chain.2 in
+    let same = found_same _ d chain.2 in
     subst HaveValidUrls same (All-map HasValidUrl form_check chain.0.hops (chain_found texts value chain.0 chain.1))
 
 origin_valid : (there : Url) → IsValidUrl there → IsValidUrl (origin_url there)
+unfolding is_piece
 origin_valid (url.Plain scheme) valid = valid
 origin_valid (url.Hosted scheme host port path) valid = (valid.0, valid.1, (λ none. absurd (cc none)), refl)
 
@@ -230,7 +226,7 @@ of_ancestors texts value d is =
     let items = found_then (required array field.Ancestors value) _ d is in
     let checks = found_then (each ancestor field.Ancestors items.0) _ d items.2 in
     let page = found_then (optional (located_url texts) field.Page value) _ d checks.2 in
-    let same : _ ≡ d = cc page.2 in
+    let same = found_same _ d page.2 in
     subst HaveValidUrls same (each_finds HasValidUrl ancestor ancestor_found field.Ancestors items.0 checks.0 checks.1)
 
 -- a request of one check without a URL
