@@ -99,7 +99,7 @@ IsPart word.Hash = ⊥
 IsPart word.UnsafeHashes = ⊥
 
 is_part : (w : Word) (there : Url) (s : Source) (self : Origin) (redirected : Bool)
-    → some_matches (changed w there s) self there redirected ≡ true → IsPart w
+    → some_matches (changed w self there s) self there redirected ≡ true → IsPart w
 is_part word.Scheme there s self redirected match = tt
 is_part word.Port there s self redirected match = tt
 is_part word.Path there s self redirected match = tt
@@ -110,43 +110,43 @@ is_part word.Hash there s self redirected match = false≢true match
 is_part word.UnsafeHashes there s self redirected match = false≢true match
 
 -- where a part is told, the list is the one with it changed
-part_mended : (w : Word) (there : Option Url) (i : ℕ) (sources : List Source) → IsPart w
-    → mended w there i sources ≡ change_at (fitted w there) i sources
-part_mended word.Scheme there i sources part = refl
-part_mended word.Port there i sources part = refl
-part_mended word.Path there i sources part = refl
-part_mended word.Suffix there i sources part = refl
-part_mended word.StrictDynamic there i sources part = absurd part
-part_mended word.Nonce there i sources part = absurd part
-part_mended word.Hash there i sources part = absurd part
-part_mended word.UnsafeHashes there i sources part = absurd part
+part_mended : (self : Origin) (w : Word) (there : Option Url) (i : ℕ) (sources : List Source) → IsPart w
+    → mended self w there i sources ≡ change_at (fitted self w there) i sources
+part_mended self word.Scheme there i sources part = refl
+part_mended self word.Port there i sources part = refl
+part_mended self word.Path there i sources part = refl
+part_mended self word.Suffix there i sources part = refl
+part_mended self word.StrictDynamic there i sources part = absurd part
+part_mended self word.Nonce there i sources part = absurd part
+part_mended self word.Hash there i sources part = absurd part
+part_mended self word.UnsafeHashes there i sources part = absurd part
 
 module _ (self : Origin) (there : Url) (redirected : Bool) (sources : List Source) (i : ℕ) (s : Source) (w : Word) where
   abbrev now_matches : Source → Bool
   now_matches x = matches x self there redirected
 
-  wrong_part_matches : wrong_part self there redirected s ≡ Some w → some_matches (changed w there s) self there redirected ≡ true
-  wrong_part_matches found = find_passes (λ (part : Word). some_matches (changed part there s) self there redirected) parts w found
+  wrong_part_matches : wrong_part self there redirected s ≡ Some w → some_matches (changed w self there s) self there redirected ≡ true
+  wrong_part_matches found = find_passes (λ (part : Word). some_matches (changed part self there s) self there redirected) parts w found
 
   -- the list with the part changed matches
   part_matches : slice_get sources i ≡ Some s → wrong_part self there redirected s ≡ Some w
-      → list_matches (mended w (Some there) i sources) self there redirected ≡ true
+      → list_matches (mended self w (Some there) i sources) self there redirected ≡ true
   part_matches here found =
       let match = wrong_part_matches found in
       subst (λ (xs : List Source). list_matches xs self there redirected ≡ true)
-      (sym (part_mended w (Some there) i sources (is_part w there s self redirected match)))
-      (any_changed now_matches (fitted w (Some there)) sources i s here (fitted_matches (changed w there s) s self there redirected match))
+      (sym (part_mended self w (Some there) i sources (is_part w there s self redirected match)))
+      (any_changed now_matches (fitted self w (Some there)) sources i s here (fitted_matches (changed w self there s) s self there redirected match))
 
   -- and has no 'strict-dynamic' where there was none
   part_counts : slice_get sources i ≡ Some s → wrong_part self there redirected s ≡ Some w → has_keyword keyword.StrictDynamic sources ≡ false
-      → has_keyword keyword.StrictDynamic (mended w (Some there) i sources) ≡ false
+      → has_keyword keyword.StrictDynamic (mended self w (Some there) i sources) ≡ false
   part_counts here found none =
       let match = wrong_part_matches found in
-      let fits = fitted_matches (changed w there s) s self there redirected match in
+      let fits = fitted_matches (changed w self there s) s self there redirected match in
       subst (λ (xs : List Source). has_keyword keyword.StrictDynamic xs ≡ false)
-      (sym (part_mended w (Some there) i sources (is_part w there s self redirected match)))
-      (none_changed (is_keyword keyword.StrictDynamic) (fitted w (Some there)) sources i s here
-      (matches_no_keyword (fitted w (Some there) s) self there redirected fits) none)
+      (sym (part_mended self w (Some there) i sources (is_part w there s self redirected match)))
+      (none_changed (is_keyword keyword.StrictDynamic) (fitted self w (Some there)) sources i s here
+      (matches_no_keyword (fitted self w (Some there) s) self there redirected fits) none)
 
 -- Fetches
 
@@ -165,12 +165,12 @@ module _ (nonce : List ℕ) (integrity : List Hash) (parser_inserted : Bool) (se
     (sources : List Source) (i : ℕ) (s : Source) (w : Word) (here : slice_get sources i ≡ Some s) where
   abbrev Mends : FetchRule → Word → Type 0
   Mends which x =
-      sources_allow which (mended x (Some there) i sources) nonce integrity parser_inserted
-      (list_matches (mended x (Some there) i sources) self there redirected) ≡ true
+      sources_allow which (mended self x (Some there) i sources) nonce integrity parser_inserted
+      (list_matches (mended self x (Some there) i sources) self there redirected) ≡ true
 
   script_part : has_keyword keyword.StrictDynamic sources ≡ false → wrong_part self there redirected s ≡ Some w → Mends fetch.Script w
   script_part none found =
-      script_allows (mended w (Some there) i sources) nonce integrity parser_inserted _
+      script_allows (mended self w (Some there) i sources) nonce integrity parser_inserted _
       (part_counts self there redirected sources i s w here found none) (part_matches self there redirected sources i s w here found)
 
   script_dynamic : matches s self there redirected ≡ true → Mends fetch.Script word.StrictDynamic
@@ -194,7 +194,7 @@ module _ (nonce : List ℕ) (integrity : List Hash) (parser_inserted : Bool) (se
   fetch_mends : (which : FetchRule) → near_source (displaces_sources which sources) self there redirected s ≡ Some w → Mends which w
   fetch_mends fetch.Script found = script_mends (has_keyword keyword.StrictDynamic sources) refl found
   fetch_mends fetch.Style found =
-      or_right (nonce_matches nonce (mended w (Some there) i sources)) _ (part_matches self there redirected sources i s w here found)
+      or_right (nonce_matches nonce (mended self w (Some there) i sources)) _ (part_matches self there redirected sources i s w here found)
   fetch_mends fetch.List found = part_matches self there redirected sources i s w here found
 
 -- Inline code and style
@@ -227,10 +227,10 @@ abbrev displaced_by : Bool → Bool → Bool → Option Word
 displaced_by nonces hashes dynamic =
     cond nonces (Some word.Nonce) (cond hashes (Some word.Hash) (cond dynamic (Some word.StrictDynamic) None))
 
-module _ (kind : InlineKind) (nonce : List ℕ) (digests : Digests) (there : Option Url) (sources : List Source) (i : ℕ) (s : Source)
+module _ (self : Origin) (kind : InlineKind) (nonce : List ℕ) (digests : Digests) (there : Option Url) (sources : List Source) (i : ℕ) (s : Source)
     (here : slice_get sources i ≡ Some s) where
   abbrev InlineMends : Word → Type 0
-  InlineMends w = sources_allow_inline kind nonce digests (mended w there i sources) ≡ true
+  InlineMends w = sources_allow_inline kind nonce digests (mended self w there i sources) ≡ true
 
   abbrev kept : Source → Bool
   kept x = not (is_nonce_or_hash x || is_dynamic x)
@@ -297,14 +297,14 @@ abbrev near_at : ℕ → Word → Near
 near_at i w = record { token = i; word = w }
 
 abbrev Mended : Origin → Check → Governor → Near → Type 0
-Mended self asked g n = test self asked (record { name = g.name; directive = mended_directive asked n g.directive }) ≡ true
+Mended self asked g n = test self asked (record { name = g.name; directive = mended_directive self asked n g.directive }) ≡ true
 
 word_mends : (self : Origin) (asked : Check) (g : Governor) (i : ℕ) (s : Source) (w : Word) → slice_get g.directive.sources i ≡ Some s
     → near_word self asked (displacement asked g.name g.directive.sources) s ≡ Some w → Mended self asked g (near_at i w)
 word_mends self (check.Fetch group there redirects nonce integrity parser_inserted) g i s w here found =
     fetch_mends nonce integrity parser_inserted self there (is_redirected redirects) g.directive.sources i s w here (fetch_rule group g.name) found
 word_mends self (check.Inline kind nonce digests) g i s w here found =
-    inline_mends kind nonce digests None g.directive.sources i s here w found
+    inline_mends self kind nonce digests None g.directive.sources i s here w found
 word_mends self check.Eval g i s w here found = none_is w found
 word_mends self check.Wasm g i s w here found = none_is w found
 word_mends self (check.Base there) g i s w here found = part_matches self there false g.directive.sources i s w here found
@@ -341,14 +341,14 @@ near_are P word_of n (s ∷ sources) each =
     (near_are P word_of (n + 1) sources (λ k t w here is. subst (λ (m : ℕ). P (near_at m w)) (sym (next_place n k)) (each (suc k) t w here is)))
 
 abbrev Allowed : Policy → Check → Name → Near → Type 0
-Allowed p asked name n = allows (with_changed name (mended_directive asked n) p) asked ≡ true
+Allowed p asked name n = allows (with_changed name (mended_directive p.origin asked n) p) asked ≡ true
 
 near_mended : (p : Policy) (asked : Check) (g : Governor) → acting p asked ≡ Some g
     → All (Allowed p asked g.name) (near_from (near_word p.origin asked (displacement asked g.name g.directive.sources)) 0 g.directive.sources)
 near_mended p asked g acts =
     near_are (Allowed p asked g.name) (near_word p.origin asked (displacement asked g.name g.directive.sources)) 0 g.directive.sources
     (λ k s w here is. subst (λ (m : ℕ). Allowed p asked g.name (near_at m w)) (sym (nothing_before k))
-    (allows_changed p asked g (mended_directive asked (near_at k w)) (λ d. refl) acts (word_mends p.origin asked g k s w here is)))
+    (allows_changed p asked g (mended_directive p.origin asked (near_at k w)) (λ d. refl) acts (word_mends p.origin asked g k s w here is)))
 
 told_by : (p : Policy) (asked : Check) (g : Governor) (o : Option Allowance) (name : Name) (near : List Near) → acting p asked ≡ Some g
     → governed_reason p asked (displacement asked g.name g.directive.sources) g o ≡ Blocks name near → All (Allowed p asked name) near

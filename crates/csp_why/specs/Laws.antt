@@ -15,6 +15,7 @@ use Rattle.csp_model.specs.declared.policy.Policy.{Policy}
 use Rattle.csp_model.specs.declared.source.Keyword.TheVariants as keyword
 use Rattle.csp_model.specs.declared.source.Source.{Source}
 use Rattle.csp_model.specs.declared.source.Source.TheVariants as source
+use Rattle.csp_model.specs.declared.url.Origin.{Origin}
 use Rattle.csp_model.specs.declared.url.Url.{Url}
 use Rattle.csp_model.specs.declared.url.Url.TheVariants as url
 use Rattle.csp_why.specs.Missing.{port_of}
@@ -70,27 +71,27 @@ change_at f zero (x ∷ xs) = f x ∷ xs
 change_at f (suc place) (x ∷ xs) = x ∷ change_at f place xs
 
 -- the source with the part changed so that it fits the check's URL
-abbrev pub fitted : Word → Option Url → Source → Source
-fitted which (Some there) s = unwrap_or (changed which there s) s
-fitted which None s = s
+abbrev pub fitted : Origin → Word → Option Url → Source → Source
+fitted self which (Some there) s = unwrap_or (changed which self there s) s
+fitted self which None s = s
 
 abbrev pub is_dynamic : Source → Bool
 is_dynamic s = is_keyword keyword.StrictDynamic s
 
 -- the sources without what the word tells of: what takes the token's place is gone, or 'unsafe-hashes' is
 -- there, or the token has the part changed so that it fits
-abbrev pub mended : Word → Option Url → ℕ → List Source → List Source
-mended word.StrictDynamic there token sources = filter (λ s. not (is_dynamic s)) sources
-mended word.Nonce there token sources = filter (λ s. not (is_nonce_or_hash s || is_dynamic s)) sources
-mended word.Hash there token sources = filter (λ s. not (is_nonce_or_hash s || is_dynamic s)) sources
-mended word.UnsafeHashes there token sources = source.Word keyword.UnsafeHashes ∷ sources
-mended which there token sources = change_at (fitted which there) token sources
+abbrev pub mended : Origin → Word → Option Url → ℕ → List Source → List Source
+mended self word.StrictDynamic there token sources = filter (λ s. not (is_dynamic s)) sources
+mended self word.Nonce there token sources = filter (λ s. not (is_nonce_or_hash s || is_dynamic s)) sources
+mended self word.Hash there token sources = filter (λ s. not (is_nonce_or_hash s || is_dynamic s)) sources
+mended self word.UnsafeHashes there token sources = source.Word keyword.UnsafeHashes ∷ sources
+mended self which there token sources = change_at (fitted self which there) token sources
 
-abbrev pub mended_directive : Check → Near → Directive → Directive
-mended_directive asked n d = record {
+abbrev pub mended_directive : Origin → Check → Near → Directive → Directive
+mended_directive self asked n d = record {
   name = d.name;
   tokens = d.tokens;
-  sources = mended n.word (checked_url asked) n.token d.sources;
+  sources = mended self n.word (checked_url asked) n.token d.sources;
 }
 
 -- A source added
