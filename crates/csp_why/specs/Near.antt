@@ -5,12 +5,18 @@ use Rattle.std.specs.Option.{option_map}
 use Rattle.std.specs.Str.{bytes_eq}
 use Rattle.csp_model.specs.DecideMatching.{matches}
 use Rattle.csp_model.specs.DecideTokens.{is_keyword, is_hash_of}
-use Rattle.csp_model.specs.Fetch.{is_redirected}
+use Rattle.csp_model.specs.Fetch.{fetch_rule, is_redirected}
+use Rattle.csp_model.specs.Governing.{Governor}
 use Rattle.csp_model.specs.Paths.{host_text}
 use Rattle.csp_model.specs.Schemes.{scheme_text}
+use Rattle.csp_model.specs.declared.check.Capability.TheVariants as capability
 use Rattle.csp_model.specs.declared.check.Check.{Check}
 use Rattle.csp_model.specs.declared.check.Check.TheVariants as check
 use Rattle.csp_model.specs.declared.check.Digests.{Digests}
+use Rattle.csp_model.specs.declared.check.FetchRule.{FetchRule}
+use Rattle.csp_model.specs.declared.check.FetchRule.TheVariants as fetch
+use Rattle.csp_model.specs.declared.name.Name.{Name}
+use Rattle.csp_model.specs.declared.source.Hash.{Hash}
 use Rattle.csp_model.specs.declared.source.HostPart.{HostPart}
 use Rattle.csp_model.specs.declared.source.HostPart.TheVariants as host
 use Rattle.csp_model.specs.declared.source.Keyword.TheVariants as keyword
@@ -25,6 +31,7 @@ use Rattle.csp_model.specs.declared.url.Scheme.{Scheme}
 use Rattle.csp_model.specs.declared.url.Scheme.TheVariants.{Ws, Wss}
 use Rattle.csp_model.specs.declared.url.Url.{Url}
 use Rattle.csp_model.specs.declared.url.Url.TheVariants as url
+use Rattle.csp_why.specs.Allowances.{is_some_hash, token_grants}
 use Rattle.csp_why.specs.Missing.{port_of}
 use Rattle.csp_why.specs.declared.reason.Near.{Near}
 use Rattle.csp_why.specs.declared.reason.Word.{Word}
@@ -114,20 +121,38 @@ near_inline displaced digests s =
     else if is_hash_of digests s then Some word.UnsafeHashes
     else None
 
--- what keeps a token from allowing a check that its directive blocks
-abbrev pub near_word : Origin → Check → Option Word → Source → Option Word
-near_word self (check.Fetch group there redirects nonce integrity parser_inserted) displaced s =
-    near_source displaced self there (is_redirected redirects) s
-near_word self (check.Inline kind nonce digests) displaced s = near_inline displaced digests s
-near_word self (check.Base there) displaced s = near_source displaced self there false s
-near_word self (check.Form there redirects) displaced s =
-    near_source displaced self there (is_redirected redirects) s
-near_word self (check.Ancestor there) displaced s = near_source displaced self there false s
-near_word self asked displaced s = None
+-- a hash of a script's metadata
+abbrev pub is_part_of_metadata : FetchRule → List Hash → Source → Bool
+is_part_of_metadata fetch.Script integrity s = is_some_hash integrity s
+is_part_of_metadata which integrity s = false
 
--- the tokens with a word, where the first has this number
-abbrev pub near_from : (Source → Option Word) → ℕ → List Source → List Near
+-- what keeps a token of a directive of this name from allowing a check that the directive blocks
+abbrev pub near_word : Origin → Name → Check → Option Word → Source → Option Word
+near_word self name (check.Fetch group there redirects nonce integrity parser_inserted) displaced s =
+    if is_part_of_metadata (fetch_rule group name) integrity s then Some word.Integrity
+    else near_source displaced self there (is_redirected redirects) s
+near_word self name (check.Inline kind nonce digests) displaced s = near_inline displaced digests s
+near_word self name (check.Base there) displaced s = near_source displaced self there false s
+near_word self name (check.Form there redirects) displaced s =
+    near_source displaced self there (is_redirected redirects) s
+near_word self name (check.Ancestor there) displaced s = near_source displaced self there false s
+near_word self name asked displaced s = None
+
+-- a sandbox's token that a worker needs, and the other one, which is missing
+abbrev pub near_grant : List ℕ → Option Word
+near_grant token =
+    if token_grants capability.Scripts token then Some word.AllowSameOrigin
+    else if token_grants capability.SameOrigin token then Some word.AllowScripts
+    else None
+
+-- the items with a word, where the first has this number
+abbrev pub near_from : {A : Type 0} → (A → Option Word) → ℕ → List A → List Near
 near_from word_of number [] = []
-near_from word_of number (s ∷ sources) =
-    cons_option (option_map (λ w. record { token = number; word = w }) (word_of s))
-    (near_from word_of (number + 1) sources)
+near_from word_of number (x ∷ items) =
+    cons_option (option_map (λ w. record { token = number; word = w }) (word_of x))
+    (near_from word_of (number + 1) items)
+
+-- the tokens of what governs that come near
+abbrev pub near_of : Origin → Check → Option Word → Governor → List Near
+near_of self check.WorkerStart displaced g = near_from near_grant 0 g.directive.tokens
+near_of self asked displaced g = near_from (near_word self g.name asked displaced) 0 g.directive.sources

@@ -1,49 +1,104 @@
 //! The tokens of a directive that nearly allow a check that it blocks.
 ghost use Rattle.std.specs.Prelude.{◌≡◌, IfOk};
+ghost use Rattle.csp_match.specs.Shown.{shown};
 ghost use Rattle.csp_why.specs.Missing.{port_of as port_part_of};
 ghost use Rattle.csp_why.specs.Near as spec;
 
+use crate::allowance::is_some_hash;
 use crate::reason::{Near, Word};
-use csp_match::source_matches;
+use csp_match::{Governor, source_matches};
 use csp_model::{
-    Check, Digests, Duplicate, Host, HostPart, Keyword, List, Memory, Origin, PathPart, PortPart,
-    Scheme, Source, Text, Url,
+    Capability, Check, Digests, Duplicate, FetchRule, Hash, Host, HostPart, Keyword, List, Memory,
+    Name, Origin, PathPart, PortPart, Scheme, Source, Text, Url,
 };
+use csp_nav::token_grants;
 use csp_token::{is_hash_of, is_keyword};
 use std::alloc::Global;
 
-// The tokens of a list that nearly allow a check, in order, where `displaced` is what takes the place of
+// The tokens of what governs that nearly allow a check, in order, where `displaced` is what takes the place of
 // others.
 pub(crate) fn near_tokens(
     alloc: Global,
     origin: &Origin,
     check: &Check,
     displaced: Option<Word>,
-    sources: &List<Source>,
+    found: &Governor<'_>,
 ) -> Result<List<Near>, Memory>
-    ensures { IfOk result (λ made.
-        made ≡ spec.near_from (spec.near_word origin.now check.now displaced) 0 sources.now) }
+    ensures { IfOk result (λ made. made ≡ spec.near_of origin.now check.now displaced (shown found.now)) }
+{
+    match check {
+        Check::WorkerStart => near_grants(alloc, &found.directive.tokens),
+        _ => {
+            let sources = &found.directive.sources;
+            near_sources(alloc, origin, found.name, check, displaced, sources)
+        }
+    }
+}
+
+// The tokens of a sandbox beside which a worker needs another one.
+fn near_grants(alloc: Global, tokens: &List<Text>) -> Result<List<Near>, Memory>
+    ensures { IfOk result (λ made. made ≡ spec.near_from spec.near_grant 0 tokens.now) }
 {
     let mut near = List::new(alloc);
-    for (token, source) in sources.as_slice().iter().enumerate() {
-        if let Some(word) = near_word(alloc, origin, check, displaced, source)? {
+    for (token, text) in tokens.as_slice().iter().enumerate() {
+        if let Some(word) = near_grant(text.as_str()) {
             near.push(Near { token, word })?;
         }
     }
     Ok(near)
 }
 
-// What keeps a token from allowing a check, if it is one thing.
+fn near_grant(token: &str) -> Option<Word>
+    ensures { result ≡ spec.near_grant token.now }
+{
+    if token_grants(token, Capability::Scripts) {
+        Some(Word::AllowSameOrigin)
+    } else if token_grants(token, Capability::SameOrigin) {
+        Some(Word::AllowScripts)
+    } else {
+        None
+    }
+}
+
+// The tokens of a list that nearly allow a check.
+fn near_sources(
+    alloc: Global,
+    origin: &Origin,
+    name: Name,
+    check: &Check,
+    displaced: Option<Word>,
+    sources: &List<Source>,
+) -> Result<List<Near>, Memory>
+    ensures { IfOk result (λ made.
+        made ≡ spec.near_from (spec.near_word origin.now name check.now displaced) 0 sources.now) }
+{
+    let mut near = List::new(alloc);
+    for (token, source) in sources.as_slice().iter().enumerate() {
+        if let Some(word) = near_word(alloc, origin, name, check, displaced, source)? {
+            near.push(Near { token, word })?;
+        }
+    }
+    Ok(near)
+}
+
+// What keeps a token of a directive of this name from allowing a check, if it is one thing.
 fn near_word(
     alloc: Global,
     origin: &Origin,
+    name: Name,
     check: &Check,
     displaced: Option<Word>,
     source: &Source,
 ) -> Result<Option<Word>, Memory>
-    ensures { IfOk result (λ made. made ≡ spec.near_word origin.now check.now displaced source.now) }
+    ensures { IfOk result (λ made.
+        made ≡ spec.near_word origin.now name check.now displaced source.now) }
 {
     match check {
+        Check::Fetch {
+            group,
+            integrity,
+            ..
+        } if is_part_of_metadata(group.rule(name), integrity, source) => Ok(Some(Word::Integrity)),
         Check::Fetch { url, redirects, .. } | Check::Form { url, redirects } => {
             near_source(alloc, displaced, origin, url, *redirects != 0, source)
         }
@@ -53,6 +108,13 @@ fn near_word(
         Check::Inline { digests, .. } => Ok(near_inline(displaced, digests, source)),
         _ => Ok(None),
     }
+}
+
+// Whether a script's metadata has the hash that a source is.
+fn is_part_of_metadata(rule: FetchRule, integrity: &List<Hash>, source: &Source) -> bool
+    ensures { result ≡ spec.is_part_of_metadata rule integrity.now source.now }
+{
+    rule == FetchRule::Script && is_some_hash(integrity, source)
 }
 
 // What takes the place of a source expression that matches, or the one part by which another doesn't
