@@ -38,7 +38,7 @@ fault_not_done : (f : Fault) → is_done (status_of f) ≡ false
 fault_not_done fault.Usage = refl
 fault_not_done f = refl
 
-not_by_fault : (f : Fault) (end : End) (s : Status) → is_done s ≡ true → end ≡ Err f → end_status end ≡ s → ⊥
+pub not_by_fault : (f : Fault) (end : End) (s : Status) → is_done s ≡ true → end ≡ Err f → end_status end ≡ s → ⊥
 not_by_fault f end s done is same =
     false≢true (sym (fault_not_done f) ∙ ap (λ (e : End). is_done (end_status e)) (sym is) ∙ ap is_done same ∙ done)
 
@@ -47,7 +47,7 @@ not_by_fault f end s done is same =
 enough : (end : End) → end_status end ≢ status.NoMemory → ◌≢◌ {A = End} end (Err fault.Memory)
 enough end other same = other (ap end_status same)
 
-output_on : (w : World) (desk : Desk) (words : List (List ℕ)) (plan : Plan) (end : End) (form : Form)
+pub output_on : (w : World) (desk : Desk) (words : List (List ℕ)) (plan : Plan) (end : End) (form : Form)
     → plan_of words ≡ Ok plan → plan.form ≡ form → IsDue w desk words end → end_status end ≢ status.NoMemory
     → IsOutput form plan.origin (found_in plan.origin plan.files w.log) desk end
 output_on w desk words plan end form planned is due other =
@@ -221,7 +221,7 @@ RefusesSome list requests = Any (λ (d : Described). allows_all list d.checks �
 abbrev pub AllowsEach : PolicyList → List Described → Type 0
 AllowsEach list requests = All (λ (d : Described). allows_all list d.checks ≡ true) requests
 
-found_says : BlocksWhatIsRefused → SaysOfRequests status.Found RefusesSome
+pub found_says : BlocksWhatIsRefused → SaysOfRequests status.Found RefusesSome
 found_says law list requests =
     let any = some_blocked law list requests in
     let so = found_status (list_any (λ (v : Verdict). v.blocked) (map (verdict_of list) (map (λ (d : Described). d.checks) requests))) in (
@@ -231,7 +231,7 @@ found_says law list requests =
       λ some. so.1 (any ∙ list_any-from_Any (refuses list) requests (some.0, some.1, some.2, some.3, ap not some.4)),
     )
 
-clean_says : BlocksWhatIsRefused → SaysOfRequests status.Clean AllowsEach
+pub clean_says : BlocksWhatIsRefused → SaysOfRequests status.Clean AllowsEach
 clean_says law list requests =
     let any = some_blocked law list requests in
     let so = clean_status (list_any (λ (v : Verdict). v.blocked) (map (verdict_of list) (map (λ (d : Described). d.checks) requests))) in (

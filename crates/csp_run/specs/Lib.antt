@@ -1,3 +1,4 @@
+pub mod Commands
 pub mod Desk
 pub mod Due
 pub mod Files

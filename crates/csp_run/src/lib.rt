@@ -2,6 +2,7 @@
 #![tactic(auto)]
 
 mod answer;
+pub mod command_laws;
 mod fault;
 mod fault_text;
 mod files;

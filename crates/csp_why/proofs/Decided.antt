@@ -31,7 +31,7 @@ use Rattle.csp_model.specs.declared.url.Origin.{Origin}
 use Rattle.csp_model.specs.declared.url.Url.{Url}
 use Rattle.csp_why.specs.Allowances.{only_where, source_token, keyword_token, nonce_token, is_some_hash, integrity_token, digest_token, token_grants, grant_token, is_for_worker, worker_token, by, fetch_allowances, inline_allowances, allowances}
 use Rattle.csp_why.specs.Displacement.{is_nonce_source, is_hash_source, displaces_sources, displaces_unsafe_inline, displacement}
-use Rattle.csp_why.specs.Near.{near_word, near_from}
+use Rattle.csp_why.specs.Near.{near_of}
 use Rattle.csp_why.specs.Reasons.{acting, governed_reason, reason_by, reason, is_allowing}
 use Rattle.csp_why.specs.declared.reason.Allowance.{Allowance}
 use Rattle.csp_why.specs.declared.reason.Near.{Near}
@@ -299,8 +299,8 @@ told_allows p asked g displaced counts found a acts is_displaced counted allowed
 pub told_blocks : (p : Policy) (asked : Check) (g : Governor) (displaced : Option Word) (counts : Bool) (found : Option Allowance) (near : List Near)
     → acting p asked ≡ Some g → displaced ≡ displacement asked g.name g.directive.sources → is_some displaced ≡ not counts
     → found ≡ first_of (allowances p.origin asked counts g) → found ≡ None
-    → near ≡ near_from (near_word p.origin asked displaced) 0 g.directive.sources → Blocks g.name near ≡ reason p asked
+    → near ≡ near_of p.origin asked displaced g → Blocks g.name near ≡ reason p asked
 told_blocks p asked g displaced counts found near acts is_displaced counted allowed is these =
     ap (λ (l : List Near). Blocks g.name l)
-    (subst (λ (x : Option Word). near ≡ near_from (near_word p.origin asked x) 0 g.directive.sources) is_displaced these)
+    (subst (λ (x : Option Word). near ≡ near_of p.origin asked x g) is_displaced these)
     ∙ sym (reason_at p asked g None acts (first_by p asked g displaced counts found None is_displaced counted allowed is))

@@ -32,7 +32,7 @@ use Rattle.csp_why.specs.Allowances.{allowances}
 use Rattle.csp_why.specs.Displacement.{displaces_sources, displacement}
 use Rattle.csp_why.specs.Laws.{IsAt, moved, with_changed, with_source}
 use Rattle.csp_why.specs.Missing.{can_be_named, missing_by, missing_from, missing_url, named_url, port_of, source_of}
-use Rattle.csp_why.specs.Near.{near_from, near_word}
+use Rattle.csp_why.specs.Near.{near_of}
 use Rattle.csp_why.specs.Reasons.{acting, governed_reason, reason, reason_by}
 use Rattle.csp_why.specs.declared.reason.Allowance.{Allowance}
 use Rattle.csp_why.specs.declared.reason.Near.{Near}
@@ -236,7 +236,7 @@ acts_by p check.WorkerStart there has = absurd (let h : None ≡ Some there = ha
 blocks_named : (p : Policy) (asked : Check) (g : Governor) (displaced : Option Word) (o : Option Allowance) (name : Name) (near : List Near)
     → governed_reason p asked displaced g o ≡ Blocks name near → g.name ≡ name
 blocks_named p asked g displaced None name near is =
-    let these : List Near = near_from (near_word p.origin asked displaced) 0 g.directive.sources in
+    let these : List Near = near_of p.origin asked displaced g in
     let h : Blocks g.name these ≡ Blocks name near = is in
     cc
 blocks_named p asked g displaced (Some a) name near is =

@@ -22,7 +22,7 @@ use Rattle.csp_model.specs.declared.url.Origin.{Origin}
 use Rattle.csp_model.specs.declared.url.Scheme.{Scheme}
 use Rattle.csp_model.specs.declared.url.Url.{Url}
 use Rattle.csp_model.specs.declared.url.Url.TheVariants as url
-use Rattle.csp_why.specs.Near.{changed, ends_as, may_be_host, some_matches, wrong_part}
+use Rattle.csp_why.specs.Near.{changed, ends_as, may_fit, some_matches, wrong_part}
 use Rattle.csp_why.specs.declared.reason.Word.{Word}
 use Rattle.csp_why.specs.declared.reason.Word.TheVariants as word
 
@@ -45,7 +45,7 @@ module _ (self : Origin) (redirected : Bool) (part : Option (List ℕ)) (under :
     (paths : PathPart) (there : Scheme) (host : Host) (port : Option ℕ) (pieces : List (List ℕ)) where
   abbrev fits : Word → Bool
   fits which =
-      some_matches (changed which (url.Hosted there host port pieces) (source.Hosted part under ports paths)) self
+      some_matches (changed which self (url.Hosted there host port pieces) (source.Hosted part under ports paths)) self
       (url.Hosted there host port pieces) redirected
 
   abbrev with_host : Bool → Bool → Bool → Bool
@@ -57,7 +57,7 @@ module _ (self : Origin) (redirected : Bool) (part : Option (List ℕ)) (under :
       ap (λ (b : Bool). with_host scheme b rest) other ∙ no_rest scheme rest
 
   suffix_fits : (k : HostPart) → is_suffix k host ≡ false
-      → some_matches (changed word.Suffix (url.Hosted there host port pieces) (source.Hosted part k ports paths)) self
+      → some_matches (changed word.Suffix self (url.Hosted there host port pieces) (source.Hosted part k ports paths)) self
       (url.Hosted there host port pieces) redirected ≡ false
   suffix_fits (host_part.Under suffix) other = apart (own_scheme_matches part self (scheme_text there)) _ _ other
   suffix_fits host_part.Any other = refl
@@ -106,7 +106,7 @@ other_host (host_part.Under suffix) (Domain text) other = (not_under text suffix
 other_host (host_part.Under suffix) (Address text) other = (refl, other_text text suffix other)
 other_host (host_part.Exact name) host other = (other_text (host_text host) name other, refl)
 
-pub no_wrong_part : (self : Origin) (there : Url) (redirected : Bool) (s : Source) → may_be_host s there ≡ false
+pub no_wrong_part : (self : Origin) (there : Url) (redirected : Bool) (s : Source) → may_fit s there ≡ false
     → wrong_part self there redirected s ≡ None
 no_wrong_part self (url.Hosted there host port pieces) redirected (source.Hosted part under ports paths) other =
     let ends = other_host under host other in
@@ -117,14 +117,14 @@ no_wrong_part self (url.Plain there) redirected (source.Hosted part under ports 
   plain (host_part.Under suffix) = refl
   plain (host_part.Exact text) = refl
 no_wrong_part self (url.Plain there) redirected source.Star other = refl
-no_wrong_part self (url.Plain there) redirected (source.SchemeOnly scheme) other = refl
-no_wrong_part self (url.Plain there) redirected (source.Word which) other = refl
+no_wrong_part self (url.Plain there) redirected (source.SchemeOnly scheme) other = absurd (true≢false other)
+no_wrong_part self (url.Plain there) redirected (source.Word which) other = absurd (true≢false other)
 no_wrong_part self (url.Plain there) redirected (source.Nonce value) other = refl
 no_wrong_part self (url.Plain there) redirected (source.Digest hash) other = refl
 no_wrong_part self (url.Plain there) redirected (source.Other token) other = refl
 no_wrong_part self (url.Hosted there host port pieces) redirected source.Star other = refl
-no_wrong_part self (url.Hosted there host port pieces) redirected (source.SchemeOnly scheme) other = refl
-no_wrong_part self (url.Hosted there host port pieces) redirected (source.Word which) other = refl
+no_wrong_part self (url.Hosted there host port pieces) redirected (source.SchemeOnly scheme) other = absurd (true≢false other)
+no_wrong_part self (url.Hosted there host port pieces) redirected (source.Word which) other = absurd (true≢false other)
 no_wrong_part self (url.Hosted there host port pieces) redirected (source.Nonce value) other = refl
 no_wrong_part self (url.Hosted there host port pieces) redirected (source.Digest hash) other = refl
 no_wrong_part self (url.Hosted there host port pieces) redirected (source.Other token) other = refl

@@ -1,20 +1,22 @@
 -- Words of the laws: a policy in which the directive that governs is another one.
-use Rattle.std.specs.Prelude.{◌≡◌, ℕ, zero, suc, Bool, false, not, ◌||◌, if◌then◌else◌, List, [], ◌∷◌, map, Option, Some, None, slice_get, unwrap_or, ⊤}
+use Rattle.std.specs.Prelude.{◌≡◌, ℕ, zero, suc, Bool, false, not, ◌||◌, if◌then◌else◌, List, [], ◌∷◌, ◌++◌, codes, map, Option, Some, None, slice_get, unwrap_or, ⊤}
 use Rattle.std.specs.List.{cons_option, filter}
 use Rattle.csp_model.specs.DecideTokens.{is_keyword}
 use Rattle.csp_model.specs.Governing.{is_named}
 use Rattle.csp_model.specs.Inline.{is_nonce_or_hash}
 use Rattle.csp_model.specs.Matching.{PortMatches, SchemeMatches, url_scheme}
-use Rattle.csp_model.specs.Parts.{checked_url}
+use Rattle.csp_model.specs.Parts.{checked_integrity, checked_url}
 use Rattle.csp_model.specs.Paths.{host_text}
 use Rattle.csp_model.specs.declared.check.Check.{Check}
 use Rattle.csp_model.specs.declared.check.Check.TheVariants as check
 use Rattle.csp_model.specs.declared.name.Name.{Name}
 use Rattle.csp_model.specs.declared.policy.Directive.{Directive}
 use Rattle.csp_model.specs.declared.policy.Policy.{Policy}
+use Rattle.csp_model.specs.declared.source.Hash.{Hash}
 use Rattle.csp_model.specs.declared.source.Keyword.TheVariants as keyword
 use Rattle.csp_model.specs.declared.source.Source.{Source}
 use Rattle.csp_model.specs.declared.source.Source.TheVariants as source
+use Rattle.csp_model.specs.declared.url.Origin.{Origin}
 use Rattle.csp_model.specs.declared.url.Url.{Url}
 use Rattle.csp_model.specs.declared.url.Url.TheVariants as url
 use Rattle.csp_why.specs.Missing.{port_of}
@@ -70,27 +72,37 @@ change_at f zero (x ∷ xs) = f x ∷ xs
 change_at f (suc place) (x ∷ xs) = x ∷ change_at f place xs
 
 -- the source with the part changed so that it fits the check's URL
-abbrev pub fitted : Word → Option Url → Source → Source
-fitted which (Some there) s = unwrap_or (changed which there s) s
-fitted which None s = s
+abbrev pub fitted : Origin → Word → Option Url → Source → Source
+fitted self which (Some there) s = unwrap_or (changed which self there s) s
+fitted self which None s = s
 
 abbrev pub is_dynamic : Source → Bool
 is_dynamic s = is_keyword keyword.StrictDynamic s
 
--- the sources without what the word tells of: what takes the token's place is gone, or 'unsafe-hashes' is
--- there, or the token has the part changed so that it fits
-abbrev pub mended : Word → Option Url → ℕ → List Source → List Source
-mended word.StrictDynamic there token sources = filter (λ s. not (is_dynamic s)) sources
-mended word.Nonce there token sources = filter (λ s. not (is_nonce_or_hash s || is_dynamic s)) sources
-mended word.Hash there token sources = filter (λ s. not (is_nonce_or_hash s || is_dynamic s)) sources
-mended word.UnsafeHashes there token sources = source.Word keyword.UnsafeHashes ∷ sources
-mended which there token sources = change_at (fitted which there) token sources
+-- the sources without what the word tells of: what takes the token's place is gone, or 'unsafe-hashes' or the
+-- whole of this integrity metadata is there, or the token has the part changed so that it fits
+abbrev pub mended : Origin → List Hash → Word → Option Url → ℕ → List Source → List Source
+mended self integrity word.StrictDynamic there token sources = filter (λ s. not (is_dynamic s)) sources
+mended self integrity word.Nonce there token sources = filter (λ s. not (is_nonce_or_hash s || is_dynamic s)) sources
+mended self integrity word.Hash there token sources = filter (λ s. not (is_nonce_or_hash s || is_dynamic s)) sources
+mended self integrity word.UnsafeHashes there token sources = source.Word keyword.UnsafeHashes ∷ sources
+mended self integrity word.Integrity there token sources = map (λ hash. source.Digest hash) integrity ++ sources
+mended self integrity which there token sources = change_at (fitted self which there) token sources
 
-abbrev pub mended_directive : Check → Near → Directive → Directive
-mended_directive asked n d = record {
+abbrev pub metadata_of : Check → List Hash
+metadata_of asked = unwrap_or (checked_integrity asked) []
+
+-- a sandbox's tokens with the one that the word tells of
+abbrev pub granted : Word → List (List ℕ) → List (List ℕ)
+granted word.AllowScripts tokens = codes "allow-scripts" ∷ tokens
+granted word.AllowSameOrigin tokens = codes "allow-same-origin" ∷ tokens
+granted which tokens = tokens
+
+abbrev pub mended_directive : Origin → Check → Near → Directive → Directive
+mended_directive self asked n d = record {
   name = d.name;
-  tokens = d.tokens;
-  sources = mended n.word (checked_url asked) n.token d.sources;
+  tokens = granted n.word d.tokens;
+  sources = mended self (metadata_of asked) n.word (checked_url asked) n.token d.sources;
 }
 
 -- A source added

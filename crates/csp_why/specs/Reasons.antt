@@ -9,7 +9,7 @@ use Rattle.csp_model.specs.declared.check.Check.TheVariants as check
 use Rattle.csp_model.specs.declared.policy.Policy.{Policy}
 use Rattle.csp_why.specs.Allowances.{allowances}
 use Rattle.csp_why.specs.Displacement.{displacement}
-use Rattle.csp_why.specs.Near.{near_word, near_from}
+use Rattle.csp_why.specs.Near.{near_of}
 use Rattle.csp_why.specs.declared.reason.Allowance.{Allowance}
 use Rattle.csp_why.specs.declared.reason.Reason.{Reason}
 use Rattle.csp_why.specs.declared.reason.Reason.TheVariants.{Ungoverned, Allows, Blocks}
@@ -31,7 +31,7 @@ acting policy asked =
 abbrev pub governed_reason : Policy → Check → Option Word → Governor → Option Allowance → Reason
 governed_reason policy asked displaced g (Some allowance) = Allows g.name allowance
 governed_reason policy asked displaced g None =
-    Blocks g.name (near_from (near_word policy.origin asked displaced) 0 g.directive.sources)
+    Blocks g.name (near_of policy.origin asked displaced g)
 
 abbrev pub reason_of : Policy → Check → Option Word → Governor → Reason
 reason_of policy asked displaced g =

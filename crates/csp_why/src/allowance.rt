@@ -246,7 +246,7 @@ fn some_hash_source(integrity: &List<Hash>, sources: &List<Source>) -> Option<us
 }
 
 // Whether a source is a hash-source that the metadata has.
-fn is_some_hash(integrity: &List<Hash>, source: &Source) -> bool
+pub(crate) fn is_some_hash(integrity: &List<Hash>, source: &Source) -> bool
     ensures { result ≡ spec.is_some_hash integrity.now source.now }
 {
     integrity

@@ -31,12 +31,11 @@ pub fn explain(alloc: Global, policy: &Policy, check: &Check) -> Result<Reason, 
         return Ok(Reason::Ungoverned);
     };
     let directive = found.name;
-    let sources = &found.directive.sources;
-    let displaced = displacement(check, directive, sources);
+    let displaced = displacement(check, directive, &found.directive.sources);
     if let Some(by) = allowance(&policy.origin, check, displaced.is_none(), &found) {
         return Ok(Reason::Allows { directive, by });
     }
-    let near = near_tokens(alloc, &policy.origin, check, displaced, sources)?;
+    let near = near_tokens(alloc, &policy.origin, check, displaced, &found)?;
     Ok(Reason::Blocks { directive, near })
 }
 

@@ -33,12 +33,12 @@ pub fn a_token_that_is_told_allows_alone()
         → allows (with_changed name (alone asked told) p) asked ≡ true }
 {}
 
-/// A near token allows once what its word names is mended in the governing directive: a part of a host-source
-/// is changed so that it fits, `'unsafe-hashes'` is added, or all that takes the token's place is taken out.
+/// A near token allows once what its word names is mended in the governing directive: a part of a source is
+/// changed so that it fits, `'unsafe-hashes'` is added, or all that takes the token's place is taken out.
 pub fn a_near_token_allows_where_its_word_is_mended()
     ensures { (p : Policy) (asked : Check) (name : Name) (near : Items Near)
         → reason p asked ≡ Blocks name near
-        → All (λ n. allows (with_changed name (mended_directive asked n) p) asked ≡ true) near }
+        → All (λ n. allows (with_changed name (mended_directive p.origin asked n) p) asked ≡ true) near }
 {}
 
 /// Where the source of a URL is missing, the policy with it in the directive that blocks allows the check.

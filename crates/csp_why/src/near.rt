@@ -1,48 +1,104 @@
 //! The tokens of a directive that nearly allow a check that it blocks.
 ghost use Rattle.std.specs.Prelude.{◌≡◌, IfOk};
+ghost use Rattle.csp_match.specs.Shown.{shown};
+ghost use Rattle.csp_why.specs.Missing.{port_of as port_part_of};
 ghost use Rattle.csp_why.specs.Near as spec;
 
+use crate::allowance::is_some_hash;
 use crate::reason::{Near, Word};
-use csp_match::source_matches;
+use csp_match::{Governor, source_matches};
 use csp_model::{
-    Check, Digests, Duplicate, HostPart, Keyword, List, Memory, Origin, PathPart, PortPart, Source,
-    Text, Url,
+    Capability, Check, Digests, Duplicate, FetchRule, Hash, Host, HostPart, Keyword, List, Memory,
+    Name, Origin, PathPart, PortPart, Scheme, Source, Text, Url,
 };
+use csp_nav::token_grants;
 use csp_token::{is_hash_of, is_keyword};
 use std::alloc::Global;
 
-// The tokens of a list that nearly allow a check, in order, where `displaced` is what takes the place of
+// The tokens of what governs that nearly allow a check, in order, where `displaced` is what takes the place of
 // others.
 pub(crate) fn near_tokens(
     alloc: Global,
     origin: &Origin,
     check: &Check,
     displaced: Option<Word>,
-    sources: &List<Source>,
+    found: &Governor<'_>,
 ) -> Result<List<Near>, Memory>
-    ensures { IfOk result (λ made.
-        made ≡ spec.near_from (spec.near_word origin.now check.now displaced) 0 sources.now) }
+    ensures { IfOk result (λ made. made ≡ spec.near_of origin.now check.now displaced (shown found.now)) }
+{
+    match check {
+        Check::WorkerStart => near_grants(alloc, &found.directive.tokens),
+        _ => {
+            let sources = &found.directive.sources;
+            near_sources(alloc, origin, found.name, check, displaced, sources)
+        }
+    }
+}
+
+// The tokens of a sandbox beside which a worker needs another one.
+fn near_grants(alloc: Global, tokens: &List<Text>) -> Result<List<Near>, Memory>
+    ensures { IfOk result (λ made. made ≡ spec.near_from spec.near_grant 0 tokens.now) }
 {
     let mut near = List::new(alloc);
-    for (token, source) in sources.as_slice().iter().enumerate() {
-        if let Some(word) = near_word(alloc, origin, check, displaced, source)? {
+    for (token, text) in tokens.as_slice().iter().enumerate() {
+        if let Some(word) = near_grant(text.as_str()) {
             near.push(Near { token, word })?;
         }
     }
     Ok(near)
 }
 
-// What keeps a token from allowing a check, if it is one thing.
+fn near_grant(token: &str) -> Option<Word>
+    ensures { result ≡ spec.near_grant token.now }
+{
+    if token_grants(token, Capability::Scripts) {
+        Some(Word::AllowSameOrigin)
+    } else if token_grants(token, Capability::SameOrigin) {
+        Some(Word::AllowScripts)
+    } else {
+        None
+    }
+}
+
+// The tokens of a list that nearly allow a check.
+fn near_sources(
+    alloc: Global,
+    origin: &Origin,
+    name: Name,
+    check: &Check,
+    displaced: Option<Word>,
+    sources: &List<Source>,
+) -> Result<List<Near>, Memory>
+    ensures { IfOk result (λ made.
+        made ≡ spec.near_from (spec.near_word origin.now name check.now displaced) 0 sources.now) }
+{
+    let mut near = List::new(alloc);
+    for (token, source) in sources.as_slice().iter().enumerate() {
+        if let Some(word) = near_word(alloc, origin, name, check, displaced, source)? {
+            near.push(Near { token, word })?;
+        }
+    }
+    Ok(near)
+}
+
+// What keeps a token of a directive of this name from allowing a check, if it is one thing.
 fn near_word(
     alloc: Global,
     origin: &Origin,
+    name: Name,
     check: &Check,
     displaced: Option<Word>,
     source: &Source,
 ) -> Result<Option<Word>, Memory>
-    ensures { IfOk result (λ made. made ≡ spec.near_word origin.now check.now displaced source.now) }
+    ensures { IfOk result (λ made.
+        made ≡ spec.near_word origin.now name check.now displaced source.now) }
 {
     match check {
+        Check::Fetch {
+            group,
+            integrity,
+            ..
+        } if is_part_of_metadata(group.rule(name), integrity, source) => Ok(Some(Word::Integrity)),
         Check::Fetch { url, redirects, .. } | Check::Form { url, redirects } => {
             near_source(alloc, displaced, origin, url, *redirects != 0, source)
         }
@@ -52,6 +108,13 @@ fn near_word(
         Check::Inline { digests, .. } => Ok(near_inline(displaced, digests, source)),
         _ => Ok(None),
     }
+}
+
+// Whether a script's metadata has the hash that a source is.
+fn is_part_of_metadata(rule: FetchRule, integrity: &List<Hash>, source: &Source) -> bool
+    ensures { result ≡ spec.is_part_of_metadata rule integrity.now source.now }
+{
+    rule == FetchRule::Script && is_some_hash(integrity, source)
 }
 
 // What takes the place of a source expression that matches, or the one part by which another doesn't
@@ -104,7 +167,7 @@ fn wrong_part(
 ) -> Result<Option<Word>, Memory>
     ensures { IfOk result (λ made. made ≡ spec.wrong_part origin.now url.now redirected source.now) }
 {
-    if !may_be_host(source, url) {
+    if !may_fit(source, url) {
         return Ok(None);
     }
     for part in parts() {
@@ -115,13 +178,21 @@ fn wrong_part(
     Ok(None)
 }
 
-// Whether the URL's host ends as that of a host-source. If not, no other part can be changed so that they match.
-fn may_be_host(source: &Source, url: &Url) -> bool
-    ensures { result ≡ spec.may_be_host source.now url.now }
+// Whether a part of a source may be changed so that it matches: of a host-source none can, where the URL's host
+// doesn't end as its own.
+fn may_fit(source: &Source, url: &Url) -> bool
+    ensures { result ≡ spec.may_fit source.now url.now }
 {
-    let (Source::Hosted { host: part, .. }, Url::Hosted { host, .. }) = (source, url) else {
-        return false;
-    };
+    match (source, url) {
+        (Source::Hosted { host: part, .. }, Url::Hosted { host, .. }) => ends_as(part, host),
+        (Source::Word { .. } | Source::SchemeOnly { .. }, _) => true,
+        _ => false,
+    }
+}
+
+fn ends_as(part: &HostPart, host: &Host) -> bool
+    ensures { result ≡ spec.ends_as part.now host.now }
+{
     match part {
         HostPart::Any => true,
         HostPart::Under(text) | HostPart::Exact(text) => {
@@ -140,26 +211,38 @@ fn matches_changed(
     source: &Source,
 ) -> Result<bool, Memory>
     ensures { IfOk result (λ made. made
-        ≡ spec.some_matches (spec.changed part url.now source.now) origin.now url.now redirected) }
+        ≡ spec.some_matches (spec.changed part origin.now url.now source.now) origin.now url.now redirected) }
 {
-    match changed(alloc, part, url, source)? {
+    match changed(alloc, part, origin, url, source)? {
         Some(changed) => Ok(source_matches(&changed, origin, url, redirected)),
         None => Ok(false),
     }
 }
 
-// A host-source with one part changed so that it fits the URL. None where it has no such part.
-fn changed(alloc: Global, part: Word, url: &Url, source: &Source) -> Result<Option<Source>, Memory>
-    ensures { IfOk result (λ made. made ≡ spec.changed part url.now source.now) }
+// A source with one part changed so that it fits the URL. None where it has no such part.
+fn changed(
+    alloc: Global,
+    part: Word,
+    origin: &Origin,
+    url: &Url,
+    source: &Source,
+) -> Result<Option<Source>, Memory>
+    ensures { IfOk result (λ made. made ≡ spec.changed part origin.now url.now source.now) }
 {
-    let Source::Hosted {
-        scheme,
-        host,
-        port,
-        path,
-    } = source
-    else {
-        return Ok(None);
+    let (scheme, host, port, path) = match source {
+        Source::Hosted {
+            scheme,
+            host,
+            port,
+            path,
+        } => (scheme, host, port, path),
+        Source::Word {
+            word: Keyword::SelfOrigin,
+        } => return changed_self(alloc, part, origin, url),
+        Source::SchemeOnly { scheme } => {
+            return changed_scheme(alloc, part, scheme.as_str(), url);
+        }
+        _ => return Ok(None),
     };
     let port = *port;
     match (part, url, host) {
@@ -188,5 +271,66 @@ fn changed(alloc: Global, part: Word, url: &Url, source: &Source) -> Result<Opti
             path: path.copy(alloc)?,
         })),
         _ => Ok(None),
+    }
+}
+
+// The same of `'self'`, which stands for a host-source of the origin.
+fn changed_self(
+    alloc: Global,
+    part: Word,
+    origin: &Origin,
+    url: &Url,
+) -> Result<Option<Source>, Memory>
+    ensures { IfOk result (λ made. made ≡ spec.changed_self part origin.now url.now) }
+{
+    let Origin::Tuple { scheme, host, port } = origin else {
+        return Ok(None);
+    };
+    let (scheme, port) = match (part, url) {
+        (Word::Scheme, Url::Hosted { scheme: there, .. }) => (there, port_of(*port)),
+        (Word::Port, _) => (scheme, PortPart::Any),
+        _ => return Ok(None),
+    };
+    Ok(Some(Source::Hosted {
+        scheme: Some(Text::new(alloc, scheme.as_str())?),
+        host: HostPart::Exact(Text::new(alloc, host.as_str())?),
+        port,
+        path: PathPart::Absent,
+    }))
+}
+
+// The same of a scheme-source of http or https, where the URL is of a web socket.
+fn changed_scheme(alloc: Global, part: Word, own: &str, url: &Url) -> Result<Option<Source>, Memory>
+    ensures { IfOk result (λ made. made ≡ spec.changed_scheme part own.now url.now) }
+{
+    match (part, url) {
+        (Word::Scheme, Url::Hosted { scheme, .. }) if is_socket(*scheme) && is_web(own) => {
+            Ok(Some(Source::SchemeOnly {
+                scheme: Text::new(alloc, scheme.as_str())?,
+            }))
+        }
+        _ => Ok(None),
+    }
+}
+
+fn is_socket(scheme: Scheme) -> bool
+    ensures { result ≡ spec.is_socket scheme }
+{
+    matches!(scheme, Scheme::Ws | Scheme::Wss)
+}
+
+fn is_web(scheme: &str) -> bool
+    ensures { result ≡ spec.is_web scheme.now }
+{
+    scheme == "http" || scheme == "https"
+}
+
+// The port as a source has it.
+fn port_of(port: Option<u16>) -> PortPart
+    ensures { result ≡ port_part_of port }
+{
+    match port {
+        None => PortPart::Absent,
+        Some(port) => PortPart::Number(port),
     }
 }

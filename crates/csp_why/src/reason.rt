@@ -54,9 +54,9 @@ pub struct Allowance {
 /// What keeps a token from allowing a check.
 #[derive(Clone, Copy, Debug, PartialEq, Eq)]
 pub enum Word {
-    /// The scheme of a host-source, or of the origin where it has none.
+    /// The scheme of a source, or of the origin where it has none.
     Scheme,
-    /// The port of a host-source.
+    /// The port of a host-source or of `'self'`.
     Port,
     /// The path of a host-source.
     Path,
@@ -70,6 +70,12 @@ pub enum Word {
     Hash,
     /// A hash-source of the very text, which counts only with `'unsafe-hashes'`.
     UnsafeHashes,
+    /// A hash-source of the metadata, which counts only where all hashes of the metadata are there.
+    Integrity,
+    /// `allow-same-origin`, beside which a worker needs `allow-scripts`.
+    AllowScripts,
+    /// `allow-scripts`, beside which a worker needs `allow-same-origin`.
+    AllowSameOrigin,
 }
 
 impl Word {
@@ -86,6 +92,9 @@ impl Word {
             Word::Nonce => "nonce",
             Word::Hash => "hash",
             Word::UnsafeHashes => "unsafe-hashes",
+            Word::Integrity => "integrity",
+            Word::AllowScripts => "allow-scripts",
+            Word::AllowSameOrigin => "allow-same-origin",
         }
     }
 }

@@ -1,0 +1,3 @@
+mod ReadLists
+mod Requests
+mod Urls
