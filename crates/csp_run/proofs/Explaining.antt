@@ -2,7 +2,6 @@
 use Rattle.std.proofs.Common.{◌≡◌, ◌+◌, ℕ, Bool, true, false, ◌||◌, List, [], ◌∷◌, ◌++◌, length}
 use Rattle.std.proofs.Common.{refl, ap, arith, sym, ◌∙◌, append-nil, append_assoc}
 use Rattle.std.specs.List.{list_any}
-use Rattle.csp_model.specs.Verdict.{verdict_of}
 use Rattle.csp_model.specs.declared.policy.PolicyList.{PolicyList}
 use Rattle.csp_model.specs.declared.verdict.Described.{Described}
 use Rattle.csp_reasons.specs.Explanations.{Explained, explained_from, is_blocked, request_text, with_request}

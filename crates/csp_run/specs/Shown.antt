@@ -1,6 +1,6 @@
 -- What clauses of private functions cite: plans as contracts see them, contents that fit a form, what is printed,
 -- and what is left where the handing out of violations stops.
-use Rattle.std.specs.Prelude.{◌≡◌, ℕ, ◌≤◌, ⊤, Bool, true, false, ◌&&◌, List, [], ◌∷◌, length, Result, Ok, Err}
+use Rattle.std.specs.Prelude.{◌≡◌, ◌≤◌, ⊤, Bool, true, false, ◌&&◌, List, [], ◌∷◌, length, Result, Ok, Err}
 use Rattle.std.specs.List.{flat_map, list_all}
 use Rattle.csp_embed.specs.Decisions.{alone}
 use Rattle.csp_desk.specs.Growth.{GrewInPart, MayRefuse, StopsAt}
@@ -28,7 +28,6 @@ use Rattle.csp_run.specs.declared.plan.Plan.{Plan as Held}
 use Rattle.csp_run.specs.declared.printed.Printed.{Printed}
 use Rattle.csp_run.specs.declared.printed.Printed.TheVariants as printed
 use Rattle.csp_output.specs.declared.status.Status.TheVariants.{Clean}
-use Rattle.csp_model.specs.declared.policy.PolicyList.{PolicyList}
 use Rattle.csp_model.specs.declared.verdict.Violation.{Violation}
 use Rattle.csp_url.specs.declared.error.OriginError.{OriginError}
 use Rattle.csp_url.specs.declared.error.OriginError.TheVariants as origin_error

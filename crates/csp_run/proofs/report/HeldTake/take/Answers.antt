@@ -1,4 +1,3 @@
-use Rattle.std.proofs.Common.{◌∙◌}
 use Rattle.csp_run.proofs.Holding.{held_more}
 use Rattle.csp_run.proofs.report.HeldTake.take.Goals as goal
 
