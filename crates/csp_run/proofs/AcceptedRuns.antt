@@ -47,8 +47,8 @@ accepted_on shows readable w desk plan end (Err f) valid read is clean =
     absurd (not_by_fault f end Clean refl is.0 clean)
 accepted_on shows readable w desk plan (Ok built) (Ok (content.Policies first ∷ content.Policies second ∷ content.Proof proof ∷ [])) valid read is clean =
     let all = found_from plan.origin plan.files w.log _ read in
-    let one = first_from plan.origin (content.Policies first) _ all in
-    let other = second_from plan.origin (content.Policies first) (content.Policies second) _ all in
+    let one = first_from plan.origin (content.Policies first) (content.Policies second ∷ content.Proof proof ∷ []) all in
+    let other = second_from plan.origin (content.Policies first) (content.Policies second) (content.Proof proof ∷ []) all in
     record {
       first = first;
       second = second;

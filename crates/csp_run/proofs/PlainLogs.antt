@@ -1,6 +1,6 @@
 -- What a log needs rests on the URLs of its fetches alone: so a log of which these are valid is learnt from as one
 -- whose checks all are.
-use Rattle.std.proofs.Common.{arith, ◌≡◌, ◌∙◌, ◌<◌, ◌+◌, suc, zero, sym, ap, subst, refl, ℕ, List, [], ◌∷◌, ◌++◌, length, map, get_or, All, Any, Some}
+use Rattle.std.proofs.Common.{arith, ◌≡◌, ◌∙◌, ◌<◌, ◌+◌, suc, zero, sym, ap, subst, refl, ℕ, Bool, List, [], ◌∷◌, ◌++◌, length, map, get_or, All, Any, Some}
 use Rattle.std.specs.List.{flat_map}
 use Rattle.std.proofs.lemmas.List.{map-append}
 use Rattle.std.proofs.lemmas.List.Elements.{All-nil, All-map, All-weaker}

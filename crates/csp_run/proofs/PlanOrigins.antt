@@ -3,6 +3,7 @@ use Rattle.std.proofs.Common.{◌≡◌, refl, subst, ℕ, Bool, true, false, co
 use Rattle.std.specs.Prelude.{◌==◌, bytes_eq}
 use Rattle.csp_model.specs.Validity.{IsValidOrigin}
 use Rattle.csp_model.specs.declared.url.Origin.{Origin}
+use Rattle.csp_model.specs.declared.url.Origin.TheVariants.{Opaque}
 use Rattle.csp_url.specs.Origins.{origin_of}
 use Rattle.csp_run.specs.Words.{Plan, embed_plan, form_of, origin_for, plan_of, takes, with_embedder, with_form, with_origin}
 use Rattle.csp_run.specs.declared.fault.Fault.{Fault}
@@ -16,7 +17,7 @@ ValidOrigins = (text : List ℕ) (origin : Origin) → origin_of text ≡ Some o
 for_form : ValidOrigins → (form : Form) (word : List ℕ) (origin : Origin) → origin_for form word ≡ Some origin
     → IsValidOrigin origin
 unfolding origin_for
-for_form law (Drill pairs) word origin is = let same : _ ≡ origin = cc is in subst IsValidOrigin same tt
+for_form law (Drill pairs) word origin is = let same : Opaque ≡ origin = cc is in subst IsValidOrigin same tt
 for_form law form word origin is = law word origin is
 
 at_origin : ValidOrigins → (form : Form) (word : List ℕ) (names : List (List ℕ)) (plan : Plan)

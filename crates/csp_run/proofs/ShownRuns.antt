@@ -40,7 +40,7 @@ shown_on upholds w desk plan embedder (Ok built) (Ok (content.Required required 
       response = response;
       files = read;
       upheld = λ list now. upholds embedder required block response list built
-          (first_from plan.origin (content.Required required) _ all) is.0 clean now;
+          (first_from plan.origin (content.Required required) (content.Response block response ∷ []) all) is.0 clean now;
     }
 shown_on upholds w desk plan embedder (Err f) (Ok (content.Required required ∷ content.Response block response ∷ [])) read is clean =
     absurd is.0

@@ -32,9 +32,9 @@ use csp_valid::laws::{
 /// Where `check` ends with `Clean`, it read two lists and a text, it wrote `accepted`, and the second list
 /// allows all that the first allows.
 pub fn check_accepts_only_inclusion()
-    ensures { (w : World) (desk : Desk) (words : List (List ℕ)) (plan : Plan) (status : Status)
-        (text : List ℕ) → AsksFor words form.Check plan → Wrote w desk words status text
-        → status ≡ status.Clean → AcceptsInclusion w plan text }
+    ensures { (w : World) (desk : Desk) (words : List (List ℕ)) (plan : Plan) (ending : Status)
+        (text : List ℕ) → AsksFor words form.Check plan → Wrote w desk words ending text
+        → ending ≡ status.Clean → AcceptsInclusion w plan text }
 {
     an_accepted_text_shows_inclusion();
     what_is_read_is_a_valid_origin();
@@ -44,9 +44,9 @@ pub fn check_accepts_only_inclusion()
 /// Where `learn` ends with `Clean`, it read a log, and what it wrote begins with the header line of a policy
 /// that reads back and allows exactly the fetches that the log needs.
 pub fn learn_allows_exactly_what_its_log_needs()
-    ensures { (w : World) (desk : Desk) (words : List (List ℕ)) (plan : Plan) (status : Status)
-        (text : List ℕ) → AsksFor words form.Learn plan → Wrote w desk words status text
-        → status ≡ status.Clean → Learns w plan text }
+    ensures { (w : World) (desk : Desk) (words : List (List ℕ)) (plan : Plan) (ending : Status)
+        (text : List ℕ) → AsksFor words form.Learn plan → Wrote w desk words ending text
+        → ending ≡ status.Clean → Learns w plan text }
 {
     what_learn_prints_reads_back();
     described_urls_are_valid();
@@ -56,9 +56,9 @@ pub fn learn_allows_exactly_what_its_log_needs()
 /// Where `tidy` ends with `Clean`, it read a list, and what it wrote is an equivalent list from which no single
 /// token can be taken, with what shows it. Its header lines read back to it.
 pub fn tidy_prints_what_is_equivalent_and_reads_back()
-    ensures { (w : World) (desk : Desk) (words : List (List ℕ)) (plan : Plan) (status : Status)
-        (text : List ℕ) → AsksFor words form.Tidy plan → Wrote w desk words status text
-        → status ≡ status.Clean → Tidies w plan status text }
+    ensures { (w : World) (desk : Desk) (words : List (List ℕ)) (plan : Plan) (ending : Status)
+        (text : List ℕ) → AsksFor words form.Tidy plan → Wrote w desk words ending text
+        → ending ≡ status.Clean → Tidies w plan ending text }
 {
     a_tidied_list_reads_back();
     what_is_read_is_a_valid_origin();
@@ -67,9 +67,9 @@ pub fn tidy_prints_what_is_equivalent_and_reads_back()
 /// Where `embed` ends with `Clean`, it read a policy and a response, and every valid check that the list allows
 /// that is enforced on the response the policy allows.
 pub fn embed_upholds()
-    ensures { (w : World) (desk : Desk) (words : List (List ℕ)) (plan : Plan) (status : Status)
+    ensures { (w : World) (desk : Desk) (words : List (List ℕ)) (plan : Plan) (ending : Status)
         (text : List ℕ) (embedder : Origin) → AsksFor words (form.Embed embedder) plan
-        → Wrote w desk words status text → status ≡ status.Clean → Shows w plan embedder }
+        → Wrote w desk words ending text → ending ≡ status.Clean → Shows w plan embedder }
 {
     an_embedding_upholds_the_requirement();
 }
@@ -77,14 +77,14 @@ pub fn embed_upholds()
 /// Unless memory runs out, `differ` names of two lists that it read each directive under which the first allows
 /// more than the second, and no other, and ends with `Clean` exactly where there is none.
 pub fn differ_names_each_directive()
-    ensures named { (w : World) (desk : Desk) (words : List (List ℕ)) (plan : Plan) (status : Status)
+    ensures named { (w : World) (desk : Desk) (words : List (List ℕ)) (plan : Plan) (ending : Status)
         (text : List ℕ) (first second : PolicyList) → AsksFor words form.Differ plan
-        → Wrote w desk words status text → status ≢ status.NoMemory → AreLists w plan first second
-        → NamesDirectives first second status text }
-    ensures clean { (w : World) (desk : Desk) (words : List (List ℕ)) (plan : Plan) (status : Status)
+        → Wrote w desk words ending text → ending ≢ status.NoMemory → AreLists w plan first second
+        → NamesDirectives first second ending text }
+    ensures clean { (w : World) (desk : Desk) (words : List (List ℕ)) (plan : Plan) (ending : Status)
         (text : List ℕ) (first second : PolicyList) → AsksFor words form.Differ plan
-        → Wrote w desk words status text → status ≢ status.NoMemory → AreLists w plan first second
-        → (status ≡ status.Clean) ↔ Subsumes first second }
+        → Wrote w desk words ending text → ending ≢ status.NoMemory → AreLists w plan first second
+        → (ending ≡ status.Clean) ↔ Subsumes first second }
 {
     each_directive_that_differs_is_named();
     differ_ends_as_compare();
@@ -93,18 +93,18 @@ pub fn differ_names_each_directive()
 /// Unless memory runs out, `why` writes of a list and requests that it read what is explained of them, and ends
 /// as `judge` does: with `Clean` exactly where the list allows each request, and else with `Found`.
 pub fn why_ends_as_judge()
-    ensures text { (w : World) (desk : Desk) (words : List (List ℕ)) (plan : Plan) (status : Status)
+    ensures text { (w : World) (desk : Desk) (words : List (List ℕ)) (plan : Plan) (ending : Status)
         (text : List ℕ) (list : PolicyList) (requests : List Described) → AsksFor words form.Why plan
-        → Wrote w desk words status text → status ≢ status.NoMemory → AreRequests w plan list requests
+        → Wrote w desk words ending text → ending ≢ status.NoMemory → AreRequests w plan list requests
         → text ≡ (explanation list requests).text }
-    ensures clean { (w : World) (desk : Desk) (words : List (List ℕ)) (plan : Plan) (status : Status)
+    ensures clean { (w : World) (desk : Desk) (words : List (List ℕ)) (plan : Plan) (ending : Status)
         (text : List ℕ) (list : PolicyList) (requests : List Described) → AsksFor words form.Why plan
-        → Wrote w desk words status text → status ≢ status.NoMemory → AreRequests w plan list requests
-        → (status ≡ status.Clean) ↔ All (λ (d : Described). IsTrue (allows_all list d.checks)) requests }
-    ensures found { (w : World) (desk : Desk) (words : List (List ℕ)) (plan : Plan) (status : Status)
+        → Wrote w desk words ending text → ending ≢ status.NoMemory → AreRequests w plan list requests
+        → (ending ≡ status.Clean) ↔ All (λ (d : Described). IsTrue (allows_all list d.checks)) requests }
+    ensures found { (w : World) (desk : Desk) (words : List (List ℕ)) (plan : Plan) (ending : Status)
         (text : List ℕ) (list : PolicyList) (requests : List Described) → AsksFor words form.Why plan
-        → Wrote w desk words status text → status ≢ status.NoMemory → AreRequests w plan list requests
-        → (status ≡ status.Found) ↔ Any (λ (d : Described). allows_all list d.checks ≡ false) requests }
+        → Wrote w desk words ending text → ending ≢ status.NoMemory → AreRequests w plan list requests
+        → (ending ≡ status.Found) ↔ Any (λ (d : Described). allows_all list d.checks ≡ false) requests }
 {
     why_ends_as_judge_does();
     a_verdict_blocks_what_the_list_refuses();

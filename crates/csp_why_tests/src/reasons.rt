@@ -12,7 +12,7 @@ use std::test::Fail;
 // near token.
 type Row = (&'static str, &'static str, &'static str);
 
-const IMAGES: [Row; 17] = [
+const IMAGES: [Row; 19] = [
     ("font-src 'none'", "https://cdn.example/x.png", "allows"),
     (
         "default-src *",
@@ -84,6 +84,16 @@ const IMAGES: [Row; 17] = [
         "https://cdn.example/x.png",
         "img-src blocks",
     ),
+    (
+        "img-src 'self'",
+        "https://a.example:8443/x.png",
+        "img-src blocks 0 port",
+    ),
+    (
+        "img-src 'self'",
+        "http://a.example/x.png",
+        "img-src blocks 0 scheme",
+    ),
     ("img-src *", "data:,", "img-src blocks"),
     (
         "img-src 'none'",
@@ -130,7 +140,7 @@ const SCRIPTS: [Row; 10] = [
     (
         "script-src 'sha256-abc'",
         r#""integrity":"sha256-d sha256-abc","parser-inserted":true"#,
-        "script-src blocks",
+        "script-src blocks 0 integrity",
     ),
     (
         "script-src cdn.example 'sha256-abc'",
@@ -156,7 +166,7 @@ const SCRIPTS: [Row; 10] = [
 ];
 
 // Descriptions of other kinds. The hash is the digest of the empty text.
-const OTHERS: [Row; 24] = [
+const OTHERS: [Row; 26] = [
     (
         "script-src 'unsafe-inline'",
         SCRIPT,
@@ -258,7 +268,21 @@ const OTHERS: [Row; 24] = [
         WORKER_START,
         "sandbox allows capability 0",
     ),
-    ("sandbox allow-scripts", WORKER_START, "sandbox blocks"),
+    (
+        "sandbox allow-scripts",
+        WORKER_START,
+        "sandbox blocks 0 allow-same-origin",
+    ),
+    (
+        "sandbox allow-forms ALLOW-same-origin",
+        WORKER_START,
+        "sandbox blocks 1 allow-scripts",
+    ),
+    (
+        "connect-src https:",
+        r#"{"kind":"fetch","destination":"","url":"wss://b.example/"}"#,
+        "connect-src blocks 0 scheme",
+    ),
     (
         "script-src 'strict-dynamic'",
         r#"{"kind":"fetch","destination":"worker","url":"https://a.example/w.js","parser-inserted":false}"#,
