@@ -83,14 +83,14 @@ of_required o (Ok list) c is = by (required_of list) refl is where
       subst (IsReadFrom o) same (only_is_enforced list.policies policy so)
   by None so e = absurd (cc e)
 
-of_response : (o : Origin) (bytes : List ℕ) (c : Content)
-    → response_content bytes (read_list o role.Response bytes) ≡ Ok c → IsReadFrom o c
-of_response o bytes c is = by (read_list o role.Response bytes) refl is where
-  by : (found : Result PolicyList Fault) → read_list o role.Response bytes ≡ found → response_content bytes found ≡ Ok c
+of_response : (o : Origin) (file : Role) (bytes : List ℕ) (c : Content)
+    → response_content bytes (read_list o file bytes) ≡ Ok c → IsReadFrom o c
+of_response o file bytes c is = by (read_list o file bytes) refl is where
+  by : (found : Result PolicyList Fault) → read_list o file bytes ≡ found → response_content bytes found ≡ Ok c
       → IsReadFrom o c
   by (Ok list) read e =
       let same : content.Response bytes list ≡ c = cc e in
-      subst (IsReadFrom o) same (of_bytes o role.Response bytes list read)
+      subst (IsReadFrom o) same (of_bytes o file bytes list read)
   by (Err f) read e = absurd (cc e)
 
 of_within : (o : Origin) (file : Role) (bytes : List ℕ) (c : Content) → read_within o file bytes ≡ Ok c
@@ -98,12 +98,13 @@ of_within : (o : Origin) (file : Role) (bytes : List ℕ) (c : Content) → read
 of_within o role.Policy bytes c is = of_policies o role.Policy bytes c is
 of_within o role.Requests bytes c is =
     let same : content.Requests bytes ≡ c = cc is in subst (IsReadFrom o) same tt
+of_within o role.Block bytes c is = of_response o role.Block bytes c is
 of_within o role.First bytes c is = of_policies o role.First bytes c is
 of_within o role.Second bytes c is = of_policies o role.Second bytes c is
 of_within o role.Proof bytes c is =
     let same : content.Proof bytes ≡ c = cc is in subst (IsReadFrom o) same tt
 of_within o role.Required bytes c is = of_required o (read_list o role.Required bytes) c is
-of_within o role.Response bytes c is = of_response o bytes c is
+of_within o role.Response bytes c is = of_response o role.Response bytes c is
 of_within o (role.List number) bytes c is = of_policies o (role.List number) bytes c is
 
 of_start : (o : Origin) (file : Role) (start : Start) (c : Content) → found_of o file start ≡ Ok c → IsReadFrom o c
