@@ -34,9 +34,9 @@ const isElement = ({ request: { type } }) => type === 'script' || type === 'styl
  */
 const sourcesFor = async (program, lines, alike) => {
   const found = /** @type {Map<unknown, string[]>} */ (new Map()), headers = new PolicyList(lines);
-  const texts = alike.map(({ item: { request: { source, url, urls } } }) => JSON.stringify([source, url, urls]));
-  if (new Set(texts).size > MOST) return found;
-  const needs = await Promise.all(alike.map(({ item, items: [{ effective }] }) => needOf(item, effective, WISH)));
+  const texts = new Set(alike.map(it => describe(it.item.request).of));
+  if (texts.size > MOST) return found;
+  const needs = await Promise.all(alike.map(({ item, items: [first] }) => needOf(item, first.effective, WISH)));
   alike.forEach(({ items }, n) => {
     if (needs[n].sources.length > 0) for (const it of items) headers.add(it, needs[n].sources);
   });
@@ -54,19 +54,21 @@ const sourcesFor = async (program, lines, alike) => {
 const addedTo = async (program, { page, judged }) => {
   const found = /** @type {Map<unknown, string[]>} */ (new Map());
   const own = new PolicyList(page.lines).policies.length;
-  const not = judged.filter(({ answer: { items } }) => items.length > 0 && items.every(it => it.policy < own));
+  const not = judged.filter(({ answer: { items } }) =>
+    items.length > 0 && items.every(it => it.policy < own));
   const items = itemsOf([{ ...page, role: 'page', pieces: not.map(it => it.piece) }], [], 'addition');
   const all = items.map((item, n) => ({ item, items: not[n].answer.items }));
   const groups = groupedBy(all, ({ item: { request }, items: [{ effective }] }) =>
     [effective, describe(request).what, request.kind === 'inline' ? '' : hostOf(request)].join('\n'));
   for (const alike of groups) {
-    for (const [request, sources] of await sourcesFor(program, page.lines, alike)) found.set(request, sources);
+    const sources = await sourcesFor(program, page.lines, alike);
+    for (const [request, of] of sources) found.set(request, of);
   }
   return found;
 };
 
 /**
- * Whether something else can be done about a piece for which there are sources: an element can have the nonce.
+ * Whether more can be done about a piece for which there are sources: an element can have the nonce.
  * @param {Piece} piece
  * @param {readonly string[]} lines
  */
