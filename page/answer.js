@@ -21,7 +21,8 @@
 
 /**
  * @typedef {{ kind: 'paragraph', text: Text }} Paragraph
- * @typedef {{ kind: 'list', head: Text, items: readonly Text[], isFolded?: boolean, isOrdered?: boolean }} List
+ * @typedef {{ kind: 'list', head: Text, items: readonly Text[], isFolded?: boolean,
+ *   isOrdered?: boolean }} List
  * @typedef {{ kind: 'table', head: Text, columns: string[], rows: Cell[][], isFolded?: boolean }} Table
  * @typedef {{ kind: 'code', head: Text, text: string, file?: string, isFolded?: boolean }} Code
  * @typedef {{ kind: 'groups', head: Text, groups: Group[], isFolded?: boolean }} Groups
@@ -90,7 +91,7 @@ export const number = count => count.toLocaleString('en');
  */
 export const counted = (count, noun) => `${number(count)} ${noun}${count === 1 ? '' : 's'}`;
 
-const ORDINALS = ['first', 'second', 'third', 'fourth', 'fifth', 'sixth', 'seventh', 'eighth', 'ninth', 'tenth'];
+const ORDINALS = ['first', 'second', 'third', 'fourth', 'fifth', 'sixth', 'seventh', 'eighth'];
 
 /** @param {number} policy counted from 0 */
 export const ordinal = policy => ORDINALS[policy] ?? `${policy + 1}th`;

@@ -47,7 +47,8 @@ export class Asking {
   }
 
   async #begun() {
-    const blob = new Blob([this.#code], { type: 'text/javascript' }), worker = new Worker(URL.createObjectURL(blob));
+    const blob = new Blob([this.#code], { type: 'text/javascript' });
+    const worker = new Worker(URL.createObjectURL(blob));
     worker.addEventListener('message', ({ data }) => this.#heard(data));
     worker.addEventListener('error', event => this.#failed(event.message));
     worker.postMessage({ module: await this.#module });

@@ -69,7 +69,8 @@ const blockedRows = rows => groupedBy(rows, it => `${it.action}\n${it.because}`)
 });
 
 /** @param {Audit['known'][0]} known */
-const knownText = ({ directive, token, said }) => `${token === null ? directive : `${directive} ${token}`}: ${said}`;
+const knownText = ({ directive, token, said }) =>
+  `${token === null ? directive : `${directive} ${token}`}: ${said}`;
 
 /** @param {Audit} audit */
 const blocksOf = ({ rows, known }) => {

@@ -78,7 +78,8 @@ class Summary {
   get sentence() {
     const { counts: { all, blocked }, alone, answers } = this;
     if (alone.length > 0) {
-      return answers.length === 0 ? say('eventsAlone', alone.length) : say('browserAlone', alone.length, blocked, all);
+      return answers.length === 0 ? say('eventsAlone', alone.length)
+        : say('browserAlone', alone.length, blocked, all);
     }
     if (all === 0) return say('nothingJudged');
     return blocked === 0 ? say('noneBlocked', all, this.where) : say('someBlocked', blocked, all, this.where);
@@ -103,7 +104,8 @@ class Summary {
 const pagesBlock = answers => {
   const rows = answers.filter(asksAnything).map(it => {
     const { all, blocked, reported } = countsOf([it]), { role = 'page' } = it.page;
-    return [`${role === 'page' ? '' : `${role} `}${nameOf(it.page)}`, ...[blocked, reported, all].map(String)];
+    const name = role === 'page' ? nameOf(it.page) : `${role} ${nameOf(it.page)}`;
+    return [name, ...[blocked, reported, all].map(String)];
   });
   return rows.length < 2 ? [] : table(say('byPage'), ['Page', 'Blocked', 'Reported', 'Of'], rows);
 };
@@ -138,7 +140,7 @@ const rowsOf = async (program, answers) => {
   const rows = /** @type {Row[]} */ ([]);
   for (const it of answers) {
     const allowing = await allowingOf(program, it), { page } = it;
-    rows.push(...it.judged.map(({ piece, answer }) => ({ page, piece, answer, allowing: allowing.get(piece) })));
+    rows.push(...it.judged.map(of => ({ page, ...of, allowing: allowing.get(of.piece) })));
   }
   return rows;
 };
@@ -163,7 +165,8 @@ export const blocked = async (program, given, tell) => {
     tell(n, pages.length);
     return askOfPage(program, page, why);
   });
-  const beside = besideBrowser(answers, events.flatMap(it => it.rows)), summary = new Summary(answers, beside);
+  const beside = besideBrowser(answers, events.flatMap(it => it.rows));
+  const summary = new Summary(answers, beside), columns = ['Times', 'What', 'Allowed by'];
   const rows = await rowsOf(program, answers), not = rows.filter(it => it.answer.items.length > 0);
   const allowed = allowedRows(rows.filter(it => it.answer.items.length === 0));
   return {
@@ -171,7 +174,7 @@ export const blocked = async (program, given, tell) => {
     blocks: [
       ...readingBlocksOf(given), ...aloneBlock(beside), ...grouped(say('notAllowed'), groupsOf(not)),
       ...untoldBlock(beside, answers), ...pagesBlock(answers), ...pageMatrix(program, answers),
-      ...table(say('allowed', rows.length - not.length), ['Times', 'What', 'Allowed by'], allowed, { isFolded: true }),
+      ...table(say('allowed', rows.length - not.length), columns, allowed, { isFolded: true }),
       ...summary.enforced.length > 0 ? recipe() : [],
     ],
     data: dataOf(answers, beside),

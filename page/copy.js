@@ -9,15 +9,15 @@ import { textOf } from './answer.js';
 
 /**
  * How the parts of a text are written.
- * @typedef {{ head: (text: string) => string[], item: (text: string, n?: number) => string,
+ * @typedef {{ head: (text: string) => string[], item: (text: string, n?: number | false) => string,
  *   code: (text: string) => string[], table: (columns: string[], rows: Cell[][]) => string[],
  *   plain: (text: string) => string }} Style
  */
 
 const GAP = '  ';
 
-/** @param {number} [n] */
-const pointOf = n => n === undefined ? '-' : `${n}.`;
+/** @param {number | false} [n] */
+const pointOf = n => n ? `${n}.` : '-';
 
 /** @type {Style} */
 const TEXT = {
@@ -59,9 +59,11 @@ const MARKDOWN = {
  * @param {Style} style
  */
 const groupLines = ({ badge, directive, of, count, because, todo, columns, rows }, style) => {
-  const what = [directive, of].filter(it => it !== '').join(', '), times = count > 1 ? ` (${count} times)` : '';
+  const what = [directive, of].filter(it => it !== '').join(', ');
+  const times = count > 1 ? ` (${count} times)` : '';
+  const lines = [...because, ...todo].map(it => `  ${style.plain(textOf(it))}`);
   return [
-    style.item(`${badge}: ${what}${times}`), ...[...because, ...todo].map(it => `  ${style.plain(textOf(it))}`),
+    style.item(`${badge}: ${what}${times}`), ...lines,
     ...rows.length === 0 ? [] : ['', ...style.table(columns, rows), ''],
   ];
 };
@@ -85,7 +87,7 @@ const blockLines = (block, style) => {
   const head = style.head(textOf(block.head));
   switch (block.kind) {
     case 'list':
-      return [...head, ...block.items.map((it, n) => style.item(textOf(it), block.isOrdered ? n + 1 : undefined))];
+      return [...head, ...block.items.map((it, n) => style.item(textOf(it), block.isOrdered && n + 1))];
     case 'table': return [...head, ...style.table(block.columns, block.rows)];
     case 'code': return [...head, ...style.code(block.text)];
     case 'groups': return [...head, ...block.groups.flatMap(it => groupLines(it, style))];

@@ -34,7 +34,8 @@ const LONGEST = 50_000;
 /** @param {File} file */
 const textField = ({ id, name, kind, text }) => {
   if (kind === 'reports' || text.length > LONGEST) return [];
-  const attributes = { 'data-text': String(id), rows: '8', spellcheck: 'false', 'aria-label': `The text of ${name}` };
+  const label = `The text of ${name}`;
+  const attributes = { 'data-text': String(id), 'rows': '8', 'spellcheck': 'false', 'aria-label': label };
   const area = element('textarea', attributes);
   /** @type {HTMLTextAreaElement} */ (area).value = text;
   return [element('details', {}, element('summary', {}, 'Its text'), area)];
@@ -45,7 +46,8 @@ const textField = ({ id, name, kind, text }) => {
  * @param {string} said
  */
 const fileItem = (file, said) => {
-  const attributes = { 'type': 'button', 'data-remove': String(file.id), 'aria-label': `Remove ${file.name}` };
+  const label = `Remove ${file.name}`;
+  const attributes = { 'type': 'button', 'data-remove': String(file.id), 'aria-label': label };
   const remove = element('button', attributes, 'Remove');
   const head = element('p', {}, element('strong', {}, file.name), `: ${said} `, remove);
   return element('li', {}, head, ...file.kind === 'html' ? addressField(file) : [], ...textField(file));

@@ -1,4 +1,4 @@
-/** What was given, in any form: headers, pages, recordings, reports and requests; and what it was taken for. */
+/** What was given, in any form: headers, pages, recordings, reports, requests; and what it was taken for. */
 import { readHeaders } from '../js/readers/headers.js';
 import { parseHtml } from '../js/readers/parse5.js';
 import { kindOf, readSite } from '../js/readers/site.js';
@@ -108,8 +108,9 @@ export class Given {
   /** @returns {Site} */
   get site() {
     const all = this.files.filter(it => it.kind !== 'reports').map(it => this.siteOf(it));
-    const [pages, events, left] = [all.flatMap(it => it.pages), all.flatMap(it => it.events), all.flatMap(it => it.left)];
-    return { pages, events, left };
+    return {
+      pages: all.flatMap(it => it.pages), events: all.flatMap(it => it.events), left: all.flatMap(it => it.left),
+    };
   }
 
   get logs() {

@@ -30,7 +30,8 @@ const placeOf = ({ file, page, line, isReport, count }) => {
 const COLUMNS = ['What', 'Where', 'Its hash'];
 
 /** @param {Row} row */
-const cellsOf = row => [`${row.said}${row.isPossible ? ' (perhaps)' : ''}`, placeOf(row), code(row.hash ?? '')];
+const cellsOf = row =>
+  [`${row.said}${row.isPossible ? ' (perhaps)' : ''}`, placeOf(row), code(row.hash ?? '')];
 
 /**
  * @param {Row[]} rows with the same advice
@@ -66,7 +67,8 @@ export const endingSentence = ({ before, after, additions }) => {
 /** @param {Proposal} proposal */
 const madeSentences = proposal => {
   const { form, asked, after, nonces } = proposal, left = sumOf(after), isThen = nonces.length > 0;
-  const all = countText(asked), still = left === 0 ? say('noneStill', all, isThen) : say('someStill', left, all, isThen);
+  const all = countText(asked);
+  const still = left === 0 ? say('noneStill', all, isThen) : say('someStill', left, all, isThen);
   return form === 'addition' ? [endingSentence(proposal), still] : [still];
 };
 
@@ -98,6 +100,7 @@ export const make = async (program, { left, ...given }) => {
   return {
     mood: isLeft ? 'bad' : 'warn', sentence,
     more: [...gaps, ...more, ...kept.length > 0 ? [say('kept', kept.join('; '))] : [], ...cautions],
-    blocks: blocksOf(proposal), unseen: [...leftTexts([...left, ...proposal.left]), ...unseen], data: proposal,
+    unseen: [...leftTexts([...left, ...proposal.left]), ...unseen], blocks: blocksOf(proposal),
+    data: proposal,
   };
 };

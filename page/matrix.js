@@ -239,7 +239,8 @@ const MOST_PICTURES = 4;
  * @returns {Block[]}
  */
 export const pageMatrix = (program, answers, alone) => {
-  if (alone !== undefined) return alone.lines.length === 0 ? [] : [matrixOf(program, { ...alone, name: '' }, [])];
+  if (alone?.lines.length === 0) return [];
+  if (alone !== undefined) return [matrixOf(program, { ...alone, name: '' }, [])];
   const pages = answers.filter(({ page: { role = 'page', lines, meta } }) =>
     role === 'page' && lines.length + meta.length > 0);
   const groups = groupedBy(pages, ({ page }) => [page.origin, ...page.lines, ...page.meta].join('\n'));

@@ -17,7 +17,7 @@ const OWN = [
 export const own = async (program, { html }) => {
   const page = readHtml(html, { url: 'https://page.invalid/', parse: parseHtml }), { meta } = page;
   const more = OWN.map(request => ({ request, meta, said: request.note }));
-  const pieces = [...page.pieces.filter(it => it.request.kind !== 'wasm'), ...more];
+  const pieces = [...page.pieces.filter(it => !it.possible), ...more];
   const site = { pages: [{ ...page, pieces, file: 'this page', url: '' }], events: [], left: [] };
   const given = { site, origin: 'null', reading: { name: 'this page', lines: meta, left: [] } };
   return [await blocked(program, given, () => {}), attacker(program, given)];

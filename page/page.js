@@ -44,7 +44,8 @@ const select = id => {
 /** @param {KeyboardEvent} event */
 const tabKeys = event => {
   const at = TABS.findIndex(it => it.id === state.tab), last = TABS.length - 1;
-  const to = { ArrowRight: at === last ? 0 : at + 1, ArrowLeft: at === 0 ? last : at - 1, Home: 0, End: last }[event.key];
+  const next = at === last ? 0 : at + 1, before = at === 0 ? last : at - 1;
+  const to = { ArrowRight: next, ArrowLeft: before, Home: 0, End: last }[event.key];
   if (to === undefined) return;
   event.preventDefault();
   select(TABS[to].id);
@@ -55,7 +56,8 @@ const tabKeys = event => {
  * @param {string} name
  * @param {string} text
  */
-const save = (name, text) => element('a', { href: URL.createObjectURL(new Blob([text])), download: name }).click();
+const save = (name, text) =>
+  element('a', { href: URL.createObjectURL(new Blob([text])), download: name }).click();
 
 const makeLink = () => {
   const hash = linkOf(kept()), isWhole = state.files.every(it => it.kind !== 'reports');
@@ -97,8 +99,8 @@ const written = ({ target }) => {
   const { url, text } = target.dataset;
   if (target.id === 'paste' || target.id === 'open' || target.id.startsWith('one-')) return;
   if (['headers', 'newer', 'origin'].includes(target.id)) setField(target.id, target.value);
-  if (url !== undefined) target.dataset.url = String(changeFile(Number(url), { url: target.value.trim() || undefined }));
-  if (text !== undefined) target.dataset.text = String(changeFile(Number(text), { text: target.value }));
+  if (url !== undefined) target.dataset.url = changeFile(Number(url), { url: target.value.trim() || undefined });
+  if (text !== undefined) target.dataset.text = changeFile(Number(text), { text: target.value });
   changed();
   if (target.name === 'further') select('more');
   else if (['headers', 'newer'].includes(target.id)) describeSoon();
@@ -187,8 +189,8 @@ const begin = async () => {
     state.revision += 1;
     show();
   });
-  const csp = (/** @type {string[]} */ words, /** @type {any[]} */ files) => asking.ask('call', { words, files });
-  Object.assign(window, { csp });
+  const call = (/** @type {string[]} */ words, /** @type {any[]} */ files) => asking.ask('call', { words, files });
+  Object.assign(window, { csp: call });
   await show();
   await judgeItself(html);
   document.body.dataset.own = 'judged';

@@ -34,8 +34,8 @@ export const placeOf = ({ page, piece: { line, column } }) => {
 
 /** @param {Piece} piece as `image cdn.example.net` and `event handler` */
 const whatOf = ({ request }) => {
-  const { what } = describe(request), host = request.kind === 'inline' ? '' : hostOf(request);
-  return `${what} ${host}`.trim();
+  const { what, of } = describe(request), { kind } = request;
+  return `${what} ${kind === 'capability' ? of : kind === 'inline' ? '' : hostOf(request)}`.trim();
 };
 
 /** @param {Piece} piece the begin of its code, or what it asks for */

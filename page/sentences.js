@@ -16,7 +16,8 @@ const others = count => count === 0 ? '' : ` ${counted(count, 'other thing')} ${
  * @param {number} shown
  * @param {number} hosts
  */
-const byHosts = (head, shown, hosts) => hosts > shown ? `${head}: the first ${shown} of ${hosts} hosts` : head;
+const byHosts = (head, shown, hosts) =>
+  hosts > shown ? `${head}: the first ${shown} of ${hosts} hosts` : head;
 
 /** @typedef {number} N */
 /** @typedef {string} T */
@@ -29,22 +30,24 @@ const BLOCKED = {
     `${number(blocked)} of ${counted(all, 'request')}${where} ${are(blocked)} blocked.`,
   /** @type {(alone: N, blocked: N, all: N) => T} */
   browserAlone: (alone, blocked, all) =>
-    `The browser tells of ${counted(alone, 'violation')} that ${alone === 1 ? "isn't" : "aren't"} in this answer.`
-    + ` Of ${counted(all, 'request')} that ${all === 1 ? 'was' : 'were'} given, ${number(blocked)} ${are(blocked)} blocked.`,
+    `The browser tells of ${counted(alone, 'violation')} that ${are(alone)} not in this answer. Of`
+    + ` ${counted(all, 'request')} that ${all === 1 ? 'was' : 'were'} given, ${number(blocked)} ${are(blocked)}`
+    + ' blocked.',
   /** @type {(count: N) => T} */
   eventsAlone: count =>
     `The browser tells of ${counted(count, 'violation')}. No page was given, so nothing else was judged.`,
   nothingJudged: () => 'Nothing was given that a page loads or runs, so nothing was judged.',
   giveAPage: () =>
     'Drop a HAR or the HTML of the page, paste the lines of its console, or ask about one request.',
-  recordedEnforced: () => `${ENFORCED[0].toUpperCase()}${ENFORCED.slice(1)}. So more may be blocked than stands`
-    + ' here; below stands how to record without the policy.',
+  recordedEnforced: () => `${ENFORCED[0].toUpperCase()}${ENFORCED.slice(1)}.`
+    + ' So more may be blocked than stands here; below stands how to record without the policy.',
   /** @type {(count: N) => T} */
   perhapsBlocked: count => `Of these ${number(count)} may not happen: the page names`
     + ` ${count === 1 ? 'it' : 'them'}, and a browser may do without.`,
   /** @type {(count: N, blocked: N) => T} */
   wouldBlock: (count, blocked) =>
-    `${number(count)}${blocked > 0 ? ' more' : ''} would be blocked, if policies that only report were enforced.`,
+    `${number(count)}${blocked > 0 ? ' more' : ''} would be blocked,`
+    + ' if policies that only report were enforced.',
   /** @type {(name: T) => T} */
   decidesNothing: name =>
     `No enforced policy decides anything on ${name}: nothing is blocked there, whatever it loads.`,
@@ -53,7 +56,8 @@ const BLOCKED = {
     + `${names.slice(0, 3).join(', ')}${names.length > 3 ? ` and ${names.length - 3} more` : ''}.`,
   /** @type {(all: N, same: N) => T} */
   browserTells: (all, same) =>
-    `The browser tells of ${counted(all, 'violation')}: ${number(same)} of them ${are(same)} in this answer too.`,
+    `The browser tells of ${counted(all, 'violation')}:`
+    + ` ${number(same)} of them ${are(same)} in this answer too.`,
   toldAlone: () => 'What the browser tells of, and this answer doesn\'t',
   notGiven: () => 'Nothing of this was given, so this answer says nothing of it.',
   saysOther: () => 'This answer says that it is allowed, but the browser says otherwise.',
@@ -85,7 +89,8 @@ const BLOCKED = {
   /** @type {(advice: T) => T} */
   better: advice => `Better: ${advice}.`,
   /** @type {(name: T, shown: N, hosts: N) => T} */
-  matrix: (name, shown, hosts) => byHosts(`Directives by hosts${name === '' ? '' : ` on ${name}`}`, shown, hosts),
+  matrix: (name, shown, hosts) =>
+    byHosts(`Directives by hosts${name === '' ? '' : ` on ${name}`}`, shown, hosts),
   /** @type {(shown: N, hosts: N) => T} */
   changeMatrix: (shown, hosts) => byHosts('Directives by hosts, before and after', shown, hosts),
 };
@@ -96,15 +101,15 @@ const ATTACKER = {
   /** @type {(ways: N, rest: N) => T} */
   runsCode: (ways, rest) => `Injected markup could run code, in ${counted(ways, 'way')}.${others(rest)}`,
   /** @type {(ways: N, rest: N) => T} */
-  runsHosted: (ways, rest) => 'Injected markup couldn\'t run code by itself, but with a file on an allowed host it'
-    + ` could, in ${counted(ways, 'way')}.${others(rest)}`,
+  runsHosted: (ways, rest) => 'Injected markup couldn\'t run code by itself,'
+    + ` but with a file on an allowed host it could, in ${counted(ways, 'way')}.${others(rest)}`,
   /** @type {(rest: N) => T} */
   noCode: rest => `Injected markup couldn't run code.${others(rest)}`,
   nothingPossible: () =>
     'Nothing of what was tried is possible to injected markup, or to a site that frames the page.',
   /** @type {(origin: T) => T} */
-  attackerOf: origin => `${onPage(origin)}, for an attacker who writes markup into it and knows no nonce. One host`
-    + ' that no policy names stands for all of them, one script without a nonce for all.',
+  attackerOf: origin => `${onPage(origin)}, for an attacker who writes markup into it and knows no nonce.`
+    + ' One host that no policy names stands for all of them, one script without a nonce for all.',
   /** @type {(count: N) => T} */
   possible: count => `What is possible (${number(count)})`,
   /** @type {(count: N) => T} */
@@ -131,9 +136,11 @@ const WEAKER = {
   /** @type {(origin: T) => T} */
   oneShown: origin => `${onPage(origin)}. One request is shown for each directive; there may be more.`,
   /** @type {(origin: T) => T} */
-  coversAll: origin => `${onPage(origin)}. The proof covers every request, whatever its host, nonce and code.`,
+  coversAll: origin =>
+    `${onPage(origin)}. The proof covers every request, whatever its host, nonce and code.`,
   /** @type {(names: T) => T} */
-  noncesRenamed: names => `The nonces are taken for those of two responses, and compared as the same: ${names}.`,
+  noncesRenamed: names =>
+    `The nonces are taken for those of two responses, and compared as the same: ${names}.`,
   /** @type {(old: N, newer: N) => T} */
   noncesUnmatched: (old, newer) => `The nonces can't be matched: ${old} before, ${newer} now.`
     + ' What carries a nonce of the new headers is new.',
@@ -180,7 +187,8 @@ const REPORTED = {
   /** @type {(count: N, kinds: N) => T} */
   violations: (count, kinds) => `${counted(count, 'violation')} of ${counted(kinds, 'kind')}.`,
   /** @type {(count: N, all: N) => T} */
-  stillReports: (count, all) => `The headers would still report ${number(count)} of ${counted(all, 'violation')}.`,
+  stillReports: (count, all) =>
+    `The headers would still report ${number(count)} of ${counted(all, 'violation')}.`,
   notAllRead: () => 'Not all of what was given was read as reports: what wasn\'t stands beside this.',
   endedNotAll: () =>
     'That these reports would end isn\'t all: other visitors, pages and browsers may report other things.',

@@ -77,10 +77,10 @@ const matrixOf = ({ head, columns, rows, signs }) => {
     element('tr', {}, element('th', { scope: 'row' }, it.directive), ...it.signs.map(signCell)));
   const table = element('table', {}, told('caption', head),
     element('thead', {}, element('tr', {}, element('td'), ...heads)), element('tbody', {}, ...body));
-  const wide = element('div', { class: 'wide', tabindex: '0', role: 'group', 'aria-label': textOf(head) }, table);
+  const attributes = { 'class': 'wide', 'tabindex': '0', 'role': 'group', 'aria-label': textOf(head) };
   const key = signs.map(({ sign, mood = 'plain', means }) =>
     element('li', {}, element('span', { class: mood }, sign), ` ${means}`));
-  return element('figure', { class: 'matrix' }, wide, element('ul', { class: 'key' }, ...key));
+  return element('figure', { class: 'matrix' }, element('div', attributes, table), element('ul', { class: 'key' }, ...key));
 };
 
 /** @param {import('./answer.js').Code} block */
@@ -121,7 +121,8 @@ export const shown = ({ mood, sentence, more, blocks, unseen }) => {
     ...more.map(it => told('p', it)));
   const aside = element('aside', { 'aria-label': UNSEEN }, element('h3', {}, UNSEEN),
     element('ul', {}, ...unseen.map(it => told('li', it))));
-  const copies = ['text', 'Markdown', 'JSON'].map(it => button(it, { 'data-as': it }));
-  return element('div', {}, says, element('p', { class: 'buttons copies' }, 'Copy this answer as ', ...copies),
+  const copies = element('p', { class: 'buttons copies' }, 'Copy this answer as ',
+    ...['text', 'Markdown', 'JSON'].map(it => button(it, { 'data-as': it })));
+  return element('div', {}, says, copies,
     ...unseen.length === 0 ? [] : [aside], ...blocks.map(blockOf));
 };

@@ -10,7 +10,8 @@ import { addFile, question, raw, setField, state } from './state.js';
  */
 
 const NAMELESS = {
-  har: 'pasted.har', html: 'page.html', requests: 'requests.json', events: 'console.txt', reports: 'reports.json',
+  har: 'pasted.har', html: 'page.html', requests: 'requests.json', events: 'console.txt',
+  reports: 'reports.json',
 };
 
 /** @param {Omit<File, 'id'>} file a name that no other file has */

@@ -25,7 +25,8 @@ const cellsOf = ({ violation: { blocked, page, file, line, sample } }) => {
  * @returns {Group}
  */
 const groupOf = all => {
-  const [{ violation: { directive, blocked, disposition }, piece }] = all, isReport = disposition === 'report';
+  const [{ violation: { directive, blocked, disposition }, piece }] = all;
+  const isReport = disposition === 'report';
   return {
     mood: isReport ? 'warn' : 'bad', badge: isReport ? 'reported' : 'blocked', directive, of: hostIn(blocked),
     count: all.length, because: [say(piece === undefined ? 'notGiven' : 'saysOther')], todo: [],
@@ -50,11 +51,13 @@ export const aloneBlock = beside =>
  * @param {PageAnswer[]} answers
  */
 export const untoldBlock = (beside, answers) => {
-  const said = new Set(beside.map(it => it.piece)), pages = new Set(beside.map(it => keyOf(it.violation.page)));
+  const said = new Set(beside.map(it => it.piece));
+  const pages = new Set(beside.map(it => keyOf(it.violation.page)));
   const rows = answers.filter(it => pages.has(keyOf(it.page.url)) || pages.has(''))
     .flatMap(({ page, judged }) => judged.map(it => ({ page, ...it })))
     .filter(({ piece, answer }) => answer.items.length > 0 && !said.has(piece))
     .map(it => [it.answer.blocked ? 'blocked' : 'reported', code(it.answer.items[0].effective),
       sampleOf(it.piece), placeOf(it)]);
-  return table(say('untold', rows.length), ['This answer', 'Directive', 'Which', 'Where'], rows, { isFolded: true });
+  const columns = ['This answer', 'Directive', 'Which', 'Where'];
+  return table(say('untold', rows.length), columns, rows, { isFolded: true });
 };

@@ -48,7 +48,8 @@ const uncoveredBlock = ({ uncovered }) => {
 };
 
 const CHANGES = /** @type {Record<string, Cell>} */ ({
-  weaker: { text: 'weaker', mood: 'bad' }, both: { text: 'weaker and stricter', mood: 'bad' }, stricter: 'stricter',
+  weaker: { text: 'weaker', mood: 'bad' }, both: { text: 'weaker and stricter', mood: 'bad' },
+  stricter: 'stricter',
 });
 
 /**
@@ -76,8 +77,8 @@ const auditBlock = ({ before, after }) => {
     const [was, is] = [before, after].map(it => it.rows.find(row => row.id === id)), row = is ?? was;
     if (row === undefined || was?.can === is?.can) return [];
     const isWorse = is !== undefined && is.can !== 'no' && (was === undefined || was.can === 'no');
-    const mood = isWorse ? /** @type {const} */ ('bad') : undefined;
-    return [[`${row.action} ${row.from ?? ''}`.trim(), was?.can ?? 'not named', { text: is?.can ?? 'not named', mood }]];
+    const now = { text: is?.can ?? 'not named', ...isWorse && { mood: /** @type {const} */ ('bad') } };
+    return [[`${row.action} ${row.from ?? ''}`.trim(), was?.can ?? 'not named', now]];
   });
   const left = counted(ids.length - rows.length, 'thing');
   if (rows.length === 0) return [{ kind: 'paragraph', text: say('attackerSame', left) }];
@@ -87,7 +88,8 @@ const auditBlock = ({ before, after }) => {
 /** @param {Weakening} answer */
 const noncesOf = ({ nonces, directives }) => {
   const names = joined(nonces.renamed.map(({ from, to }) => `${from} as ${to}`));
-  const hasNew = directives.some(({ allowed }) => allowed && 'nonce' in allowed.request && allowed.request.nonce);
+  const hasNew = directives.some(({ allowed }) =>
+    allowed && 'nonce' in allowed.request && allowed.request.nonce);
   return [
     ...names === '' ? [] : [say('noncesRenamed', names)],
     ...hasNew && nonces.old !== nonces.new ? [say('noncesUnmatched', nonces.old, nonces.new)] : [],

@@ -1,4 +1,4 @@
-/** Whether a page may be framed: by `frame-ancestors`, and by X-Frame-Options where no enforced policy has that. */
+/** Whether a page may be framed: by `frame-ancestors`, and by X-Frame-Options where nothing enforces that. */
 import { why } from '../../js/index.js';
 import { PolicyList } from '../../js/propose/policy.js';
 import { Refusal } from '../../js/refusal.js';
@@ -67,7 +67,8 @@ const optionsTold = (options, values, isIgnored) => {
 
 /**
  * @param {import('../../js/index.js').Program} program
- * @param {{ embedder: string, origin: string, response: string, reading: import('../reading.js').Reading }} given
+ * @param {{ embedder: string, origin: string, response: string,
+ *   reading: import('../reading.js').Reading }} given
  * @returns {import('../answer.js').Answer}
  */
 export const framed = (program, { embedder, origin, response, reading }) => {
@@ -75,11 +76,13 @@ export const framed = (program, { embedder, origin, response, reading }) => {
   const [reason] = why(program, { origin, headers, requests: [{ kind: 'ancestors', ancestors }] });
   const values = valuesIn(response), isIgnored = hasAncestors(reading.lines);
   const options = frameOptions(values, ancestors, origin), isStopped = !isIgnored && options === 'blocks';
-  const tokens = reason.policies.filter(it => it.directive === 'frame-ancestors').flatMap(it => it.token ?? []);
+  const deciding = reason.policies.filter(it => it.directive === 'frame-ancestors');
+  const tokens = deciding.flatMap(it => it.token ?? []);
   const sentence = reason.blocked ? say('framedByPolicy', embedder)
     : isStopped ? say('framedByOptions', embedder, values.join(', '))
       : isIgnored ? say('framedAllowed', embedder, tokens.join(' and ')) : say('framedUndecided', embedder);
-  const told = optionsTold(options, values, isIgnored), isReported = !reason.blocked && reason.items.length > 0;
+  const told = optionsTold(options, values, isIgnored);
+  const isReported = !reason.blocked && reason.items.length > 0;
   return {
     mood: 'plain', sentence, more: isReported ? [say('framedReported'), ...told] : told,
     blocks: readingBlocks([reading]),

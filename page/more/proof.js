@@ -14,11 +14,16 @@ import { say } from '../sentences.js';
 export const proof = (program, { origin, old: before, new: after, proof: text }) => {
   const question = { origin, new: headersText(after.lines), old: headersText(before.lines), proof: text };
   const engine = check(program, question), second = checkProof(question), data = { engine, second };
-  const told = { more: [say('checkedFor', origin)], blocks: [], unseen: ['report-only policies: not compared'], data };
-  if (engine.accepted !== 'accepted' in second) throw new Error('the two checkers differ: please report this fault');
+  const unseen = ['report-only policies: not compared'];
+  const told = { more: [say('checkedFor', origin)], blocks: [], unseen, data };
+  if (engine.accepted !== 'accepted' in second) {
+    throw new Error('the two checkers differ: please report this fault');
+  }
   if (!engine.accepted) {
     return { ...told, mood: 'bad', sentence: say('rejected', engine.line, textOfLine(text, engine.line)) };
   }
-  const isNothing = blocksNothing(program, { origin, headers: question.old });
-  return { ...told, ...isNothing ? { mood: 'warn', sentence: say('oldNothing') } : { mood: 'good', sentence: say('accepted') } };
+  if (blocksNothing(program, { origin, headers: question.old })) {
+    return { ...told, mood: 'warn', sentence: say('oldNothing') };
+  }
+  return { ...told, mood: 'good', sentence: say('accepted') };
 };

@@ -12,17 +12,21 @@ import { proofBlock, shownText } from '../weaker.js';
  * @returns {import('../answer.js').Answer}
  */
 export const required = (program, { embedder, origin, required: asked, response, reading }) => {
-  const headers = headersText(asked.lines), answer = embed(program, { embedder, origin, required: headers, response });
+  const headers = headersText(asked.lines);
+  const answer = embed(program, { embedder, origin, required: headers, response });
   const told = {
     more: [say('embeddedBy', origin, embedder)], blocks: readingBlocks([asked, reading]), data: answer,
     unseen: ['whether the response may be framed at all: frame-ancestors and X-Frame-Options decide that'],
   };
-  if (answer.answer === 'added') return { ...told, mood: 'warn', sentence: say('requiredAdded', answer.policy) };
+  if (answer.answer === 'added') {
+    return { ...told, mood: 'warn', sentence: say('requiredAdded', answer.policy) };
+  }
   if (answer.answer === 'refused') {
     return { ...told, mood: 'bad', sentence: say('requiredRefused', shownText(answer)) };
   }
-  if (blocksNothing(program, { origin, headers })) return { ...told, mood: 'warn', sentence: say('requiredNothing') };
-  return {
-    ...told, mood: 'good', sentence: say('requiredServed'), blocks: [...told.blocks, ...proofBlock(answer.proof)],
-  };
+  if (blocksNothing(program, { origin, headers })) {
+    return { ...told, mood: 'warn', sentence: say('requiredNothing') };
+  }
+  const blocks = [...told.blocks, ...proofBlock(answer.proof)];
+  return { ...told, mood: 'good', sentence: say('requiredServed'), blocks };
 };
