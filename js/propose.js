@@ -4,6 +4,7 @@
  */
 import { audit } from './audit.js';
 import { compare, tidy } from './calls.js';
+import { directiveText } from './policies.js';
 import { Refusal } from './refusal.js';
 import { additionsOf } from './propose/additions.js';
 import { emptyPolicy, keptOf, withStrictWords } from './propose/base.js';
@@ -116,7 +117,7 @@ const SOURCES = /-src(?:-elem|-attr)?$|^(?:base-uri|form-action|frame-ancestors)
  * @param {string} origin
  * @param {string} headers
  */
-const shorterOf = (program, origin, headers) => {
+export const shorterOf = (program, origin, headers) => {
   const list = new PolicyList(tidy(program, { origin, headers }).headers.trimEnd().split('\n'));
   list.policies.forEach((directives, n) => {
     for (const { name, values } of directives) {
@@ -180,7 +181,7 @@ export const propose = async (program, given) => {
     form, headers, shorter: isOne ? shorterOf(program, origin, headers) : null,
     asked: countsOf(items), before: before && unallowed(before), after: unallowed(after),
     nonces: await rowsOf(judged(program, list.lines, [...edits]), own), blocked: await rowsOf(after, own),
-    additions: groups.map(it => it.addition), kept: kept.map(it => it.text),
+    additions: groups.map(it => it.addition), kept: kept.map(directiveText),
     audit: isOne ? auditOf(program, origin, headers) : null,
     gaps: gapsOf(pages), cautions: cautionsOf({ form, headers, items }), left: leftOf(pages),
     unseen: unseenOf(pages),
