@@ -104,14 +104,3 @@ checks_valid [] valid = All-nil IsValidCheck
 checks_valid (d ∷ log) valid =
     All-append IsValidCheck d.checks (checks_of log) (All-head (λ (d : Described). All IsValidCheck d.checks) d log valid)
     (checks_valid log (All-tail (λ (d : Described). All IsValidCheck d.checks) d log valid))
-
--- what holds of the policy of a log's needs, where there aren't too many, holds of the one that is answered
-pub of_answer : (P : Policy → Type 0) (origin : Origin) (log : List Described) (i : ℕ) (learning : Lesson) (answer : Result Learnt LearnError)
-    → length log ≤ i → learning ≡ lesson_of (take i log) → IfOk answer (λ learnt. learnt.policy ≡ policy_for origin learning.needs)
-    → OnOk answer (length learning.needs ≤ need_limit)
-    → (length (needs_of (checks_of log)) ≤ need_limit → P (policy_for origin (needs_of (checks_of log)))) → IfOk answer (λ learnt. P learnt.policy)
-of_answer P origin log i learning (Ok learnt) past was is few holds =
-    let needs : learning.needs ≡ needs_of (checks_of log) =
-    ap (λ (l : Lesson). l.needs) was ∙ ap (λ (log : List Described). needs_of (checks_of log)) (take_all i log past) in
-    subst P (sym (is ∙ ap (policy_for origin) needs)) (holds (subst (λ (n : List Need). length n ≤ need_limit) needs few))
-of_answer P origin log i learning (Err error) past was is few holds = tt

@@ -17,10 +17,6 @@ abbrev pub is_left : Check → Bool
 is_left (check.Fetch group there redirects nonce integrity parser_inserted) = not (can_be_named there)
 is_left asked = false
 
-abbrev pub IsFetch : Check → Type 0
-IsFetch (check.Fetch group there redirects nonce integrity parser_inserted) = Unit {0}
-IsFetch asked = ⊥
-
 -- the check's place, where it is left
 abbrev pub left_at : ℕ → ℕ → Check → List Place
 left_at request number asked = if is_left asked then record { request = request; check = number } ∷ [] else []
@@ -47,7 +43,3 @@ pub record Lesson : Type 0 where
 -- that of this log
 abbrev pub lesson_of : List Described → Lesson
 lesson_of log = record { needs = needs_of (checks_of log); left = left_of log }
-
--- as many requests as a request file may have
-abbrev pub log_limit : ℕ
-log_limit = 10000

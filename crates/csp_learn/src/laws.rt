@@ -17,7 +17,7 @@ use csp_policy::laws::header_lines_read_back;
 use csp_source::laws::each_token_has_one_source;
 
 /// The needs of checks are a set: a need is among them exactly where some check has it. That each stands once
-/// and in order is said by `learn` and by `Learning::finish`.
+/// and in order is said by `Learning::finish`.
 pub fn needs_are_those_of_checks()
     ensures { (checks : Items Check) (need : Need) → (Contains (spec.needs_of checks) need
         ↔ Any (λ logged. spec.need_of logged ≡ Some need) checks) }

@@ -21,6 +21,11 @@ use std::marker::Model;
 const MOST_NEEDS: usize = 1023;
 
 /// A log that is being read, seen as what is learnt of it.
+///
+/// A fetch needs a source of its effective directive (Content Security Policy Level 3, section 6.8.1): the
+/// scheme, the very host and the port of its URL, or its scheme alone where the URL has no host. A source can
+/// name a host of letters, digits, `-` and dots, where its token has at most 4,096 bytes. Whatever isn't a
+/// fetch is passed over.
 #[derive(Drop)]
 pub struct Learning {
     needs: BTreeSet<Need>,
@@ -95,7 +100,8 @@ impl Learning {
         Ok(())
     }
 
-    /// What is learnt of the requests that were read, with a policy of this origin.
+    /// What is learnt of the requests that were read, with a policy of this origin. `TooManySources` comes
+    /// exactly where more than 1,023 sources are needed.
     pub fn finish(self, alloc: Global, origin: &Origin) -> Result<Learnt, LearnError>
         ensures policy { IfOk result (λ learnt. learnt.policy ≡ policy_for origin.now self.needs) }
         ensures left { IfOk result (λ learnt. learnt.left ≡ self.left) }

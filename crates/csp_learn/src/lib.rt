@@ -7,10 +7,8 @@ mod error;
 pub mod laws;
 mod learning;
 mod learnt;
-mod log;
 mod need;
 
 pub use error::LearnError;
 pub use learning::Learning;
 pub use learnt::{Learnt, Place};
-pub use log::learn;
