@@ -185,6 +185,8 @@ const BUT = /** @type {Record<string, string>} */ ({
   'strict-dynamic': "beside 'strict-dynamic' no URL counts",
   nonce: 'a nonce in the directive makes it void', hash: 'a hash in the directive makes it void',
   'unsafe-hashes': "it needs 'unsafe-hashes' beside it",
+  integrity: 'the other hashes of the metadata are missing',
+  'allow-scripts': 'a worker needs allow-scripts too', 'allow-same-origin': 'a worker needs allow-same-origin too',
 });
 
 /**
