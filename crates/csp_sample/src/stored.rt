@@ -202,10 +202,15 @@ fn carried_out(
         let count = order.strip_suffix(" lines").context("no count of lines")?;
         return Ok(cut(alloc, made.as_str(), count.parse()?)?);
     } else if order == "no last byte" {
-        let kept = made.as_str().strip_suffix('\n').context("no line feed at the end")?;
+        let kept = made
+            .as_str()
+            .strip_suffix('\n')
+            .context("no line feed at the end")?;
         return Ok(String::from_str(alloc, kept)?);
     } else {
-        let (count, text) = order.split_once(" x ").context("an order that isn't known")?;
+        let (count, text) = order
+            .split_once(" x ")
+            .context("an order that isn't known")?;
         made.push_str(text.repeat(alloc, count.parse()?)?.as_str())?;
     }
     Ok(made)

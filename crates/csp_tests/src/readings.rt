@@ -4,7 +4,8 @@ use std::test::Fail;
 
 const BLOCK: &[u8] = b"Content-Security-Policy: img-src caf\xe9; object-src *";
 
-const TOLD: &str = r#"{"policy":0,"line":1,"disposition":"enforce","meta":false,"directives":[{"name":"object-src","decides":true,"tokens":[{"text":"*","kind":"star"}]}]}
+const TOLD: &str =
+    r#"{"policy":0,"line":1,"disposition":"enforce","meta":false,"directives":[{"name":"object-src","decides":true,"tokens":[{"text":"*","kind":"star"}]}]}
 {"dropped":"img-src café","line":1,"reason":"not-ascii","utf8":false}
 "#;
 
