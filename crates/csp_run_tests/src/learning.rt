@@ -1,7 +1,11 @@
-//! Logs of which a policy would need as many sources as it may have, and more.
+//! Logs of which a policy would need as many sources as it may have, and more; and a log that is there as a whole.
 use crate::runs::{inputs, written};
-use csp_model::Memory;
+use csp_learn::learn;
+use csp_model::{Described, List, Memory, Text};
+use csp_policy::policy_text;
+use csp_request::read_check;
 use csp_run::Status;
+use csp_url::read_origin;
 use std::alloc::Global;
 use std::test::Fail;
 
@@ -57,5 +61,27 @@ fn faults_come_before_too_many_sources(rt: HostRuntime) -> Result<(), Fail> {
         text.as_slice(),
         "bad requests: request 1025 kind\n".as_bytes()
     );
+    Ok(())
+}
+
+// The call over a log that is there as a whole says what the program prints.
+#[test]
+fn a_whole_log(rt: HostRuntime) -> Result<(), Fail> {
+    let alloc = rt.alloc();
+    let image = r#"{"kind":"fetch","destination":"image","url":"https://b.example/x"}"#;
+    let mut checks = List::new(alloc);
+    checks.push(read_check(alloc, image.as_bytes())?)?;
+    let mut log = List::new(alloc);
+    log.push(Described {
+        checks,
+        blocked_uri: Text::new(alloc, "https://b.example/x")?,
+        sample: Text::new(alloc, "")?,
+    })?;
+    let learnt = learn(alloc, &log, &read_origin(alloc, ORIGIN)?)?;
+    assert_eq!(rt;
+        policy_text(alloc, &learnt.policy)?.as_str(),
+        "default-src 'none'; img-src https://b.example:443"
+    );
+    assert!(rt; learnt.left.is_empty());
     Ok(())
 }
