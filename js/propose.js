@@ -117,7 +117,7 @@ const SOURCES = /-src(?:-elem|-attr)?$|^(?:base-uri|form-action|frame-ancestors)
  * @param {string} origin
  * @param {string} headers
  */
-const shorterOf = (program, origin, headers) => {
+export const shorterOf = (program, origin, headers) => {
   const list = new PolicyList(tidy(program, { origin, headers }).headers.trimEnd().split('\n'));
   list.policies.forEach((directives, n) => {
     for (const { name, values } of directives) {

@@ -24,7 +24,7 @@ sources_of() (
     case $1 in
         csp) root=csp_app more=() ;;
         engine.wasm) root=csp_page more=(page/build page/retarget.py page/to32.py page/undone.py page/heap.c page/helpers32.c) ;;
-        guidecerise.html) root=csp_page more=(VERSION page) ;;
+        guidecerise.html) root=csp_page more=(VERSION page js/*.js js/readers js/propose) ;;
     esac
     mapfile -t names < <(crates "$root")
     files=$(find HANDLES "${more[@]}" "${names[@]/#/crates/}" \( -name out -o -name must-fail \) -prune -o -type f -print0 |

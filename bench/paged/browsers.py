@@ -103,9 +103,9 @@ class Chromium(Browser):
             raise RuntimeError(got["exceptionDetails"])
         return got["result"].get("value")
 
-    def key(self, name):
+    def key(self, name, ctrl=False):
         code, text = KEYS[name]
-        words = {"key": " " if name == "Space" else name, "code": name, "windowsVirtualKeyCode": code}
+        words = {"key": " " if name == "Space" else name, "code": name, "windowsVirtualKeyCode": code, "modifiers": 2 * ctrl}
         typed = {"text": "\r" if name == "Enter" else " "} if name in ("Enter", "Space") else {}
         self.ask("Input.dispatchKeyEvent", type="keyDown", **words, **typed)
         self.ask("Input.dispatchKeyEvent", type="keyUp", **words)
@@ -126,10 +126,10 @@ class Chromium(Browser):
         data = self.ask("Page.captureScreenshot", format="png", captureBeyondViewport=True, clip=clip)["data"]
         Path(file).write_bytes(base64.b64decode(data))
 
-    def attach(self, selector, file):
+    def attach(self, selector, *files):
         node = self.ask("DOM.getDocument")["root"]["nodeId"]
         found = self.ask("DOM.querySelector", nodeId=node, selector=selector)["nodeId"]
-        self.ask("DOM.setFileInputFiles", nodeId=found, files=[str(file)])
+        self.ask("DOM.setFileInputFiles", nodeId=found, files=[str(it) for it in files])
 
     def complaints(self):
         """What the browser wrote into its console of its own: errors, and breaches of the page's policy."""
@@ -209,9 +209,9 @@ class Firefox(Browser):
     def act(self, kind, actions, **more):
         self.ask("WebDriver:PerformActions", actions=[{"type": kind, "id": kind, "actions": actions, **more}])
 
-    def key(self, name):
-        value = KEYS[name][1]
-        self.act("key", [{"type": "keyDown", "value": value}, {"type": "keyUp", "value": value}])
+    def key(self, name, ctrl=False):
+        keys = ["\ue009"] * ctrl + [KEYS[name][1]]
+        self.act("key", [{"type": it, "value": key} for it in ("keyDown", "keyUp") for key in keys])
 
     def click(self, selector):
         x, y = (int(it) for it in self.run(CENTRE % json.dumps(selector)))
@@ -230,9 +230,9 @@ class Firefox(Browser):
         data = self.ask("WebDriver:TakeScreenshot", full=True)["value"]
         Path(file).write_bytes(base64.b64decode(data))
 
-    def attach(self, selector, file):
+    def attach(self, selector, *files):
         found = self.ask("WebDriver:FindElement", using="css selector", value=selector)["value"]
-        self.ask("WebDriver:ElementSendKeys", id=next(iter(found.values())), text=str(file))
+        self.ask("WebDriver:ElementSendKeys", id=next(iter(found.values())), text="\n".join(str(it) for it in files))
 
     def complaints(self):
         return []
@@ -249,12 +249,3 @@ def needs(program):
 NEEDS = {"Chromium": needs("chromium"), "Firefox": needs("firefox-esr")}
 PAGE = Path(os.environ.get("PAGE") or Path(__file__).resolve().parents[2] / "dist/guidecerise.html").resolve()
 
-
-def opened(kind, page=None):
-    """A browser with the page, all of whose examples are answered, and how long that took."""
-    page or os.environ.get("PAGE_URL") or PAGE.exists() or sys.exit(f"bench/page: there is no {PAGE}: packaging/ship makes it")
-    browser = kind()
-    browser.look(1100, False)
-    browser.open(page or os.environ.get("PAGE_URL") or PAGE.as_uri())
-    took = browser.wait("document.body.dataset.answered === 'all'")
-    return browser, took

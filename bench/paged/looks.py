@@ -2,18 +2,19 @@
 
 from pathlib import Path
 
-from .browsers import opened
+from .person import FURTHER, QUESTIONS, Person
 
 
 def points(kind, folder):
     Path(folder).mkdir(parents=True, exist_ok=True)
-    browser, _ = opened(kind)
+    person = Person(kind)
     try:
-        for width, dark in ((1100, False), (1100, True), (320, False)):
-            browser.look(width, dark)
-            for name in ("judge", "compare", "check", "learn", "tidy", "embed"):
-                browser.click(f"#tab-{name}")
-                browser.shot(Path(folder, f"{name}-{width}-{'dark' if dark else 'light'}.png"))
+        for width in (1280, 768, 375):
+            for dark in (False, True):
+                person.browser.look(width, dark)
+                for name in (*QUESTIONS, *FURTHER):
+                    person.choose(name)
+                    person.browser.shot(Path(folder, f"{name}-{width}-{'dark' if dark else 'light'}.png"))
     finally:
-        browser.close()
+        person.browser.close()
     print(f"the pictures are in {folder}")

@@ -4,8 +4,8 @@ import json
 
 from recorded.trial import point
 
-from .browsers import opened
 from .cases import answer, example_cases, packed, random_cases
+from .person import Person
 
 SCRIPT = """(async cases => {
   const bytes = it => Uint8Array.from(atob(it), it => it.charCodeAt(0)), csp = (window.wrappedJSObject ?? window).csp;
@@ -32,7 +32,7 @@ def compared(browser, cases):
 
 
 def points(kind, count="2000", seed="7"):
-    browser, _ = opened(kind)
+    browser = Person(kind).browser
     try:
         for name, cases in (("examples", example_cases()), ("random cases", random_cases(int(count), int(seed)))):
             differ = compared(browser, cases)

@@ -1,172 +1,194 @@
-"""Each tab's task, by clicks and by keys."""
+"""The tasks for which people come, by clicks and keys, with the files of a shop of four pages."""
 
 import json
 
 from recorded.trial import TOP, point
 
-from .browsers import opened
+from .person import Person
 
+SHOP = TOP / "bench/recorded/shop"
+PAGES = [SHOP / f"{it}.html" for it in ("index", "product", "checkout", "account")]
 SELECTED = "document.querySelector('[role=tab][aria-selected=true]').id"
+# The groups of an answer, as a badge, a directive, and what with how often
+GROUPS = "[...document.querySelectorAll('#answers .group .head')].map(it => it.textContent)"
 
 
-def asked(browser, name, **fields):
-    """The answer of a tab to these fields."""
-    for field, text in fields.items():
-        browser.fill(f"#{name} [name={field}]", text)
-    browser.run(f"void (document.getElementById('{name}-answer').textContent = '')")
-    browser.click(f"#{name} [type=submit]")
-    browser.wait(f"document.getElementById('{name}-answer').childElementCount > 0")
-    return browser.text(f"#{name}-answer .says")
+def header(name):
+    lines = (TOP / f"bench/recorded/headers/{name}.txt").read_text()
+    return next(it for it in lines.splitlines() if it.startswith("content-security-policy:"))
 
 
-def first(text):
-    return text.split("\n")[0]
-
-
-def read(name):
-    return (TOP / "examples" / name).read_text()
+def value(name):
+    return header(name).partition(": ")[2]
 
 
 def points(kind):
-    browser, took = opened(kind)
+    person = Person(kind)
     try:
-        told = {name: first(browser.run(f"document.querySelector('#{name}-answer .says').textContent"))[:12]
-                for name in ("judge", "compare", "check", "learn", "tidy", "embed")}
-        point(f"{kind.name}: every example is answered as the page opens", True, all(told.values()))
-        by_keys(browser)
-        judge(browser)
-        compare(browser)
-        others(browser)
-        newer(browser)
-        opens(browser)
-        stops(browser)
-        links(browser)
-        point(f"{kind.name}: the browser complains of nothing", [], browser.complaints())
+        for task in (example, by_keys, blocked, one_request, attacker, weaker, make, reports, framed, forms, stale, copies, links):
+            task(person)
+        point(f"{kind.name}: the browser complains of nothing", [], person.browser.complaints())
     finally:
-        browser.close()
+        person.browser.close()
 
 
-def by_keys(browser):
-    browser.run("document.getElementById('tab-judge').focus()")
-    came = []
+def named(person, text):
+    return f"{person.browser.name}: {text}"
+
+
+def example(person):
+    seen = person.browser.run("[document.getElementById('example').checkVisibility(), document.querySelectorAll('#answers .says').length]")
+    point(named(person, "the first answer is about an example, which is called one"), [True, 1], seen)
+    own = person.browser.run("document.querySelector('#own .sentence').textContent")
+    point(named(person, "the page's own policy blocks nothing of the page"), "None of 5 requests is blocked.", own)
+
+
+def by_keys(person):
+    browser, came = person.browser, []
+    browser.run("document.getElementById('blocked').focus()")
     for key in ("ArrowRight", "End", "ArrowRight", "ArrowLeft", "Home"):
         browser.key(key)
         came.append(browser.run(SELECTED))
-    point(f"{browser.name}: arrows, Home and End go through the tabs",
-          ["tab-compare", "tab-embed", "tab-judge", "tab-embed", "tab-judge"], came)
-    browser.key("ArrowRight")
-    browser.run("void (document.getElementById('compare-answer').textContent = '')")
-    browser.run("document.querySelector('#compare-origin').focus()")
-    browser.key("Enter")
-    browser.wait("document.getElementById('compare-answer').childElementCount > 0")
-    point(f"{browser.name}: Enter in a field asks, and the answer is announced", True,
-          browser.run("document.getElementById('said').textContent.startsWith('Yes')"))
+    point(named(person, "arrows, Home and End go through the questions"), ["attacker", "more", "blocked", "more", "blocked"], came)
+    browser.run("document.getElementById('headers').focus()")
+    person.write("#headers", "Content-Security-Policy: img-src *")
+    came = person.does(lambda: browser.key("Enter", ctrl=True))
+    point(named(person, "Ctrl+Enter asks"), "None of 10 requests is blocked.", came)
 
 
-def judge(browser):
-    browser.click("#tab-judge")
-    told = asked(browser, "judge", policy=read("realistic/policy.txt"), requests=read("realistic/requests.json"))
-    point(f"{browser.name}: twelve requests of a real header", "4 requests of 12 are blocked.", first(told))
-    browser.click("#judge-answer [data-state=blocked]")
-    rows = browser.run("document.querySelectorAll('#judge-answer tbody tr').length")
-    point(f"{browser.name}: the filter shows the blocked ones", 4, rows)
-    header = "content-security-policy: image-src a.example; script-src none 'slef'"
-    told = asked(browser, "judge", policy=header, requests="image a.example")
-    point(f"{browser.name}: a fault is told with a hint", True, told.startswith("bad requests: request 1 url"))
-    asked(browser, "judge", requests="image https://a.example/x.png")
-    marks = browser.run("[...document.querySelectorAll('#judge-answer li .mark')].map(it => it.textContent.slice(0, 15))")
-    point(f"{browser.name}: what the header's words do is marked",
-          ["decides nothing", "a host of this ", "matches nothing"], marks)
-    browser.run("document.querySelector('#judge details').open = true")
-    browser.fill("#inline-source", "start()")
-    browser.click("#inline-add")
-    browser.wait("document.getElementById('inline-hashes').textContent.includes('sha512')")
-    # printf 'start()' | openssl dgst -sha256 -binary | base64
-    point(f"{browser.name}: inline code is added, with its hashes", True,
-          "'sha256-DIm7WJS6ZKDYe5qFLPy+h4JFI9Bol5QmYC57mt3Fb00='" in browser.text("#inline-hashes"))
+def blocked(person):
+    """The shop under a strict policy. The code in its pages was counted by hand: 7 scripts have no nonce."""
+    person.open(*PAGES)
+    person.write("#origin", "https://shop.test")
+    person.paste(header("strict"))
+    groups = person.browser.run(GROUPS)
+    for what in ("blocked script-src event handler × 16", "blocked script-src inline script × 7", "blocked script-src javascript: URL × 3"):
+        point(named(person, f"of four pages of HTML: {what}"), True, what in groups)
+    point(named(person, "each with its line"), True, "product.html, line " in person.answer)
+    point(named(person, "and the answer isn't good news"), "bad", person.mood)
 
 
-def compare(browser):
-    browser.click("#tab-compare")
-    told = asked(browser, "compare", old=read("stricter/old.txt"), fresh=read("stricter/new.txt"))
-    point(f"{browser.name}: a stricter header, with its proof", ("No: the new headers block all that the old ones block.", True),
-          (first(told), browser.text("#compare-answer pre").startswith("csp-proof 2")))
-    told = asked(browser, "compare", old=read("nothing/old.txt"), fresh=read("nothing/new.txt"))
-    nothing = "The old headers enforce nothing, so no headers are weaker."
-    point(f"{browser.name}: a yes about nothing is told as one", nothing, first(told))
-    told = asked(browser, "compare", old=read("weaker/old.txt"), fresh=read("weaker/new.txt"))
-    point(f"{browser.name}: a weaker header", "Yes: the new headers allow something that the old ones block.", first(told))
+def one_request(person):
+    browser = person.browser
+    person.restore("blocked", {"headers": "Content-Security-Policy: script-src 'self' https://cdn.example/a/"})
+    browser.click("#one summary")
+    browser.fill("#one-of", "https://cdn.example/b.js")
+    person.does(lambda: browser.click("#one-add"))
+    point(named(person, "one request, and what nearly allows it"), True,
+          "https://cdn.example/a/ would allow it, but the path is another" in person.answer)
+    point(named(person, "and what would allow it"), True, "To allow it: add https://cdn.example to script-src." in person.answer)
 
 
-def others(browser):
-    browser.click("#tab-check")
-    fields = {"old": read("check/old.txt"), "fresh": read("check/new.txt")}
-    told = [first(asked(browser, "check", proof=read(f"check/{it}.txt"), **fields)) for it in ("accepted", "rejected")]
-    point(f"{browser.name}: proofs", ["The proof is accepted.", "The proof is rejected at line 81."], told)
-    browser.click("#tab-learn")
-    told = asked(browser, "learn", origin="https://a.example", requests=read("realistic/requests.json"))
-    learnt = ("Content-Security-Policy: default-src 'none'; connect-src https://api.a.example:8443 wss://live.a.example:443; "
-              "frame-src https://video.example.net:443; img-src data:; script-src-elem https://cdn.example.net:443 "
-              "https://evil.example:443")
-    point(f"{browser.name}: a learnt policy", learnt, browser.text("#learn-answer pre").strip())
-    browser.click("#tab-tidy")
-    asked(browser, "tidy", origin="https://shop.example", policy=read("tidy/policy.txt"))
-    point(f"{browser.name}: a shorter policy", True, "font-src https://fonts.example.org;" in browser.text("#tidy-answer pre"))
-    browser.click("#tab-embed")
-    told = [first(asked(browser, "embed", required=read("embed/required.txt"), response=read(f"embed/{it}.txt"))).split(":")[0]
-            for it in ("added", "served", "refused")]
-    point(f"{browser.name}: whether a response may be framed", ["Yes", "Yes", "No"], told)
+def attacker(person):
+    """What markup can do under the shop's old policy, and that a pasted value is enough."""
+    person.restore("attacker", {"origin": "https://shop.test"})
+    person.paste(value("old"))
+    groups = person.browser.run(GROUPS)
+    for what in ("run a <script> of its own", "run an event handler, as <img onerror>", "show this page in a frame"):
+        point(named(person, f"under the old policy an attacker could {what}"), True, any(what in it for it in groups))
+    point(named(person, "and the answer is bad news"), "bad", person.mood)
 
 
-def newer(browser):
-    """What the page shows by commands that an older engine lacks."""
-    commands = browser.run("document.body.dataset.ready").split()
-    if "why" in commands:
-        browser.click("#tab-judge")
-        header = "content-security-policy: img-src cdn.example/img; style-src 'unsafe-inline' 'nonce-x'"
-        inline = '{"kind": "inline", "type": "style", "source": "p{}"}'
-        asked(browser, "judge", policy=header, requests=f"image https://cdn.example/img/logo.png\n{inline}")
-        why = browser.text("#judge-answer tbody")
-        told = ["would allow it: another path" in why, "would allow it: a nonce makes it void" in why]
-        point(f"{browser.name}: what nearly allows is told", [True, True], told)
-    if "differ" in commands:
-        browser.click("#tab-compare")
-        old = "Content-Security-Policy: img-src a.example; style-src 'self'"
-        asked(browser, "compare", old=old, fresh="Content-Security-Policy: img-src *; style-src 'self' 'unsafe-inline'")
-        cells = "[...document.querySelectorAll('#compare-answer tbody th')].map(it => it.textContent)"
-        told = browser.run(cells)
-        point(f"{browser.name}: each directive that became weaker", ["img-src", "style-src-attr", "style-src-elem"], told)
+def weaker(person):
+    """From the old policy to the strict one, and back. The headers stay as one goes from question to question."""
+    person.choose("weaker")
+    person.paste(header("strict"))
+    rows = "[...document.querySelectorAll('#answers tbody tr')].map(it => it.innerText.replace(/\\s+/g, ' '))"
+    table = person.browser.run(rows)
+    point(named(person, "the headers stayed, and the pasted ones are the new"), value("old"), person.browser.run("document.getElementById('headers').value"))
+    point(named(person, "the strict policy is stricter about handlers"), True, any(it.startswith("script-src-attr stricter") for it in table))
+    person.restore("weaker", {"headers": header("strict"), "newer": header("old")})
+    point(named(person, "and the way back is weaker"), "bad", person.mood)
 
 
-def opens(browser):
-    """A HAR from the disk."""
-    browser.click("#tab-judge")
-    browser.run("void (document.getElementById('judge-answer').textContent = '')")
-    browser.attach("#judge-har", TOP / "examples/har/page.har")
-    browser.wait("document.querySelector('#judge-answer details') !== null")
-    requests = json.loads(browser.run("document.getElementById('judge-requests').value"))
-    point(f"{browser.name}: a HAR becomes its requests", json.loads(read("har/requests.json")), requests)
-    told = browser.run("[document.getElementById('judge-origin').value, document.getElementById('judge-policy').value]")
-    point(f"{browser.name}: and the page's origin and headers", ["https://shop.example", read("har/policy.txt").strip()], told)
+def make(person):
+    person.restore("blocked", {"origin": "https://shop.test"})
+    person.open(*PAGES)
+    person.choose("make")
+    policy = person.browser.run("document.querySelector('#answers pre').textContent")
+    point(named(person, "a policy for four pages names the hosts"), True, "https://js.paywell.test" in policy and "'self'" in policy)
+    point(named(person, "and is never good news, since something is left to do"), True, person.mood in ("warn", "bad"))
+    person.does(lambda: (person.browser.click("input[name=form][value=strict]"), person.browser.click("#given button[type=submit]")))
+    policy = person.browser.run("document.querySelector('#answers pre').textContent")
+    point(named(person, "a strict one names no host for scripts"), True, "'strict-dynamic'" in policy)
 
 
-def stops(browser):
-    """A question that is stopped, and the next one."""
-    ask = "document.querySelector('#judge form').requestSubmit()"
-    browser.run(f"void ({ask}, document.getElementById('stop').click())")
-    browser.wait("document.querySelector('#judge-answer .says')?.textContent === 'Stopped.'")
-    told = asked(browser, "judge", policy="Content-Security-Policy: img-src 'none'", requests="image https://b.example/x.png")
-    point(f"{browser.name}: after a stop the next question is answered", "1 request of 1 is blocked.", first(told))
+def reports(person):
+    """Reports of two hosts, one of them noise, and what would end them."""
+    body = {"csp-report": {"effective-directive": "img-src", "blocked-uri": "https://img.example/a.png", "document-uri": "https://shop.test/",
+                           "disposition": "enforce"}}
+    noise = {"csp-report": {"effective-directive": "script-src-elem", "blocked-uri": "chrome-extension", "document-uri": "https://shop.test/"}}
+    person.restore("reports", {"headers": "Content-Security-Policy: img-src 'self'"})
+    came = person.paste("\n".join(json.dumps(it) for it in [body] * 3 + [noise]))
+    point(named(person, "reports are grouped"), "The headers would still report 3 of 3 violations.", came)
+    point(named(person, "noise stands apart"), True, "chrome-extension 1" in person.answer)
+    point(named(person, "and what would end them is told"), True, "1 addition would end 3 of 3 violations." in person.answer)
 
 
-def links(browser):
-    browser.click("#tab-compare")
-    browser.fill("#compare [name=old]", "Content-Security-Policy: img-src é")
+def framed(person):
+    person.restore("framed", {"headers": "X-Frame-Options: DENY\nContent-Security-Policy: frame-ancestors 'none'"})
+    point(named(person, "a page that forbids it may not be framed"), "No: frame-ancestors doesn't allow https://portal.example to frame this page.",
+          person.sentence)
+
+
+def forms(person):
+    """What people paste as headers, and the words in which the page says what it took it for."""
+    strict = "default-src 'self'; img-src *"
+    given = {
+        strict: "read as a bare value of an enforced policy",
+        "default-src 'self'\nimg-src *": "read as a bare value of an enforced policy, in lines 1 to 2",
+        f'<meta http-equiv="Content-Security-Policy" content="{strict}">': "read as a meta element",
+        f'add_header Content-Security-Policy "{strict}" always;': "read as an nginx directive",
+        f'Header always set Content-Security-Policy "{strict}"': "read as an Apache directive",
+        f"HTTP/2 200\ncontent-security-policy: {strict}\n\n": "read as a header line",
+    }
+    for text, said in given.items():
+        person.restore("blocked", {"headers": ""})
+        person.paste(text)
+        person.browser.wait("document.getElementById('headers-read').childElementCount > 0")
+        point(named(person, said), True, said in person.browser.text("#headers-read"))
+    person.paste("default-src 'self' img-src https:")
+    point(named(person, "a forgotten semicolon is told above the rows"), True,
+          "img-src names a directive, and counts as a source here: is a semicolon missing before it?" in person.answer)
+
+
+def stale(person):
+    person.restore("blocked", {"headers": "Content-Security-Policy: img-src 'self'"})
+    person.write("#headers", "Content-Security-Policy: img-src *")
+    grey = "document.querySelector('#answers > .stale') !== null"
+    before = person.browser.run(grey)
+    person.ask()
+    point(named(person, "an answer is grey once something was changed, until it is asked anew"), (True, False), (before, person.browser.run(grey)))
+
+
+def copies(person):
+    browser, came = person.browser, {}
+    page = "<!doctype html><html><head></head><body><img src='https://a.example/x.png'></body></html>"
+    person.restore("blocked", {"headers": "Content-Security-Policy: img-src 'self'", "files": [
+        {"name": "index.html", "kind": "html", "text": page, "url": "https://shop.example/"}]})
+    browser.run("void ((window.wrappedJSObject ?? window).navigator.clipboard.writeText = "
+                "async text => { document.body.dataset.copy = text; })")
+    for it in ("text", "Markdown", "JSON"):
+        browser.run("void delete document.body.dataset.copy")
+        browser.click(f"#answers [data-as={it}]")
+        browser.wait("document.body.dataset.copy !== undefined")
+        came[it] = browser.run("document.body.dataset.copy")
+    begins = [came["text"].startswith("1 of 1 request is blocked."), came["Markdown"].startswith("**1 of 1 request is blocked.**")]
+    blocked = json.loads(came["JSON"])["answer"]["pages"][0]["items"][0]["blocked"]
+    point(named(person, "an answer is copied as text, Markdown and JSON"), [True, True, True], [*begins, blocked])
+
+
+def links(person):
+    browser = person.browser
+    person.restore("weaker", {"headers": "Content-Security-Policy: img-src é", "newer": "Content-Security-Policy: img-src *"})
     browser.click("#link")
-    browser.wait("location.hash.length > 1")
-    browser.fill("#compare [name=old]", "")
-    browser.run("void (document.body.dataset.answered = 'before', location.reload())")
-    browser.wait("document.body?.dataset.answered === 'all'")
-    old = browser.run("document.querySelector('#compare [name=old]').value")
-    told = ["tab-compare", "Content-Security-Policy: img-src é"]
-    point(f"{browser.name}: a link brings back the tab and what stood in it", told, [browser.run(SELECTED), old])
+    address = browser.run("location.href")
+    browser.open("about:blank")
+    browser.open(address)
+    browser.wait("document.body?.dataset.own === 'judged'")
+    told = browser.run("[document.querySelector('[role=tab][aria-selected=true]').id, document.getElementById('headers').value]")
+    point(named(person, "a link brings back the question and what stood in it"), ["weaker", "Content-Security-Policy: img-src é"], told)
+    person.write("#headers", "x" * 9000)
+    browser.click("#link")
+    point(named(person, "what is too long for a link is told"), "This is too long for a link: send the files, and the headers as a text.",
+          browser.text("#linked"))

@@ -1,4 +1,4 @@
-"""How long the page takes: from opening the file to the first answer, and large inputs beside the program."""
+"""How long the page takes: from opening the file to the first answer, a large recording, and large inputs beside the program."""
 
 import json
 import os
@@ -7,9 +7,10 @@ import tempfile
 import time
 from pathlib import Path
 
+from recorded.large import recording
 from recorded.trial import PROGRAM, point, run
 
-from .browsers import opened
+from .person import Person
 
 ASK = """(async ([words, files]) => {
   const csp = (window.wrappedJSObject ?? window).csp, began = performance.now();
@@ -18,6 +19,7 @@ ASK = """(async ([words, files]) => {
 })"""
 # When the first answer stood in the page, in milliseconds after the file was opened
 FIRST = "performance.getEntriesByName('first-answer')[0]?.startTime"
+POLICY = "Content-Security-Policy: default-src 'self'; img-src 'self' https://img.example.net"
 
 
 def inputs():
@@ -46,22 +48,39 @@ def native(words, files):
     return status, min(took)
 
 
-def points(kind):
+def first_answers(kind):
     firsts = []
     for _ in range(3):
-        browser, _ = opened(kind)
-        firsts.append(browser.run(FIRST))
-        browser.close()
+        person = Person(kind)
+        firsts.append(person.browser.run(FIRST))
+        person.browser.close()
     print(f"{kind.name}: the first answer {statistics.median(firsts):.0f} ms after opening the file")
     point(f"{kind.name}: the first answer comes within a second", True, statistics.median(firsts) < 1000)
-    browser, _ = opened(kind)
+
+
+def a_recording(person):
+    with tempfile.TemporaryDirectory() as room:
+        file = Path(room, "large.har")
+        file.write_text(recording())
+        person.paste(POLICY)
+        began = time.time()
+        person.open(file)
+        took = time.time() - began
+    print(f"{person.browser.name}: a recording of {file.name} with content: {took:.1f} s")
+    point(f"{person.browser.name}: a recording of 10 MB is judged within two seconds", True, took < 2)
+
+
+def points(kind):
+    first_answers(kind)
+    person = Person(kind)
     try:
+        a_recording(person)
         for name, (words, files) in inputs().items():
             status, by_program = native(words, files)
-            came = [browser.run(f"({ASK})({json.dumps([words, files])})") for _ in range(5)]
+            came = [person.browser.run(f"({ASK})({json.dumps([words, files])})") for _ in range(5)]
             least = min(it for _, it in came)
             print(f"{kind.name}: {name}: {least:.0f} ms, the program {by_program:.0f} ms")
             told = (came[0][0], least <= 3 * by_program)
             point(f"{kind.name}: {name} within three times the program's time", (status, True), told)
     finally:
-        browser.close()
+        person.browser.close()
