@@ -4,7 +4,6 @@
  */
 import { valuesOf, withDirective } from './policies.js';
 import { Refusal } from './refusal.js';
-import { isUncovered } from './uncovered.js';
 
 /** @typedef {import('./policies.js').Policy} Policy */
 
@@ -30,6 +29,13 @@ const STAND_INS = {
     .map(it => [it, ['default-src']])),
   'base-uri': [], 'form-action': [], 'frame-ancestors': [], 'sandbox': [],
 };
+
+/**
+ * Whether a line is about something that no proof covers.
+ * @param {string} directive
+ */
+export const isUncovered = directive =>
+  STAND_INS[directive] === undefined && directive !== 'default-src' && directive !== 'child-src';
 
 /**
  * What is accepted, apart: requests, and directives that no proof covers with their reasons.

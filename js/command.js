@@ -24,6 +24,7 @@ import { Refusal } from './refusal.js';
 /** @typedef {import('./command/headers.js').HeaderFile} HeaderFile */
 /** @typedef {import('./command/headers.js').Remark} Remark */
 /** @typedef {Record<string, string | undefined>} Environment */
+/** @typedef {{ program: import('./index.js').Program, page: import('./command/page.js').Page }} Desk */
 
 const USAGE = 2;
 const WRITE_FAULT = 9;
@@ -107,11 +108,12 @@ const save = (path, proof) => {
 /**
  * The header files of a line, read.
  * @param {Line} line
+ * @param {Desk} desk who is asked, and where it is shown
  */
-const headersOf = async ({ paths }) => {
+const headersOf = async ({ paths }, { program }) => {
   const files = /** @type {Record<string, HeaderFile>} */ ({});
   for (const [name, path] of Object.entries(paths)) {
-    if (isHeaders(name)) files[name] = await readHeaderFile(name, path, read(name, path));
+    if (isHeaders(name)) files[name] = await readHeaderFile(program, name, path, read(name, path));
   }
   return files;
 };
@@ -124,20 +126,17 @@ const noWord = () => { throw new Error('no word of this command does that'); };
  * @param {Line} line
  * @param {ReturnType<typeof sourcesOf>} sources
  * @param {Record<string, HeaderFile>} headers
- * @param {Environment} environment
+ * @param {Desk} desk
  */
-const answeredOfSite = async ({ word, origins, options }, sources, headers, environment) => {
+const answeredOfSite = async ({ word, origins, options }, sources, headers, { program, page }) => {
   const { ofSite = noWord } = word;
   const events = (options.events ?? []).map(path => ({ name: path, text: read('events', path).toString() }));
   const { url } = options, { origin } = origins, { headers: given } = headers;
   const site = await siteOf(sources, events, { url, origin, lines: given?.lines });
-  const program = await programOf(environment.GUIDECERISE_PROGRAM);
-  const page = pageOf(process.stdout, environment);
   const { answer, told } = await withProgress(() => ofSite({ program, site, options, page }));
   const marked = given === undefined ? site.pages : [];
-  const marks = marked.flatMap(it => marksIn([...it.lines, ...it.meta], it.file));
-  const remarks = [...given?.remarks ?? [], ...marks];
-  return { answer, told, remarks, page };
+  const marks = marked.flatMap(it => marksIn(program, [...it.lines, ...it.meta], it.file));
+  return { answer, told, remarks: [...given?.remarks ?? [], ...marks] };
 };
 
 /**
@@ -145,14 +144,14 @@ const answeredOfSite = async ({ word, origins, options }, sources, headers, envi
  * @param {Environment} environment
  */
 const answered = async (line, environment) => {
-  if (line.options.folder !== undefined) return answeredOfFolder(line, line.options.folder, environment);
-  const { word, origins, options } = line, headers = await headersOf(line);
-  if (word.word === 'reports') return answeredOfReports(line, headers.headers, environment);
+  const page = pageOf(process.stdout, environment);
+  const desk = { program: await programOf(environment.GUIDECERISE_PROGRAM), page };
+  if (line.options.folder !== undefined) return answeredOfFolder(line, line.options.folder, desk);
+  const { word, origins, options } = line, headers = await headersOf(line, desk);
+  if (word.word === 'reports') return answeredOfReports(line, headers.headers, desk);
   const sources = sourcesOf(line.sources), { run } = word;
   if (run !== undefined) {
-    const program = await programOf(environment.GUIDECERISE_PROGRAM);
-    const page = pageOf(process.stdout, environment);
-    const given = { program, sources, headers: headers.headers, options, page };
+    const given = { ...desk, sources, headers: headers.headers, options };
     const { answer, told, remarks } = await withProgress(() => run(given));
     return { text: printed(line, answer, told, remarks, page), status: told.status };
   }
@@ -163,35 +162,33 @@ const answered = async (line, environment) => {
   const isWhole = [...word.members].every(it => it in origins || it in headers || it === 'requests');
   const isExact = isWhole && isRequestFile(sources.files) && options.events === undefined;
   if (line.sources.length > 0 && !isExact) {
-    const { answer, told, remarks, page } = await answeredOfSite(line, sources, headers, environment);
+    const { answer, told, remarks } = await answeredOfSite(line, sources, headers, desk);
     return { text: printed(line, answer, told, remarks, page), status: told.status };
   }
-  return answeredOfFiles(line, sources.files, headers, environment);
+  return answeredOfFiles(line, sources.files, headers, desk);
 };
 
 /**
  * @param {Line} line
  * @param {HeaderFile | undefined} headers
- * @param {Environment} environment
+ * @param {Desk} desk
  */
-const answeredOfReports = async (line, headers, environment) => {
-  const { options, sources: paths } = line, page = pageOf(process.stdout, environment);
+const answeredOfReports = async (line, headers, desk) => {
+  const { options, sources: paths } = line;
   if (options.ndjson) return { text: '', status: await writeRequests(paths, process.stdout) };
-  const program = await programOf(environment.GUIDECERISE_PROGRAM);
-  const { answer, told } = await tellSent({ program, paths, headers: headers?.content, page, options });
-  return { text: printed(line, answer, told, headers?.remarks ?? [], page), status: told.status };
+  const { answer, told } = await tellSent({ ...desk, paths, headers: headers?.content, options });
+  return { text: printed(line, answer, told, headers?.remarks ?? [], desk.page), status: told.status };
 };
 
 /**
  * The answer about all pairs of a folder. A proof is kept beside each.
  * @param {Line} line
  * @param {string} folder
- * @param {Environment} environment
+ * @param {Desk} desk
  */
-const answeredOfFolder = async (line, folder, environment) => {
-  const { origins: { origin }, options } = line, page = pageOf(process.stdout, environment);
+const answeredOfFolder = async (line, folder, { program, page }) => {
+  const { origins: { origin }, options } = line;
   const accepted = options.accepted === undefined ? [] : acceptedIn(options.accepted);
-  const program = await programOf(environment.GUIDECERISE_PROGRAM);
   const pairs = await answersIn(program, folder, { origin, accepted }), told = tellPairs(pairs, page);
   const name = options['save-proof'];
   for (const it of pairs) {
@@ -207,11 +204,10 @@ const answeredOfFolder = async (line, folder, environment) => {
  * @param {Line} line
  * @param {import('./command/sources.js').Source[]} sources
  * @param {Record<string, HeaderFile>} headers
- * @param {Environment} environment
+ * @param {Desk} desk
  */
-const answeredOfFiles = async (line, sources, headers, environment) => {
+const answeredOfFiles = async (line, sources, headers, { program, page }) => {
   const { word, origins, options } = line, { ask = noWord, tell = noWord } = word;
-  const page = pageOf(process.stdout, environment);
   const [requests] = sources, names = { ...line.paths, ...requests ? { requests: requests.path } : {} };
   const contentOf = (/** @type {string} */ name, /** @type {string} */ path) =>
     name === 'requests' ? requests.bytes : headers[name]?.content ?? read(name, path);
@@ -219,7 +215,6 @@ const answeredOfFiles = async (line, sources, headers, environment) => {
   const contents = /** @type {Record<string, string | Uint8Array>} */ (Object.fromEntries(held));
   const lines = Object.fromEntries(Object.entries(headers).map(([name, it]) => [name, it.line]));
   const accepted = options.accepted === undefined ? {} : { accepted: acceptedIn(options.accepted) };
-  const program = await programOf(environment.GUIDECERISE_PROGRAM);
   const [answer, told] = await withProgress(() => {
     const call = { ...callOf(line, contents), ...accepted }, { origin, embedder = '' } = origins;
     const got = ask(program, call), text = (/** @type {string} */ name) => contents[name].toString();

@@ -37,6 +37,6 @@ export const renamed = (policies, old) => {
     return to === undefined ? value : `'nonce-${to}'`;
   };
   const written = policies.map(policy => ({ ...policy, directives:
-    policy.directives.map(({ name, values }) => ({ name, values: values.map(named) })) }));
+    policy.directives.map(it => ({ ...it, values: it.values.map(named) })) }));
   return { policies: written, renamed: changed };
 };

@@ -4,7 +4,7 @@
  */
 import { audit } from './audit.js';
 import { compare, tidy } from './calls.js';
-import { directiveText } from './policies.js';
+import { directiveText, readPolicies } from './policies.js';
 import { Refusal } from './refusal.js';
 import { additionsOf } from './propose/additions.js';
 import { emptyPolicy, keptOf, withStrictWords } from './propose/base.js';
@@ -118,7 +118,7 @@ const SOURCES = /-src(?:-elem|-attr)?$|^(?:base-uri|form-action|frame-ancestors)
  * @param {string} headers
  */
 export const shorterOf = (program, origin, headers) => {
-  const list = new PolicyList(tidy(program, { origin, headers }).headers.trimEnd().split('\n'));
+  const list = new PolicyList(readPolicies(program, tidy(program, { origin, headers })));
   list.policies.forEach((directives, n) => {
     for (const { name, values } of directives) {
       if (SOURCES.test(name) && values.length === 0) list.set(n, name, ["'none'"]);
@@ -162,10 +162,11 @@ export const propose = async (program, given) => {
   const { form = 'hosts', pages = [], reports = [], unsafeHashes = false } = given;
   const wish = { form, inline: given.inline ?? (form === 'strict' ? 'nonces' : 'hashes'), unsafeHashes };
   const present = presentOf(pages, given.headers), isAddition = form === 'addition';
+  const policies = readPolicies(program, { headers: present.join('\n') });
   const items = itemsOf(pages, reports, form);
-  refuse(form, items, present);
-  const kept = isAddition ? [] : keptOf(present);
-  const list = isAddition ? new PolicyList(present) : emptyPolicy(items, kept);
+  refuse(form, items, policies);
+  const kept = isAddition ? [] : keptOf(policies);
+  const list = isAddition ? new PolicyList(policies) : emptyPolicy(items, kept);
   const own = list.policies.length, groups = await additionsOf(program, list, items, wish);
   for (const it of groups.filter(of => of.addition.isTaken)) it.addTo(list);
   if (form === 'strict') withStrictWords(list);
@@ -191,14 +192,14 @@ export const propose = async (program, given) => {
 /**
  * @param {Form} form
  * @param {readonly Item[]} items
- * @param {readonly string[]} present
+ * @param {readonly import('./policies.js').Policy[]} present
  */
 const refuse = (form, items, present) => {
   if (items.length === 0) {
     const hint = 'Give a HAR, pages of HTML, or reports.';
     throw new Refusal(NOTHING_GIVEN, { problem: 'there is nothing that a policy could be made from', hint });
   }
-  if (form === 'addition' && new PolicyList(present).policies.length === 0) {
+  if (form === 'addition' && present.length === 0) {
     const hint = 'Give the header lines of the present policy.';
     throw new Refusal(NOTHING_GIVEN, { file: 'headers', problem: 'there is no policy to add to', hint });
   }

@@ -17,13 +17,6 @@ import { asciiLower } from './readers/words.js';
  *   loosens: boolean, accepted?: string }} Uncovered
  */
 
-/** The directives whose checks the engine makes, or that stand in for them. */
-const COVERED = [
-  'default-src', 'script-src', 'script-src-elem', 'script-src-attr', 'style-src', 'style-src-elem',
-  'style-src-attr', 'img-src', 'font-src', 'connect-src', 'media-src', 'object-src', 'frame-src', 'child-src',
-  'worker-src', 'manifest-src', 'base-uri', 'form-action', 'frame-ancestors', 'sandbox',
-];
-
 // Words of sources that let more through in a browser, and that match nothing in the engine
 const LOOSE_WORDS = ["'trusted-types-eval'", "'unsafe-allow-redirects'", "'inline-speculation-rules'"];
 const KNOWN_GRANTS = [
@@ -56,6 +49,14 @@ const standing = (policies, name) => policies.filter(it => it.disposition === 'e
   .flatMap(it => it.directives).filter(it => it.name === name);
 
 /**
+ * The names of directives in enforced policies by which a check may go, or may not.
+ * @param {readonly Policy[]} policies
+ * @param {boolean} decides
+ */
+const namesIn = (policies, decides) => [...new Set(policies.filter(it => it.disposition === 'enforce')
+  .flatMap(it => it.directives).filter(it => it.decides === decides).map(it => it.name))];
+
+/**
  * @param {string} directive
  * @param {string[]} old
  * @param {string[]} newer
@@ -73,16 +74,13 @@ const changed = (directive, old, newer, loosens) => {
  * @param {readonly Policy[]} after
  * @returns {Uncovered[]}
  */
-const directives = (before, after) => {
-  const names = new Set([...before, ...after].flatMap(it => it.directives).map(it => it.name));
-  return [...names].filter(it => !COVERED.includes(it)).flatMap(name => {
-    const old = standing(before, name), newer = standing(after, name), isAsStrict = AS_STRICT[name];
-    const isMet = (/** @type {Directive} */ it) => newer.some(other => isAsStrict(other.values, it.values));
-    const isNew = name === 'fenced-frame-src' && old.length === 0;
-    const loosens = isAsStrict !== undefined && (isNew || !old.every(isMet));
-    return changed(name, old.map(directiveText), newer.map(directiveText), loosens);
-  });
-};
+const directives = (before, after) => namesIn([...before, ...after], false).flatMap(name => {
+  const old = standing(before, name), newer = standing(after, name), isAsStrict = AS_STRICT[name];
+  const isMet = (/** @type {Directive} */ it) => newer.some(other => isAsStrict(other.values, it.values));
+  const isNew = name === 'fenced-frame-src' && old.length === 0;
+  const loosens = isAsStrict !== undefined && (isNew || !old.every(isMet));
+  return changed(name, old.map(directiveText), newer.map(directiveText), loosens);
+});
 
 /**
  * Words that the engine passes over and a browser doesn't.
@@ -90,7 +88,7 @@ const directives = (before, after) => {
  * @param {readonly Policy[]} after
  * @returns {Uncovered[]}
  */
-const words = (before, after) => COVERED.flatMap(name => {
+const words = (before, after) => namesIn([...before, ...after], true).flatMap(name => {
   const isWord = (/** @type {string} */ it) => name === 'sandbox' ? !KNOWN_GRANTS.includes(asciiLower(it))
     : LOOSE_WORDS.includes(asciiLower(it));
   const [old, newer] = [before, after].map(it => standing(it, name).flatMap(it => it.values).filter(isWord));
@@ -114,6 +112,3 @@ export const uncoveredOf = (before, after, accepted) => {
   ].sort((a, b) => Number(b.loosens) - Number(a.loosens));
   return found.map(it => accepted.has(it.directive) ? { ...it, accepted: accepted.get(it.directive) } : it);
 };
-
-/** Whether an accepted line is about something that no proof covers. */
-export const isUncovered = (/** @type {string} */ name) => !COVERED.includes(name);

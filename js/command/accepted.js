@@ -1,5 +1,5 @@
 /** What may be new, each with a reason: a file with a line for each. */
-import { isUncovered } from '../uncovered.js';
+import { isUncovered } from '../accepted.js';
 import { Refusal } from '../refusal.js';
 import { read } from './files.js';
 

@@ -66,8 +66,8 @@ const answerOf = async (program, folder, top, common) => {
   const pair = { name: relative(top, folder) || '.', origin, ...paths, line: 1, remarks: [] };
   try {
     const accepted = [...common.accepted, ...lines === undefined ? [] : acceptedIn(lines)];
-    const newer = await readHeaderFile('new', paths.new, read('new', paths.new));
-    const old = await readHeaderFile('old', paths.old, read('old', paths.old));
+    const newer = await readHeaderFile(program, 'new', paths.new, read('new', paths.new));
+    const old = await readHeaderFile(program, 'old', paths.old, read('old', paths.old));
     const answer = weaker(program, { origin, new: newer.content, old: old.content, accepted });
     const remarks = [...newer.remarks, ...old.remarks];
     return { ...pair, line: newer.line, remarks, answer, status: statusOf(answer) };

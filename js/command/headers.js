@@ -1,8 +1,9 @@
 /** The header files of a call, in whatever form people have them, as header lines for the engine. */
+import { read } from '../index.js';
 import { ReadingError } from '../readers/error.js';
 import { readHar } from '../readers/har.js';
 import { readHeaders } from '../readers/headers.js';
-import { marksOf, policiesOf } from '../readers/marks.js';
+import { marksOf } from '../readers/marks.js';
 import { kindOf } from '../readers/site.js';
 import { Refusal } from '../refusal.js';
 import { htmlParser } from './parser.js';
@@ -51,14 +52,16 @@ export const refusalOfReading = (error, status, file) => {
 
 /**
  * What is marked in policies, each with the path of its file.
+ * @param {import('../index.js').Program} program
  * @param {string[]} lines
  * @param {string} path
  * @returns {Remark[]}
  */
-export const marksIn = (lines, path) => {
-  const policies = policiesOf(lines);
-  return marksOf(policies).map(({ policy, said }) => {
-    const which = policies.length > 1 ? `policy ${policy + 1}: ` : '';
+export const marksIn = (program, lines, path) => {
+  if (lines.length === 0) return [];
+  const reading = read(program, { headers: lines.join('\n') });
+  return marksOf(reading).map(({ policy, said }) => {
+    const which = policy === null || reading.policies.length < 2 ? '' : `policy ${policy + 1}: `;
     return { path, said: which + said, isMark: true };
   });
 };
@@ -81,12 +84,13 @@ const ofRecording = async text => {
 };
 
 /**
+ * @param {import('../index.js').Program} program
  * @param {string} member
  * @param {string} path
  * @param {Uint8Array} bytes
  * @returns {Promise<HeaderFile>}
  */
-export const readHeaderFile = async (member, path, bytes) => {
+export const readHeaderFile = async (program, member, path, bytes) => {
   const text = new TextDecoder().decode(bytes), plain = isPlain(text);
   if (text.trim() === '') return { content: bytes, lines: [], line: 1, remarks: [] };
   try {
@@ -97,7 +101,7 @@ export const readHeaderFile = async (member, path, bytes) => {
     const isRefused = !plain && lines.length === 0 && left.length > 1;
     const remarks = [
       ...(isExact ? [] : taken).map(it => ({ path, ...it, isMark: false })),
-      ...left.map(it => ({ path, ...it, isMark: true })), ...marksIn(lines, path),
+      ...left.map(it => ({ path, ...it, isMark: true })), ...marksIn(program, lines, path),
     ];
     const content = isExact || isRefused ? bytes : lines.map(it => `${it}\n`).join('');
     const places = taken.filter(it => it.said.startsWith('read as'));

@@ -6,6 +6,7 @@ import {
 } from './compared.js';
 import { tellReasons, tellReports, tellVerdicts } from './judged.js';
 import { runPropose } from './proposed.js';
+import { tellReading } from './reading.js';
 import { judgeSite, learnSite, reportSite, whySite } from './sites.js';
 import { proofsOf, tellWeakening } from './weakened.js';
 
@@ -91,6 +92,9 @@ export const WORDS = [
     word: 'propose', summary: 'a policy for pages, recordings and reports',
     files: 'HARs, HTML, reports, lines of a console, and folders of these',
     members: ['requests'], optional: ['headers'], run: runPropose,
+  }, {
+    word: 'read', summary: 'how headers are read, and what browsers drop of them',
+    members: ['origin', 'headers'], ask: calls.read, tell: tellReading,
   }, {
     word: 'order', summary: 'which of 2 to 16 headers are weaker than which',
     members: ['origin', 'lists'], ask: calls.order, tell: tellRelations,

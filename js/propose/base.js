@@ -1,5 +1,4 @@
 /** The policies to which a proposal adds what was given. */
-import { directiveText, keptPolicies } from '../policies.js';
 import { NONCE } from './items.js';
 import { sourceOf } from './needs.js';
 import { PolicyList } from './policy.js';
@@ -7,6 +6,7 @@ import { PolicyList } from './policy.js';
 /**
  * @typedef {import('./items.js').Item} Item
  * @typedef {import('../policies.js').Directive} Directive
+ * @typedef {import('../policies.js').Policy} Policy
  */
 
 // What no page tells that it needs. Of a policy that only reports, where it reports to is kept.
@@ -17,13 +17,13 @@ const KEPT = [
 const REPORTING = ['report-uri', 'report-to'];
 
 /**
- * The directives of the present policy that can't be learnt.
- * @param {readonly string[]} lines
+ * The directives of the present policies that can't be learnt.
+ * @param {readonly Policy[]} policies
  * @returns {Directive[]}
  */
-export const keptOf = lines => {
+export const keptOf = policies => {
   const kept = /** @type {Map<string, Directive>} */ (new Map());
-  for (const { disposition, directives } of keptPolicies(lines)) {
+  for (const { disposition, directives } of policies) {
     const names = disposition === 'report' ? REPORTING : [...KEPT, ...REPORTING];
     for (const it of directives) {
       if (names.includes(it.name) && !kept.has(it.name)) kept.set(it.name, it);
@@ -44,10 +44,11 @@ const isOwnFrame = ({ request: { destination, url }, origin }) =>
  */
 export const emptyPolicy = (items, kept) => {
   const framing = items.some(isOwnFrame) ? "'self'" : "'none'";
-  const closed = ['default-src', 'object-src', 'base-uri', 'form-action'].map(it => `${it} 'none'`);
-  const framed = kept.some(it => it.name === 'frame-ancestors') ? [] : [`frame-ancestors ${framing}`];
-  const all = [...closed, ...framed, ...kept.map(directiveText)];
-  return new PolicyList([`Content-Security-Policy: ${all.join('; ')}`]);
+  const closed = ['default-src', 'object-src', 'base-uri', 'form-action']
+    .map(name => ({ name, values: ["'none'"] }));
+  const framed = { name: 'frame-ancestors', values: [framing] };
+  const directives = [...closed, ...kept.some(it => it.name === framed.name) ? [] : [framed], ...kept];
+  return new PolicyList([{ disposition: 'enforce', isMeta: false, directives }]);
 };
 
 /**

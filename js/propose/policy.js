@@ -1,8 +1,8 @@
 /** Policies to which sources are added. What they then do, the engine says. */
-import { headersOf, keptPolicies } from '../policies.js';
+import { headersOf } from '../policies.js';
 import { DIRECTIVES } from '../readers/words.js';
 
-/** @typedef {import('../policies.js').Directive} Directive */
+/** @typedef {import('../policies.js').Policy} Policy */
 
 /** Old browsers don't know the narrower directives, and take `default-src` where these stand alone. */
 const WIDER = /** @type {Record<string, string>} */ ({
@@ -26,13 +26,14 @@ const OLD = ['https:', "'unsafe-inline'"];
 /** @param {string} source */
 const rank = source => OLD.includes(source) ? ORDER.length : ORDER.findIndex(it => it.test(source));
 
-/** The policies of header lines, each with the directives that count. */
+/** Policies that change as sources are added to them. */
 export class PolicyList {
   #policies;
 
-  /** @param {readonly string[]} lines */
-  constructor(lines) {
-    this.#policies = keptPolicies(lines);
+  /** @param {readonly Policy[]} policies */
+  constructor(policies) {
+    this.#policies = policies.map(it =>
+      ({ ...it, directives: it.directives.map(of => ({ ...of, values: [...of.values] })) }));
   }
 
   /** The directives of each policy, in the order in which the engine counts the policies. */
@@ -52,7 +53,7 @@ export class PolicyList {
 
   /** A list of its own, that changes without this one. */
   copy() {
-    return new PolicyList(this.lines);
+    return new PolicyList(this.#policies);
   }
 
   /**

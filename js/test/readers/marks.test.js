@@ -1,6 +1,10 @@
 import assert from 'node:assert/strict';
 import { test } from 'node:test';
-import { marksOf, policiesOf } from '../../readers/marks.js';
+import { read } from '../../index.js';
+import { marksOf } from '../../readers/marks.js';
+import { engine } from '../shared.js';
+
+const marksIn = lines => marksOf(read(engine, { headers: lines.join('\n') }));
 
 // A value of an enforced header, or a whole header line; and its marks
 const MARKED = /** @type {[string, string[]][]} */ ([
@@ -35,14 +39,14 @@ const MARKED = /** @type {[string, string[]][]} */ ([
 for (const [text, expected] of MARKED) {
   test(`marks of ${text}`, () => {
     const line = text.startsWith('Meta') ? text : `Content-Security-Policy: ${text}`;
-    assert.deepEqual(marksOf(policiesOf([line])).map(it => it.said), expected);
+    assert.deepEqual(marksIn([line]).map(it => it.said), expected);
   });
 }
 
 test('a mark names its policy and its directive', () => {
   const lines = ["Content-Security-Policy: img-src 'self', font-src 'self'",
     'Content-Security-Policy: font-src none'];
-  assert.deepEqual(marksOf(policiesOf(lines)), [
+  assert.deepEqual(marksIn(lines), [
     { policy: 2, directive: 'font-src', said: "none without quotes is a host of that name: write 'none'" },
   ]);
 });
