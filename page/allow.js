@@ -36,7 +36,8 @@ const sourcesFor = async (program, lines, alike) => {
   const found = /** @type {Map<unknown, string[]>} */ (new Map()), headers = new PolicyList(lines);
   const texts = new Set(alike.map(it => describe(it.item.request).of));
   if (texts.size > MOST) return found;
-  const needs = await Promise.all(alike.map(({ item, items: [first] }) => needOf(item, first.effective, WISH)));
+  const needed = alike.map(({ item, items: [{ effective }] }) => needOf(item, effective, WISH));
+  const needs = await Promise.all(needed);
   alike.forEach(({ items }, n) => {
     if (needs[n].sources.length > 0) for (const it of items) headers.add(it, needs[n].sources);
   });

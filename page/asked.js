@@ -101,17 +101,25 @@ export const ask = async asking => {
   }
 };
 
-/** @param {string} text */
-export const copy = async text => {
+/**
+ * @param {string} text
+ * @param {HTMLElement} button beside which it is said
+ */
+export const copy = async (text, button) => {
   await navigator.clipboard.writeText(text);
-  by('copied').replaceChildren(told('span', say('copied')));
+  button.parentElement?.querySelector('[data-says=copied]')?.remove();
+  button.after(told('span', say('copied')));
   saidAloud(textOf(say('copied')));
 };
 
-/** @param {string} as copies the answer of the question at hand */
-export const copyAnswer = as => {
+/**
+ * Copies the answer of the question at hand.
+ * @param {string} as
+ * @param {HTMLElement} button
+ */
+export const copyAnswer = (as, button) => {
   const found = answers.get(question());
   if (found === undefined) return;
   const { answer } = found, asked = { question: question(), origin: state.origin };
-  copy(as === 'JSON' ? asJson(answer, asked) : as === 'Markdown' ? asMarkdown(answer) : asText(answer));
+  copy(as === 'JSON' ? asJson(answer, asked) : as === 'Markdown' ? asMarkdown(answer) : asText(answer), button);
 };

@@ -12,13 +12,20 @@ import { clearExample, oneRequest, take, textsOf } from './taking.js';
 const asking = new Asking(by('worker').textContent, by('engine').textContent);
 const TABS = all('[role=tab]');
 
+/** Asks, and shows the answer where it begins below what is seen. */
+const askNow = async () => {
+  await ask(asking);
+  const { top } = by('answers').getBoundingClientRect();
+  if (top > window.innerHeight * 0.8) by('answers').scrollIntoView();
+};
+
 /**
  * Takes texts, and asks.
  * @param {{ name: string, text: string, blob?: Blob }[]} texts
  */
 const taken = async texts => {
   await take(asking, texts);
-  await ask(asking);
+  await askNow();
 };
 
 const takePaste = () => {
@@ -80,9 +87,9 @@ const clicked = ({ target }) => {
   const button = target.closest('button');
   if (button === null) return;
   const { copy: text, save: file, as, remove: id } = button.dataset;
-  if (text !== undefined) copy(text);
+  if (text !== undefined) copy(text, button);
   if (file !== undefined) save(file, button.dataset.text);
-  if (as !== undefined) copyAnswer(as);
+  if (as !== undefined) copyAnswer(as, button);
   if (id !== undefined) remove(Number(id));
 };
 
@@ -99,8 +106,9 @@ const written = ({ target }) => {
   const { url, text } = target.dataset;
   if (target.id === 'paste' || target.id === 'open' || target.id.startsWith('one-')) return;
   if (['headers', 'newer', 'origin'].includes(target.id)) setField(target.id, target.value);
-  if (url !== undefined) target.dataset.url = changeFile(Number(url), { url: target.value.trim() || undefined });
-  if (text !== undefined) target.dataset.text = changeFile(Number(text), { text: target.value });
+  const { value } = target;
+  if (url !== undefined) target.dataset.url = changeFile(Number(url), { url: value.trim() || undefined });
+  if (text !== undefined) target.dataset.text = changeFile(Number(text), { text: value });
   changed();
   if (target.name === 'further') select('more');
   else if (['headers', 'newer'].includes(target.id)) describeSoon();
@@ -110,7 +118,7 @@ const hearKeys = () => {
   document.addEventListener('keydown', event => {
     if (event.key !== 'Enter' || !(event.ctrlKey || event.metaKey)) return;
     event.preventDefault();
-    if (by('paste').value.trim() === '') ask(asking);
+    if (by('paste').value.trim() === '') askNow();
     else takePaste();
   });
   by('questions').addEventListener('keydown', tabKeys);
@@ -138,7 +146,7 @@ const hearFields = () => {
   by('given').addEventListener('input', written);
   by('given').addEventListener('submit', (/** @type {Event} */ event) => {
     event.preventDefault();
-    ask(asking);
+    askNow();
   });
   by('take').addEventListener('click', takePaste);
   by('paste').addEventListener('paste', () => setTimeout(takePaste));
@@ -189,7 +197,7 @@ const begin = async () => {
     state.revision += 1;
     show();
   });
-  const call = (/** @type {string[]} */ words, /** @type {any[]} */ files) => asking.ask('call', { words, files });
+  const call = (/** @type {unknown} */ words, /** @type {unknown} */ files) => asking.ask('call', { words, files });
   Object.assign(window, { csp: call });
   await show();
   await judgeItself(html);

@@ -30,9 +30,9 @@ const BLOCKED = {
     `${number(blocked)} of ${counted(all, 'request')}${where} ${are(blocked)} blocked.`,
   /** @type {(alone: N, blocked: N, all: N) => T} */
   browserAlone: (alone, blocked, all) =>
-    `The browser tells of ${counted(alone, 'violation')} that ${are(alone)} not in this answer. Of`
-    + ` ${counted(all, 'request')} that ${all === 1 ? 'was' : 'were'} given, ${number(blocked)} ${are(blocked)}`
-    + ' blocked.',
+    `The browser tells of ${counted(alone, 'violation')} that ${are(alone)} not in this answer.`
+    + ` Of ${counted(all, 'request')} that ${all === 1 ? 'was' : 'were'} given,`
+    + ` ${number(blocked)} ${are(blocked)} blocked.`,
   /** @type {(count: N) => T} */
   eventsAlone: count =>
     `The browser tells of ${counted(count, 'violation')}. No page was given, so nothing else was judged.`,

@@ -22,7 +22,8 @@ export const raw = () => {
 
 export const choices = () => ({
   form: chosen('form'), unsafeHashes: by('hashes').checked, proof: by('proof').value,
-  required: by('required').value, embedder: by('embedder').value.trim(), subject: Number(by('subject').value || 0),
+  required: by('required').value, embedder: by('embedder').value.trim(),
+  subject: Number(by('subject').value || 0),
 });
 
 /**

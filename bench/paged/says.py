@@ -217,7 +217,7 @@ def page(person):
     browser.run("void (navigator.clipboard.writeText = async text => { window.copied = text; })")
     for it in ("text", "Markdown", "JSON"):
         browser.click(f"#answers [data-as={it}]")
-        browser.wait("document.getElementById('copied').textContent === 'Copied.'")
+        browser.wait("document.querySelector('#answers .copies [data-says=copied]') !== null")
     person.note()
     browser.click("#link")
     person.note()
