@@ -7,7 +7,8 @@
  */
 
 /**
- * Things that are alike: what `of`, how many, why, and what to do. `rows` are its places, `copy` a text to be copied.
+ * Things that are alike: what `of`, how many, why, and what to do. `rows` are its places, `copy` a text to be
+ * copied.
  * @typedef {{ mood: Mood, badge: string, directive: string, of: string, count: number, because: Text[],
  *   todo: Text[], copy?: string, columns: string[], rows: Cell[][] }} Group
  */
@@ -19,22 +20,66 @@
  */
 
 /**
- * @typedef {{ kind: 'paragraph', text: Text, mood?: Mood }
- *   | { kind: 'list', head: Text, items: Text[], isFolded?: boolean, isOrdered?: boolean }
- *   | { kind: 'table', head: Text, columns: string[], rows: Cell[][], isFolded?: boolean }
- *   | { kind: 'code', head: Text, text: string, file?: string, isFolded?: boolean }
- *   | { kind: 'groups', head: Text, groups: Group[], isFolded?: boolean }
- *   | { kind: 'matrix', head: Text, columns: string[], rows: MatrixRow[], signs: Sign[], isFolded?: boolean }} Block
+ * @typedef {{ kind: 'paragraph', text: Text }} Paragraph
+ * @typedef {{ kind: 'list', head: Text, items: readonly Text[], isFolded?: boolean,
+ *   isOrdered?: boolean }} List
+ * @typedef {{ kind: 'table', head: Text, columns: string[], rows: Cell[][], isFolded?: boolean }} Table
+ * @typedef {{ kind: 'code', head: Text, text: string, file?: string, isFolded?: boolean }} Code
+ * @typedef {{ kind: 'groups', head: Text, groups: Group[], isFolded?: boolean }} Groups
+ * @typedef {{ kind: 'matrix', head: Text, columns: string[], rows: MatrixRow[], signs: Sign[],
+ *   isFolded?: boolean }} Matrix
+ * @typedef {Paragraph | List | Table | Code | Groups | Matrix} Block
  */
 
 /**
- * `mood` is the colour of the sentence; `more` stands below it, `unseen` beside it, since it tells what was not
- * looked at. `data` is the answer for programs.
- * @typedef {{ mood: Mood, sentence: Text, more: Text[], blocks: Block[], unseen: Text[], data: unknown }} Answer
+ * `mood` is the colour of the sentence; `more` stands below it, `unseen` beside it, since it tells what was
+ * not looked at. `data` is the answer for programs.
+ * @typedef {{ mood: Mood, sentence: Text, more: Text[], blocks: Block[], unseen: Text[], data: unknown
+ *   }} Answer
  */
 
 /** @param {Cell} cell */
 export const textOf = cell => typeof cell === 'string' ? cell : cell.text;
+
+/** @param {string} text */
+export const code = text => ({ text, isCode: true });
+
+/**
+ * A list, or none where it would be empty.
+ * @param {Text} head
+ * @param {readonly Text[]} items
+ * @param {{ isFolded?: boolean, isOrdered?: boolean }} [more]
+ * @returns {Block[]}
+ */
+export const list = (head, items, more) => items.length === 0 ? [] : [{ kind: 'list', head, items, ...more }];
+
+/**
+ * A table, or none where it would be empty.
+ * @param {Text} head
+ * @param {string[]} columns
+ * @param {Cell[][]} rows
+ * @param {{ isFolded?: boolean }} [more]
+ * @returns {Block[]}
+ */
+export const table = (head, columns, rows, more) =>
+  rows.length === 0 ? [] : [{ kind: 'table', head, columns, rows, ...more }];
+
+/**
+ * Groups, or none.
+ * @param {Text} head
+ * @param {Group[]} groups
+ * @returns {Block[]}
+ */
+export const grouped = (head, groups) => groups.length === 0 ? [] : [{ kind: 'groups', head, groups }];
+
+/**
+ * A text to be copied, or none.
+ * @param {Text} head
+ * @param {string | null | undefined} text
+ * @param {{ file?: string, isFolded?: boolean }} [more]
+ * @returns {Block[]}
+ */
+export const copied = (head, text, more) => text ? [{ kind: 'code', head, text, ...more }] : [];
 
 /** @param {number} count */
 export const number = count => count.toLocaleString('en');
@@ -46,7 +91,7 @@ export const number = count => count.toLocaleString('en');
  */
 export const counted = (count, noun) => `${number(count)} ${noun}${count === 1 ? '' : 's'}`;
 
-const ORDINALS = ['first', 'second', 'third', 'fourth', 'fifth', 'sixth', 'seventh', 'eighth', 'ninth', 'tenth'];
+const ORDINALS = ['first', 'second', 'third', 'fourth', 'fifth', 'sixth', 'seventh', 'eighth'];
 
 /** @param {number} policy counted from 0 */
 export const ordinal = policy => ORDINALS[policy] ?? `${policy + 1}th`;

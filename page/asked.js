@@ -12,7 +12,8 @@ import { choices, question, raw, state } from './state.js';
  * @typedef {import('./asking.js').Asking} Asking
  */
 
-const answers = /** @type {Map<string, { revision: number, answer: Answer, element: HTMLElement }>} */ (new Map());
+/** @typedef {{ revision: number, answer: Answer, element: HTMLElement }} Kept */
+const answers = /** @type {Map<string, Kept>} */ (new Map());
 let running = 0, count = 0;
 
 /** Shows the answer of the question at hand. */
@@ -65,9 +66,10 @@ const withoutAnswer = error => {
   if (error instanceof Stopped) return { ...told, mood: 'plain', sentence: say('stopped') };
   if (!(error instanceof NoAnswer)) throw error;
   const { file, line, problem, hint = '' } = error.refused;
-  const where = [...file === undefined ? [] : [NAMES[file] ?? file], ...line === undefined ? [] : [`line ${line}`]].join(', ');
-  const text = where === '' ? problem : `${where}: ${problem}`;
-  return { ...told, mood: 'warn', sentence: say('refused', text[0].toUpperCase() + text.slice(1)), more: hint === '' ? [] : hint.split('\n') };
+  const places = [file === undefined ? '' : NAMES[file] ?? file, line === undefined ? '' : `line ${line}`];
+  const text = [places.filter(it => it !== '').join(', '), problem].filter(it => it !== '').join(': ');
+  const sentence = say('refused', text[0].toUpperCase() + text.slice(1));
+  return { ...told, mood: 'warn', sentence, more: hint === '' ? [] : hint.split('\n') };
 };
 
 /**
@@ -89,7 +91,8 @@ export const ask = async asking => {
   const slow = setTimeout(() => { by('busy').hidden = false; }, 300);
   by('busy-bar').removeAttribute('value');
   try {
-    keep(name, await asking.ask('answer', { question: name, raw: raw(), choices: choices() }, progress), revision);
+    const given = { question: name, raw: raw(), choices: choices() };
+    keep(name, await asking.ask('answer', given, progress), revision);
   } catch (error) {
     keep(name, withoutAnswer(error), revision);
   } finally {
@@ -98,17 +101,25 @@ export const ask = async asking => {
   }
 };
 
-/** @param {string} text */
-export const copy = async text => {
+/**
+ * @param {string} text
+ * @param {HTMLElement} button beside which it is said
+ */
+export const copy = async (text, button) => {
   await navigator.clipboard.writeText(text);
-  by('copied').replaceChildren(told('span', say('copied')));
+  button.parentElement?.querySelector('[data-says=copied]')?.remove();
+  button.after(told('span', say('copied')));
   saidAloud(textOf(say('copied')));
 };
 
-/** @param {string} as copies the answer of the question at hand */
-export const copyAnswer = as => {
+/**
+ * Copies the answer of the question at hand.
+ * @param {string} as
+ * @param {HTMLElement} button
+ */
+export const copyAnswer = (as, button) => {
   const found = answers.get(question());
   if (found === undefined) return;
   const { answer } = found, asked = { question: question(), origin: state.origin };
-  copy(as === 'JSON' ? asJson(answer, asked) : as === 'Markdown' ? asMarkdown(answer) : asText(answer));
+  copy(as === 'JSON' ? asJson(answer, asked) : as === 'Markdown' ? asMarkdown(answer) : asText(answer), button);
 };

@@ -1,6 +1,9 @@
 /** Asks the worker: one task at a time, with progress; to stop one, its worker is ended and another begun. */
 
-/** @typedef {{ file?: string, line?: number, problem: string, hint?: string }} Refused why there is no answer */
+/**
+ * Why there is no answer.
+ * @typedef {{ file?: string, line?: number, problem: string, hint?: string }} Refused
+ */
 
 /** There is no answer, as the engine or a reader says. */
 export class NoAnswer extends Error {
@@ -44,7 +47,8 @@ export class Asking {
   }
 
   async #begun() {
-    const url = URL.createObjectURL(new Blob([this.#code], { type: 'text/javascript' })), worker = new Worker(url);
+    const blob = new Blob([this.#code], { type: 'text/javascript' });
+    const worker = new Worker(URL.createObjectURL(blob));
     worker.addEventListener('message', ({ data }) => this.#heard(data));
     worker.addEventListener('error', event => this.#failed(event.message));
     worker.postMessage({ module: await this.#module });

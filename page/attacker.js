@@ -1,7 +1,7 @@
 /** What an attacker could do who writes markup into the page. */
 import { audit } from '../js/index.js';
-import { groupedBy, joined, ordinal } from './answer.js';
-import { readingBlocks } from './reading.js';
+import { code, grouped, groupedBy, joined, list, ordinal, table } from './answer.js';
+import { headersText, readingBlocks } from './reading.js';
 import { say } from './sentences.js';
 
 /**
@@ -9,30 +9,27 @@ import { say } from './sentences.js';
  * @typedef {import('../js/audit.js').Audit} Audit
  * @typedef {import('../js/audit.js').Row} Row
  * @typedef {import('./answer.js').Answer} Answer
- * @typedef {import('./answer.js').Block} Block
- * @typedef {import('./answer.js').Cell} Cell
  * @typedef {import('./answer.js').Group} Group
  */
-
-/** @typedef {{ origin: string, reading: import('./reading.js').Reading }} Given header lines of a page of an origin */
 
 /** @param {Row} row whether it runs what the attacker wrote, and takes no more than markup */
 const isCode = ({ runs, can, with: needs }) => runs && can !== 'no' && needs === undefined;
 
-/** @param {Row} row */
+/** @param {Row} row whether it does so with something more */
 const isHosted = row => row.runs && row.can !== 'no' && row.with !== undefined;
 
 /**
  * @param {Audit} audit
  * @returns {Pick<Answer, 'mood' | 'sentence'>}
  */
-export const summed = ({ rows, blocksNothing }) => {
-  const possible = rows.filter(it => it.can !== 'no'), code = possible.filter(isCode).length;
-  const hosted = possible.filter(isHosted).length, rest = possible.filter(it => !it.runs).length;
+const summed = ({ rows, blocksNothing }) => {
+  const code = rows.filter(isCode).length, hosted = rows.filter(isHosted).length;
+  const rest = rows.filter(it => it.can !== 'no' && !it.runs).length;
   if (blocksNothing) return { mood: 'bad', sentence: say('allPossible') };
   if (code > 0) return { mood: 'bad', sentence: say('runsCode', code, rest) };
   if (hosted > 0) return { mood: 'warn', sentence: say('runsHosted', hosted, rest) };
-  return rest > 0 ? { mood: 'warn', sentence: say('noCode', rest) } : { mood: 'good', sentence: say('nothingPossible') };
+  if (rest > 0) return { mood: 'warn', sentence: say('noCode', rest) };
+  return { mood: 'good', sentence: say('nothingPossible') };
 };
 
 const BADGES = { yes: 'possible', reported: 'possible, reported', no: 'blocked' };
@@ -49,67 +46,60 @@ const stopText = ({ text, policy, directive }, policies) => {
 
 /**
  * @param {Row[]} rows of one action with one answer and one ground
- * @param {number} policies
  * @returns {Group}
  */
-const groupOf = (rows, policies) => {
-  const [row] = rows, of = rows.flatMap(it => it.from ?? []), code = rows.some(isCode);
+const groupOf = rows => {
+  const [{ can, action, because, with: needs, stops, policies }] = rows;
   return {
-    mood: code ? 'bad' : 'warn', badge: BADGES[row.can], directive: row.action, of: joined(of), count: 1,
-    because: [say('because', row.because), ...row.with === undefined ? [] : [say('takes', row.with)]],
-    todo: row.stops.map(it => say('stops', stopText(it, policies))), columns: [], rows: [],
+    mood: rows.some(isCode) ? 'bad' : 'warn', badge: BADGES[can], directive: action, count: 1,
+    of: joined(rows.flatMap(it => it.from ?? [])),
+    because: [say('because', because), ...needs === undefined ? [] : [say('takes', needs)]],
+    todo: stops.map(it => say('stops', stopText(it, policies.length))), columns: [], rows: [],
   };
 };
 
-/** @param {Row} row */
-const keyOf = row => JSON.stringify([row.action, row.can, row.because, row.with, row.stops.map(it => it.text)]);
+/** @param {Row} row what the rows of a group have in common */
+const keyOf = ({ action, can, because, with: needs, stops }) =>
+  JSON.stringify([action, can, because, needs, stops.map(it => it.text)]);
 
-/**
- * @param {Row[]} rows
- * @returns {Cell[][]}
- */
-const blockedRows = rows => groupedBy(rows, it => [it.action, it.because].join('\n')).map(all =>
-  [`${all[0].action} ${joined(all.flatMap(it => it.from ?? []))}`.trim(),
-    { text: all[0].because.replace(/ blocks it$/, ''), isCode: true }]);
+/** @param {Row[]} rows */
+const blockedRows = rows => groupedBy(rows, it => `${it.action}\n${it.because}`).map(all => {
+  const what = `${all[0].action} ${joined(all.flatMap(it => it.from ?? []))}`;
+  return [what.trim(), code(all[0].because.replace(/ blocks it$/, ''))];
+});
 
-/**
- * @param {Audit} audit
- * @returns {Block[]}
- */
+/** @param {Audit['known'][0]} known */
+const knownText = ({ directive, token, said }) =>
+  `${token === null ? directive : `${directive} ${token}`}: ${said}`;
+
+/** @param {Audit} audit */
 const blocksOf = ({ rows, known }) => {
   const possible = rows.filter(it => it.can !== 'no'), not = rows.filter(it => it.can === 'no');
-  const policies = rows[0]?.policies.length ?? 0;
-  const groups = groupedBy(possible, keyOf).map(it => groupOf(it, policies))
+  const groups = groupedBy(possible, keyOf).map(groupOf)
     .sort((a, b) => Number(a.mood !== 'bad') - Number(b.mood !== 'bad'));
-  const facts = known.map(it => `${it.token === null ? it.directive : `${it.directive} ${it.token}`}: ${it.said}`);
   return [
-    ...groups.length === 0 ? [] : [/** @type {Block} */ ({ kind: 'groups', head: say('possible', possible.length), groups })],
-    ...facts.length === 0 ? [] : [/** @type {Block} */ ({ kind: 'list', head: say('known'), items: facts })],
-    ...not.length === 0 ? [] : [/** @type {Block} */ ({
-      kind: 'table', head: say('impossible', not.length), columns: ['What', 'Blocked by'], rows: blockedRows(not), isFolded: true,
-    })],
+    ...grouped(say('possible', possible.length), groups), ...list(say('known'), known.map(knownText)),
+    ...table(say('impossible', not.length), ['What', 'Blocked by'], blockedRows(not), { isFolded: true }),
   ];
 };
 
 /**
  * @param {Program} program
- * @param {Given} given
+ * @param {{ origin: string, reading: import('./reading.js').Reading }} given
  * @returns {Answer}
  */
 export const attacker = (program, { origin, reading }) => {
-  const headers = reading.lines.map(it => `${it}\n`).join('');
-  if (reading.lines.length === 0) {
-    return { mood: 'bad', sentence: say('noHeaders'), more: [], blocks: readingBlocks([reading]), unseen: [], data: null };
+  const { lines } = reading, blocks = readingBlocks([reading]);
+  if (lines.length === 0) {
+    return { mood: 'bad', sentence: say('noHeaders'), more: [], blocks, unseen: [], data: null };
   }
-  const found = audit(program, { origin, headers });
+  const found = audit(program, { origin, headers: headersText(lines) });
   return {
     ...summed(found), more: [say('attackerOf', origin)], unseen: found.notCovered,
-    blocks: [...readingBlocks([reading]), ...blocksOf(found)], data: found,
+    blocks: [...blocks, ...blocksOf(found)], data: found,
   };
 };
 
 /** @param {Audit} audit what is possible, for an answer about something else */
-export const possibleList = ({ rows, known }) => [
-  ...rows.filter(it => it.can !== 'no').map(it => it.sentence),
-  ...known.map(it => `${it.token ?? it.directive}: ${it.said}`),
-];
+export const possibleList = ({ rows, known }) =>
+  [...rows.filter(it => it.can !== 'no').map(it => it.sentence), ...known.map(knownText)];

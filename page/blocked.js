@@ -1,25 +1,24 @@
-/** What is blocked: what the engine says of each page, with its reasons, and what a browser says beside it. */
+/** What is blocked: what the engine says of each page with its reasons, and what a browser says beside it. */
 import { besideBrowser } from '../js/beside.js';
 import { blocksNothing, why } from '../js/index.js';
 import { NO_TEXT, WITHOUT_POLICY } from '../js/readers/har.js';
-import { keyOf } from '../js/readers/hops.js';
-import { urlOf } from '../js/readers/urls.js';
 import { askOfPage } from '../js/sites.js';
 import { allowingOf } from './allow.js';
-import { counted, groupedBy } from './answer.js';
+import { grouped, list, table } from './answer.js';
+import { headersText, readingBlocks, readingsOf } from './reading.js';
 import { pageMatrix } from './matrix.js';
-import { readingBlocks, readingsOf } from './reading.js';
-import { allowedRows, groupsOf, nameOf, placeOf, sampleOf, short } from './rows.js';
+import { allowedRows, groupsOf, nameOf } from './rows.js';
 import { say } from './sentences.js';
+import { aloneBlock, untoldBlock } from './told.js';
 import { unseenOf } from './unseen.js';
 
 /**
  * @typedef {import('../js/index.js').Program} Program
  * @typedef {import('../js/readers/site.js').Site} Site
+ * @typedef {import('../js/beside.js').Beside} Beside
  * @typedef {import('./rows.js').PageAnswer} PageAnswer
  * @typedef {import('./rows.js').Row} Row
  * @typedef {import('./answer.js').Answer} Answer
- * @typedef {import('./answer.js').Block} Block
  * @typedef {import('./answer.js').Text} Text
  * @typedef {(done: number, all: number) => void} Tell
  */
@@ -50,7 +49,7 @@ const asksAnything = ({ page: { role = 'page' }, judged }) => role === 'page' ||
 class Summary {
   /**
    * @param {PageAnswer[]} answers
-   * @param {import('../js/beside.js').Beside[]} beside
+   * @param {Beside[]} beside
    */
   constructor(answers, beside) {
     this.answers = answers.filter(asksAnything);
@@ -62,134 +61,94 @@ class Summary {
     this.alone = beside.filter(it => !it.isSame);
   }
 
+  // Good news only where all was looked at that can be, and no browser says anything
   get mood() {
-    const { blocked, reported, all } = this.counts;
-    if (blocked > 0 || this.alone.some(it => it.violation.disposition !== 'report')) return 'bad';
-    const isGood = reported === 0 && all > 0 && this.enforced.length + this.nothing.length + this.noInline.length === 0
-      && this.beside.length === 0;
-    return isGood ? 'good' : 'warn';
+    const { blocked, reported, all } = this.counts, { enforced, nothing, noInline, beside, alone } = this;
+    if (blocked > 0 || alone.some(it => it.violation.disposition !== 'report')) return 'bad';
+    const doubts = [enforced, nothing, noInline, beside].reduce((sum, it) => sum + it.length, reported);
+    return all > 0 && doubts === 0 ? 'good' : 'warn';
+  }
+
+  get where() {
+    const { length } = this.answers, isPages = this.answers.every(it => (it.page.role ?? 'page') === 'page');
+    return length < 2 ? '' : ` on ${length} ${isPages ? 'pages' : 'pages, frames and workers'}`;
   }
 
   /** @returns {Text} */
   get sentence() {
-    const { all, blocked } = this.counts, { alone, answers } = this;
-    if (alone.length > 0 && answers.length === 0) return say('eventsAlone', alone.length);
-    if (alone.length > 0) return say('browserAlone', alone.length, blocked, all);
+    const { counts: { all, blocked }, alone, answers } = this;
+    if (alone.length > 0) {
+      return answers.length === 0 ? say('eventsAlone', alone.length)
+        : say('browserAlone', alone.length, blocked, all);
+    }
     if (all === 0) return say('nothingJudged');
-    const isPages = answers.every(it => (it.page.role ?? 'page') === 'page'), pages = counted(answers.length, 'page');
-    const where = answers.length < 2 ? '' : ` on ${isPages ? pages : `${pages}, frames and workers`}`;
-    return blocked === 0 ? say('noneBlocked', all, where) : say('someBlocked', blocked, all, where);
+    return blocked === 0 ? say('noneBlocked', all, this.where) : say('someBlocked', blocked, all, this.where);
   }
 
   /** @returns {Text[]} */
   get more() {
-    const { perhaps, reported, blocked } = this.counts, { beside, alone } = this;
+    const { perhaps, reported, blocked } = this.counts, { beside, alone, answers } = this;
     return [
       ...this.enforced.length > 0 ? [say('recordedEnforced')] : [],
       ...perhaps > 0 ? [say('perhapsBlocked', perhaps)] : [],
       ...reported > 0 ? [say('wouldBlock', reported, blocked)] : [],
       ...this.nothing.map(it => say('decidesNothing', nameOf(it.page))),
       ...this.noInline.length > 0 ? [say('inlineNotGiven', this.noInline.map(it => nameOf(it.page)))] : [],
-      ...beside.length > 0 && this.answers.length > 0 ? [say('browserTells', beside.length, beside.length - alone.length)] : [],
+      ...beside.length > 0 && answers.length > 0
+        ? [say('browserTells', beside.length, beside.length - alone.length)] : [],
     ];
   }
 }
 
-/**
- * What a browser tells of and this answer doesn't have, by directive and host.
- * @param {Summary} summary
- * @returns {Block[]}
- */
-const aloneBlock = ({ alone }) => {
-  if (alone.length === 0) return [];
-  const hostOf = (/** @type {string} */ blocked) => urlOf(blocked)?.host || blocked;
-  const nameOfGroup = (/** @type {typeof alone[0]} */ { violation: { directive, blocked, disposition }, piece }) =>
-    [directive, hostOf(blocked), disposition, piece === undefined].join('\n');
-  const groups = groupedBy(alone, nameOfGroup).map(all => {
-    const [{ violation: { directive, blocked, disposition }, piece }] = all, isReport = disposition === 'report';
-    return /** @type {import('./answer.js').Group} */ ({
-      mood: isReport ? 'warn' : 'bad', badge: isReport ? 'reported' : 'blocked', directive, of: hostOf(blocked), count: all.length,
-      because: [say(piece === undefined ? 'notGiven' : 'saysOther')], todo: [], columns: ['Which', 'Where', 'Code'],
-      rows: all.map(({ violation: { blocked: which, page, file, line, sample } }) =>
-        [short(which), [file || page, ...line === undefined ? [] : [`line ${line}`]].join(', '), { text: short(sample), isCode: true }]),
-    });
-  });
-  return [{ kind: 'groups', head: say('toldAlone'), groups }];
-};
-
-/**
- * What a browser says nothing of, on pages of which it tells anything.
- * @param {Summary} summary
- * @returns {Block[]}
- */
-const untoldBlock = ({ beside, answers }) => {
-  const said = new Set(beside.map(it => it.piece)), pages = new Set(beside.map(it => keyOf(it.violation.page)));
-  const rows = answers.filter(it => pages.has(keyOf(it.page.url)) || pages.has(''))
-    .flatMap(({ page, judged }) => judged.map(it => ({ page, ...it })))
-    .filter(({ piece, answer }) => answer.items.length > 0 && !said.has(piece))
-    .map(it => [it.answer.blocked ? 'blocked' : 'reported', { text: it.answer.items[0].effective, isCode: true },
-      sampleOf(it.piece), placeOf(it)]);
-  return rows.length === 0 ? [] : [{
-    kind: 'table', head: say('untold', rows.length), columns: ['This answer', 'Directive', 'Which', 'Where'], rows, isFolded: true,
-  }];
-};
-
-/**
- * @param {PageAnswer[]} answers
- * @returns {Block[]}
- */
+/** @param {PageAnswer[]} answers */
 const pagesBlock = answers => {
-  const all = answers.filter(asksAnything);
-  if (all.length < 2) return [];
-  const rows = all.map(it => {
-    const { all: count, blocked, reported } = countsOf([it]), { role = 'page' } = it.page;
-    return [`${role === 'page' ? '' : `${role} `}${nameOf(it.page)}`, String(blocked), String(reported), String(count)];
+  const rows = answers.filter(asksAnything).map(it => {
+    const { all, blocked, reported } = countsOf([it]), { role = 'page' } = it.page;
+    const name = role === 'page' ? nameOf(it.page) : `${role} ${nameOf(it.page)}`;
+    return [name, ...[blocked, reported, all].map(String)];
   });
-  return [{ kind: 'table', head: say('byPage'), columns: ['Page', 'Blocked', 'Reported', 'Of'], rows }];
+  return rows.length < 2 ? [] : table(say('byPage'), ['Page', 'Blocked', 'Reported', 'Of'], rows);
 };
 
-/** @returns {Block[]} */
 const recipe = () => [
-  { kind: 'list', head: say('recordInChromium'), items: WITHOUT_POLICY.chromium, isFolded: true, isOrdered: true },
-  { kind: 'list', head: say('recordInFirefox'), items: WITHOUT_POLICY.firefox, isFolded: true, isOrdered: true },
+  ...list(say('recordInChromium'), WITHOUT_POLICY.chromium, { isFolded: true, isOrdered: true }),
+  ...list(say('recordInFirefox'), WITHOUT_POLICY.firefox, { isFolded: true, isOrdered: true }),
 ];
 
 /**
  * @param {PageAnswer[]} answers
- * @param {Set<unknown>} said
+ * @param {Beside[]} beside
  */
-const dataOf = (answers, said) => answers.map(({ page, judged }) => {
-  const { file, url, origin, role = 'page', isEnforced: recordedUnderPolicy = false } = page;
-  const items = judged.map(({ piece, answer: { checks, ...answer } }) => {
-    const { request, line, column, possible = false } = piece;
-    return { ...answer, request, line, column, possible, browser: said.has(piece) };
+const dataOf = (answers, beside) => {
+  const said = new Set(beside.map(it => it.piece));
+  const pages = answers.map(({ page, judged }) => {
+    const { file, url, origin, role = 'page', isEnforced: recordedUnderPolicy = false } = page;
+    const items = judged.map(({ piece, answer: { checks, ...answer } }) => {
+      const { request, line, column, possible = false } = piece;
+      return { ...answer, request, line, column, possible, browser: said.has(piece) };
+    });
+    return { file, url, origin, role, recordedUnderPolicy, items };
   });
-  return { file, url, origin, role, recordedUnderPolicy, items };
-});
-
-/**
- * @param {Program} program
- * @param {Site} site
- * @param {Tell} tell
- */
-const askedOf = (program, site, tell) => site.pages.map((page, n) => {
-  tell(n, site.pages.length);
-  return askOfPage(program, page, why);
-});
+  return { pages, browserAlone: beside.filter(it => !it.isSame).map(it => it.violation) };
+};
 
 /**
  * @param {Program} program
  * @param {PageAnswer[]} answers
- * @returns {Promise<Row[]>}
  */
 const rowsOf = async (program, answers) => {
   const rows = /** @type {Row[]} */ ([]);
   for (const it of answers) {
-    const allowing = await allowingOf(program, it);
-    rows.push(...it.judged.map(({ piece, answer }) =>
-      ({ page: it.page, piece, answer, allowing: allowing.get(piece) })));
+    const allowing = await allowingOf(program, it), { page } = it;
+    rows.push(...it.judged.map(of => ({ page, ...of, allowing: allowing.get(of.piece) })));
   }
   return rows;
+};
+
+/** @param {Given} given how the headers of its pages were read, or those of the field */
+const readingBlocksOf = ({ site, reading }) => {
+  const own = readingsOf(site.pages), { left } = reading;
+  return readingBlocks(own.length === 0 ? [reading] : own.length === 1 ? [{ ...own[0], left }] : own);
 };
 
 /**
@@ -199,45 +158,41 @@ const rowsOf = async (program, answers) => {
  * @param {Tell} tell
  * @returns {Promise<Answer>}
  */
-export const blocked = async (program, { site, reading, origin }, tell) => {
-  if (site.pages.length === 0 && site.events.length === 0) return headersAlone(program, reading, origin);
-  const answers = askedOf(program, site, tell), events = site.events.flatMap(it => it.rows);
-  const beside = besideBrowser(answers, events), summary = new Summary(answers, beside);
+export const blocked = async (program, given, tell) => {
+  const { pages, events } = given.site;
+  if (pages.length === 0 && events.length === 0) return headersAlone(program, given);
+  const answers = pages.map((page, n) => {
+    tell(n, pages.length);
+    return askOfPage(program, page, why);
+  });
+  const beside = besideBrowser(answers, events.flatMap(it => it.rows));
+  const summary = new Summary(answers, beside), columns = ['Times', 'What', 'Allowed by'];
   const rows = await rowsOf(program, answers), not = rows.filter(it => it.answer.items.length > 0);
-  const allowed = rows.filter(it => it.answer.items.length === 0), said = new Set(beside.map(it => it.piece));
-  const own = readingsOf(site.pages), readings = own.length > 0 ? own : [reading];
+  const allowed = allowedRows(rows.filter(it => it.answer.items.length === 0));
   return {
-    mood: summary.mood, sentence: summary.sentence, more: summary.more, unseen: unseenOf(site),
+    mood: summary.mood, sentence: summary.sentence, more: summary.more, unseen: unseenOf(given.site),
     blocks: [
-      ...readingBlocks(readings.length === 1 ? [{ ...readings[0], left: reading.left }] : readings),
-      ...aloneBlock(summary),
-      ...not.length === 0 ? [] : [/** @type {Block} */ ({ kind: 'groups', head: say('notAllowed'), groups: groupsOf(not) })],
-      ...untoldBlock(summary), ...pagesBlock(answers),
-      ...pageMatrix(program, answers),
-      ...allowed.length === 0 ? [] : [/** @type {Block} */ ({
-        kind: 'table', head: say('allowed', allowed.length), columns: ['Times', 'What', 'Allowed by'],
-        rows: allowedRows(allowed), isFolded: true,
-      })],
+      ...readingBlocksOf(given), ...aloneBlock(beside), ...grouped(say('notAllowed'), groupsOf(not)),
+      ...untoldBlock(beside, answers), ...pagesBlock(answers), ...pageMatrix(program, answers),
+      ...table(say('allowed', rows.length - not.length), columns, allowed, { isFolded: true }),
       ...summary.enforced.length > 0 ? recipe() : [],
     ],
-    data: { pages: dataOf(answers, said), browserAlone: summary.alone.map(it => it.violation) },
+    data: dataOf(answers, beside),
   };
 };
 
 /**
  * What is told of headers where nothing was given that a page loads.
  * @param {Program} program
- * @param {import('./reading.js').Reading} reading
- * @param {string} origin
+ * @param {Given} given
  * @returns {Answer}
  */
-const headersAlone = (program, reading, origin) => {
-  const headers = reading.lines.map(it => `${it}\n`).join('');
-  const isVoid = blocksNothing(program, { origin, headers });
+const headersAlone = (program, { reading, origin }) => {
+  const { lines } = reading, isVoid = blocksNothing(program, { origin, headers: headersText(lines) });
   return {
     mood: 'warn', sentence: say('nothingJudged'),
     more: [...isVoid ? [say('decidesNothing', 'a page with these headers')] : [], say('giveAPage')],
-    blocks: [...readingBlocks([reading]), ...pageMatrix(program, [], { origin, lines: reading.lines })],
+    blocks: [...readingBlocks([reading]), ...pageMatrix(program, [], { origin, lines })],
     unseen: [], data: { pages: [], browserAlone: [] },
   };
 };

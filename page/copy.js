@@ -9,16 +9,20 @@ import { textOf } from './answer.js';
 
 /**
  * How the parts of a text are written.
- * @typedef {{ head: (text: string) => string[], item: (text: string, n?: number) => string, code: (text: string) => string[],
- *   table: (columns: string[], rows: Cell[][]) => string[], plain: (text: string) => string }} Style
+ * @typedef {{ head: (text: string) => string[], item: (text: string, n?: number | false) => string,
+ *   code: (text: string) => string[], table: (columns: string[], rows: Cell[][]) => string[],
+ *   plain: (text: string) => string }} Style
  */
 
 const GAP = '  ';
 
+/** @param {number | false} [n] */
+const pointOf = n => n ? `${n}.` : '-';
+
 /** @type {Style} */
 const TEXT = {
-  head: text => ['', text], item: (text, n) => `${n === undefined ? '-' : `${n}.`} ${text}`,
-  code: text => text.trimEnd().split('\n').map(it => `    ${it}`), plain: text => text,
+  head: text => ['', text], item: (text, n) => `${pointOf(n)} ${text}`, plain: text => text,
+  code: text => text.trimEnd().split('\n').map(it => `    ${it}`),
   table: (columns, rows) => {
     const all = [columns, ...rows.map(row => row.map(textOf))];
     const widths = columns.map((_, n) => Math.max(...all.map(row => (row[n] ?? '').length)));
@@ -42,8 +46,8 @@ const markdownCell = cell =>
 
 /** @type {Style} */
 const MARKDOWN = {
-  head: text => ['', `### ${escaped(text)}`, ''], item: (text, n) => `${n === undefined ? '-' : `${n}.`} ${escaped(text)}`,
-  code: text => ['```', text.trimEnd(), '```'], plain: escaped,
+  head: text => ['', `### ${escaped(text)}`, ''], item: (text, n) => `${pointOf(n)} ${escaped(text)}`,
+  plain: escaped, code: text => ['```', text.trimEnd(), '```'],
   table: (columns, rows) => [
     `| ${columns.map(escaped).join(' | ')} |`, `|${columns.map(() => ' --- ').join('|')}|`,
     ...rows.map(row => `| ${row.map(markdownCell).join(' | ')} |`),
@@ -54,10 +58,23 @@ const MARKDOWN = {
  * @param {import('./answer.js').Group} group
  * @param {Style} style
  */
-const groupLines = ({ badge, directive, of, count, because, todo, columns, rows }, style) => [
-  style.item(`${badge}: ${[directive, of].filter(it => it !== '').join(', ')}${count > 1 ? ` (${count} times)` : ''}`),
-  ...[...because, ...todo].map(it => `  ${style.plain(textOf(it))}`),
-  ...rows.length === 0 ? [] : ['', ...style.table(columns, rows), ''],
+const groupLines = ({ badge, directive, of, count, because, todo, columns, rows }, style) => {
+  const what = [directive, of].filter(it => it !== '').join(', ');
+  const times = count > 1 ? ` (${count} times)` : '';
+  const lines = [...because, ...todo].map(it => `  ${style.plain(textOf(it))}`);
+  return [
+    style.item(`${badge}: ${what}${times}`), ...lines,
+    ...rows.length === 0 ? [] : ['', ...style.table(columns, rows), ''],
+  ];
+};
+
+/**
+ * @param {import('./answer.js').Matrix} matrix
+ * @param {Style} style
+ */
+const matrixLines = ({ columns, rows, signs }, style) => [
+  ...style.table(['', ...columns], rows.map(it => [it.directive, ...it.signs.map(of => of.sign)])), '',
+  ...signs.map(it => style.item(`${it.sign} ${it.means}`)),
 ];
 
 /**
@@ -69,14 +86,12 @@ const blockLines = (block, style) => {
   if (block.kind === 'paragraph') return ['', style.plain(textOf(block.text))];
   const head = style.head(textOf(block.head));
   switch (block.kind) {
-    case 'list': return [...head, ...block.items.map((it, n) => style.item(textOf(it), block.isOrdered ? n + 1 : undefined))];
+    case 'list':
+      return [...head, ...block.items.map((it, n) => style.item(textOf(it), block.isOrdered && n + 1))];
     case 'table': return [...head, ...style.table(block.columns, block.rows)];
     case 'code': return [...head, ...style.code(block.text)];
     case 'groups': return [...head, ...block.groups.flatMap(it => groupLines(it, style))];
-    default: return [
-      ...head, ...style.table(['', ...block.columns], block.rows.map(it => [it.directive, ...it.signs.map(of => of.sign)])),
-      '', ...block.signs.map(it => style.item(`${it.sign} ${it.means}`)),
-    ];
+    default: return [...head, ...matrixLines(block, style)];
   }
 };
 
@@ -85,17 +100,18 @@ const blockLines = (block, style) => {
  * @param {Style} style
  * @param {string[]} begin
  */
-const linesOf = ({ sentence, more, blocks, unseen }, style, begin) => [
+const linesOf = ({ more, blocks, unseen }, style, begin) => [
   ...begin, ...more.map(it => style.plain(textOf(it))),
-  ...unseen.length === 0 ? [] : [...style.head('Not looked at, or known only in part'), ...unseen.map(it => style.item(textOf(it)))],
-  ...blocks.flatMap(it => blockLines(it, style)), '',
+  ...unseen.length === 0 ? [] : style.head('Not looked at, or known only in part'),
+  ...unseen.map(it => style.item(textOf(it))), ...blocks.flatMap(it => blockLines(it, style)), '',
 ];
 
 /** @param {Answer} answer */
 export const asText = answer => linesOf(answer, TEXT, [textOf(answer.sentence)]).join('\n');
 
 /** @param {Answer} answer */
-export const asMarkdown = answer => linesOf(answer, MARKDOWN, [`**${escaped(textOf(answer.sentence))}**`, '']).join('\n');
+export const asMarkdown = answer =>
+  linesOf(answer, MARKDOWN, [`**${escaped(textOf(answer.sentence))}**`, '']).join('\n');
 
 /**
  * @param {Answer} answer

@@ -14,8 +14,8 @@ import { question, raw, state } from './state.js';
  * @param {Reading} reading
  */
 const showReading = (id, reading) => {
-  const hasOwn = state.files.some(it => it.kind === 'har') && id === 'headers', isEmpty = state[id].trim() === '';
-  const own = hasOwn ? [told('li', say(isEmpty ? 'eachOwn' : 'forAll'))] : [];
+  const hasOwn = id === 'headers' && state.files.some(it => it.kind === 'har');
+  const own = hasOwn ? [told('li', say(state[id].trim() === '' ? 'eachOwn' : 'forAll'))] : [];
   const taken = 'fault' in reading ? [element('li', { class: 'bad' }, reading.fault)]
     : reading.read.map(it => element('li', {}, `Line ${it.line}: ${it.said}`));
   by(`${id}-read`).replaceChildren(...own, ...taken);
@@ -23,7 +23,8 @@ const showReading = (id, reading) => {
 
 /** @param {File} file */
 const addressField = ({ id, url = '' }) => {
-  const input = element('input', { 'data-url': String(id), id: `url-${id}`, spellcheck: 'false', autocomplete: 'off' });
+  const attributes = { 'data-url': String(id), id: `url-${id}`, spellcheck: 'false', autocomplete: 'off' };
+  const input = element('input', attributes);
   /** @type {HTMLInputElement} */ (input).value = url;
   return [element('label', { for: `url-${id}` }, 'Its address'), input];
 };
@@ -33,7 +34,9 @@ const LONGEST = 50_000;
 /** @param {File} file */
 const textField = ({ id, name, kind, text }) => {
   if (kind === 'reports' || text.length > LONGEST) return [];
-  const area = element('textarea', { 'data-text': String(id), rows: '8', spellcheck: 'false', 'aria-label': `The text of ${name}` });
+  const label = `The text of ${name}`;
+  const attributes = { 'data-text': String(id), 'rows': '8', 'spellcheck': 'false', 'aria-label': label };
+  const area = element('textarea', attributes);
   /** @type {HTMLTextAreaElement} */ (area).value = text;
   return [element('details', {}, element('summary', {}, 'Its text'), area)];
 };
@@ -43,7 +46,9 @@ const textField = ({ id, name, kind, text }) => {
  * @param {string} said
  */
 const fileItem = (file, said) => {
-  const remove = element('button', { type: 'button', 'data-remove': String(file.id), 'aria-label': `Remove ${file.name}` }, 'Remove');
+  const label = `Remove ${file.name}`;
+  const attributes = { 'type': 'button', 'data-remove': String(file.id), 'aria-label': label };
+  const remove = element('button', attributes, 'Remove');
   const head = element('p', {}, element('strong', {}, file.name), `: ${said} `, remove);
   return element('li', {}, head, ...file.kind === 'html' ? addressField(file) : [], ...textField(file));
 };
@@ -53,7 +58,8 @@ export const showFields = () => {
   const name = question(), isPair = ['weaker', 'proof'].includes(name);
   for (const it of all('[data-for]')) it.hidden = !it.dataset.for.split(' ').includes(name);
   by('files-field').hidden ||= state.files.length === 0;
-  by('subject-field').hidden = by('subject').options.length < 2 || ['blocked', 'make', 'reports'].includes(name);
+  const isOfAll = ['blocked', 'make', 'reports'].includes(name);
+  by('subject-field').hidden = by('subject').options.length < 2 || isOfAll;
   by('headers-label').textContent = isPair ? 'Old headers' : 'Headers of the page';
   by('example').hidden = !state.isExample;
 };

@@ -1,4 +1,4 @@
-/** What was given: headers, pages, recordings, reports and requests, in any form; and what each was taken for. */
+/** What was given, in any form: headers, pages, recordings, reports, requests; and what it was taken for. */
 import { readHeaders } from '../js/readers/headers.js';
 import { parseHtml } from '../js/readers/parse5.js';
 import { kindOf, readSite } from '../js/readers/site.js';
@@ -8,10 +8,13 @@ import { counted } from './answer.js';
  * @typedef {import('../js/readers/site.js').Site} Site
  * @typedef {import('./reading.js').Reading} Reading
  * @typedef {'har' | 'html' | 'requests' | 'events' | 'reports'} Kind
- * @typedef {{ id: number, name: string, kind: Kind, text: string, blob?: Blob, url?: string }} File `id` is of the
- *   file as it stands: another text makes it another file
- * @typedef {{ headers: string, newer: string, origin: string, files: File[] }} Raw the fields and files as they stand
  * @typedef {{ kind: 'headers', text: string } | { kind: 'file', file: Omit<File, 'id'> }} Taken
+ */
+
+/**
+ * The fields and files as they stand. `id` is of the file as it stands: another text makes it another file.
+ * @typedef {{ id: number, name: string, kind: Kind, text: string, blob?: Blob, url?: string }} File
+ * @typedef {{ headers: string, newer: string, origin: string, files: File[] }} Raw
  */
 
 const REPORT = /"(?:csp-report|csp-violation|effective-?directive|violated-?directive)"/i;
@@ -26,7 +29,8 @@ const META_ALONE = /^\s*(?:<meta\b[^>]*>\s*)+$/i;
 const kindIn = (name, text) => {
   const kind = kindOf({ name, text }), begin = text.slice(0, BEGIN);
   if (kind === 'html' && META_ALONE.test(text)) return 'headers';
-  if (kind === 'requests' && /content-security-policy/i.test(begin) && !/"kind"/.test(begin)) return 'headers';
+  const isHeaders = /content-security-policy/i.test(begin) && !/"kind"/.test(begin);
+  if (kind === 'requests' && isHeaders) return 'headers';
   if (kind !== undefined) return kind;
   if (/\.gz$/i.test(name) || REPORT.test(begin)) return 'reports';
   return /^\s*\{[^]*"kind"/.test(begin) ? 'requests' : 'headers';
@@ -46,8 +50,8 @@ export const takenFor = ({ name, text, blob = new Blob([text]) }) => {
   }
   const body = /^\s*(?:<\s)?HTTP\//.test(text) ? /<!doctype html|<html\b/i.exec(text)?.index : undefined;
   if (body === undefined) return [{ kind: 'headers', text }];
-  const page = /** @type {const} */ ({ kind: 'file', file: { name: '', kind: 'html', text: text.slice(body) } });
-  return [{ kind: 'headers', text: text.slice(0, body) }, page];
+  const page = /** @type {const} */ ({ name: '', kind: 'html', text: text.slice(body) });
+  return [{ kind: 'headers', text: text.slice(0, body) }, { kind: 'file', file: page }];
 };
 
 /**
@@ -55,7 +59,8 @@ export const takenFor = ({ name, text, blob = new Blob([text]) }) => {
  * @param {string} text
  * @returns {import('../js/readers/headers.js').Headers}
  */
-export const headersIn = text => text.trim() === '' ? { lines: [], taken: [], left: [] } : readHeaders(text, { parse: parseHtml });
+export const headersIn = text =>
+  text.trim() === '' ? { lines: [], taken: [], left: [] } : readHeaders(text, { parse: parseHtml });
 
 const sites = /** @type {Map<string, Site>} */ (new Map());
 
@@ -103,11 +108,13 @@ export class Given {
   /** @returns {Site} */
   get site() {
     const all = this.files.filter(it => it.kind !== 'reports').map(it => this.siteOf(it));
-    return { pages: all.flatMap(it => it.pages), events: all.flatMap(it => it.events), left: all.flatMap(it => it.left) };
+    const pages = all.flatMap(it => it.pages), events = all.flatMap(it => it.events);
+    return { pages, events, left: all.flatMap(it => it.left) };
   }
 
   get logs() {
-    return this.files.filter(it => it.kind === 'reports').map(({ name, blob }) => ({ name, content: blob ?? '' }));
+    const logs = this.files.filter(it => it.kind === 'reports');
+    return logs.map(({ name, blob }) => ({ name, content: blob ?? '' }));
   }
 
   /**
@@ -132,7 +139,8 @@ export class Given {
  * @param {File} file
  */
 const describedAs = (given, file) => {
-  if (file.kind === 'reports') return `reports, ${counted(Math.ceil((file.blob?.size ?? 0) / 1024), 'kilobyte')}`;
+  const size = Math.ceil((file.blob?.size ?? 0) / 1024);
+  if (file.kind === 'reports') return `reports, ${counted(size, 'kilobyte')}`;
   const { pages, events } = given.siteOf(file), pieces = pages.reduce((sum, it) => sum + it.pieces.length, 0);
   const violations = events.reduce((sum, it) => sum + it.rows.length, 0);
   if (file.kind === 'events') return `${counted(violations, 'violation')} that a browser tells of`;

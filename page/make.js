@@ -1,25 +1,22 @@
 /** A policy for what was given: by hosts, strict, or as an addition to the present one. */
 import { propose } from '../js/propose.js';
-import { counted, groupedBy, number } from './answer.js';
+import { code, copied, counted, grouped, groupedBy, list, number, table } from './answer.js';
 import { possibleList } from './attacker.js';
 import { say } from './sentences.js';
 
 /**
- * @typedef {import('../js/index.js').Program} Program
  * @typedef {import('../js/propose.js').Proposal} Proposal
  * @typedef {import('../js/propose.js').Row} Row
  * @typedef {import('../js/propose.js').Count} Count
- * @typedef {import('./answer.js').Answer} Answer
- * @typedef {import('./answer.js').Block} Block
- * @typedef {import('./answer.js').Cell} Cell
- * @typedef {import('./answer.js').Text} Text
+ * @typedef {import('../js/readers/html.js').Said & { file?: string }} Said
+ * @typedef {import('./answer.js').Group} Group
  */
 
 /** @param {Count} count */
 const sumOf = ({ requests, reports }) => requests + reports;
 
 /** @param {Count} count as `101 requests and 800 reports` */
-const textOf = ({ requests, reports }) => [
+const countText = ({ requests, reports }) => [
   ...requests > 0 || reports === 0 ? [counted(requests, 'request')] : [],
   ...reports > 0 ? [counted(reports, 'report')] : [],
 ].join(' and ');
@@ -30,85 +27,80 @@ const placeOf = ({ file, page, line, isReport, count }) => {
   return isReport ? counted(count, 'report') : `${name}${line === undefined ? '' : `, line ${line}`}`;
 };
 
-/**
- * @param {Row} row
- * @returns {Cell[]}
- */
-const cellsOf = row => [
-  `${row.said}${row.isPossible ? ' (perhaps)' : ''}`, placeOf(row), { text: row.hash ?? '', isCode: true },
-];
+const COLUMNS = ['What', 'Where', 'Its hash'];
+
+/** @param {Row} row */
+const cellsOf = row =>
+  [`${row.said}${row.isPossible ? ' (perhaps)' : ''}`, placeOf(row), code(row.hash ?? '')];
 
 /**
- * Rows below the advice that they have in common.
- * @param {Row[]} rows
- * @returns {Block[]}
+ * @param {Row[]} rows with the same advice
+ * @returns {Group}
  */
+const groupOf = rows => ({
+  mood: 'bad', badge: 'still blocked', directive: rows[0].directive, of: '', count: rows.length,
+  because: [], todo: [say('instead', rows[0].advice)], columns: COLUMNS, rows: rows.map(cellsOf),
+});
+
+/** @param {Row[]} rows */
 const stillBlocked = rows => {
-  if (rows.length === 0) return [];
-  const groups = groupedBy(rows, it => `${it.directive}\n${it.advice}`).sort((a, b) => b.length - a.length).map(all => ({
-    mood: /** @type {const} */ ('bad'), badge: 'still blocked', directive: all[0].directive, of: '', count: all.length,
-    because: [], todo: [say('instead', all[0].advice)], columns: ['What', 'Where', 'Its hash'], rows: all.map(cellsOf),
-  }));
-  return [{ kind: 'groups', head: say('stillBlocked', rows.length), groups }];
+  const groups = groupedBy(rows, it => `${it.directive}\n${it.advice}`).sort((a, b) => b.length - a.length);
+  return grouped(say('stillBlocked', rows.length), groups.map(groupOf));
+};
+
+/** @param {Proposal} proposal */
+export const additionsBlock = ({ additions, form }) => {
+  const rows = form !== 'addition' ? [] : additions.map(it => [number(it.count), code(it.directive),
+    code(it.sources.join(' ')), it.isTaken ? 'added' : 'left out: rare, may be noise']);
+  return table(say('additions'), ['Ends', 'Directive', 'Sources', 'In the policy'], rows);
 };
 
 /**
+ * How many violations additions would end.
  * @param {Proposal} proposal
- * @returns {Block[]}
  */
-export const additionsBlock = ({ additions, form }) => form !== 'addition' || additions.length === 0 ? [] : [{
-  kind: 'table', head: say('additions'), columns: ['Ends', 'Directive', 'Sources', ''],
-  rows: additions.map(it => [number(it.count), { text: it.directive, isCode: true },
-    { text: it.sources.join(' '), isCode: true }, it.isTaken ? 'added' : 'left out: rare, may be noise']),
-}];
-
-/**
- * @param {Proposal} proposal
- * @returns {Text[]}
- */
-export const madeSentences = ({ form, asked, before, after, nonces, additions }) => {
-  const left = sumOf(after), isThen = nonces.length > 0;
-  const still = left === 0 ? say('noneStill', textOf(asked), isThen) : say('someStill', left, textOf(asked), isThen);
-  if (form !== 'addition' || before === null) return [still];
-  const taken = additions.filter(it => it.isTaken).length;
-  return [say('wouldEnd', taken, sumOf(before) - left, sumOf(before)), still];
+export const endingSentence = ({ before, after, additions }) => {
+  const all = before === null ? 0 : sumOf(before);
+  return say('wouldEnd', additions.filter(it => it.isTaken).length, all - sumOf(after), all);
 };
 
-/**
- * @param {Proposal} proposal
- * @returns {Block[]}
- */
+/** @param {Proposal} proposal */
+const madeSentences = proposal => {
+  const { form, asked, after, nonces } = proposal, left = sumOf(after), isThen = nonces.length > 0;
+  const all = countText(asked);
+  const still = left === 0 ? say('noneStill', all, isThen) : say('someStill', left, all, isThen);
+  return form === 'addition' ? [endingSentence(proposal), still] : [still];
+};
+
+/** @param {Proposal} proposal */
 const blocksOf = proposal => {
-  const { headers, shorter, nonces, blocked, audit } = proposal, possible = audit === null ? [] : possibleList(audit);
+  const { headers, shorter, nonces, blocked, audit } = proposal;
   return [
-    { kind: 'code', head: say('madePolicy'), text: headers.trimEnd(), file: 'policy.txt' },
-    ...additionsBlock(proposal),
-    ...nonces.length === 0 ? [] : [/** @type {Block} */ ({
-      kind: 'table', head: say('needNonce', nonces.length), columns: ['What', 'Where', 'Its hash'], rows: nonces.map(cellsOf),
-    })],
-    ...stillBlocked(blocked),
-    ...possible.length === 0 ? [] : [/** @type {Block} */ ({ kind: 'list', head: say('stillPossible'), items: possible })],
-    ...shorter === null ? [] : [/** @type {Block} */ ({ kind: 'code', head: say('madeShorter'), text: shorter.trimEnd(), isFolded: true })],
+    ...copied(say('madePolicy'), headers.trimEnd(), { file: 'policy.txt' }), ...additionsBlock(proposal),
+    ...table(say('needNonce', nonces.length), COLUMNS, nonces.map(cellsOf)), ...stillBlocked(blocked),
+    ...list(say('stillPossible'), audit === null ? [] : possibleList(audit)),
+    ...copied(say('madeShorter'), shorter?.trimEnd(), { isFolded: true }),
   ];
 };
 
-/** @param {readonly import('../js/readers/html.js').Said[]} left */
+/** @param {readonly Said[]} left what is said of many places is told once */
 const leftTexts = left => groupedBy(left, it => it.said).map(all => {
-  const places = all.flatMap(it => /** @type {any} */ (it).file ?? []);
-  return places.length === 0 || places.length > 3 ? all[0].said : `${[...new Set(places)].join(', ')}: ${all[0].said}`;
+  const places = [...new Set(all.flatMap(it => it.file ?? []))];
+  return places.length === 0 || places.length > 3 ? all[0].said : `${places.join(', ')}: ${all[0].said}`;
 });
 
 /**
- * @param {Program} program
- * @param {import('../js/propose.js').Given & { left: import('../js/readers/html.js').Said[] }} given
- * @returns {Promise<Answer>}
+ * @param {import('../js/index.js').Program} program
+ * @param {import('../js/propose.js').Given & { left: Said[] }} given
+ * @returns {Promise<import('./answer.js').Answer>}
  */
 export const make = async (program, { left, ...given }) => {
   const proposal = await propose(program, given), { after, nonces, kept, gaps, cautions, unseen } = proposal;
-  const [sentence, ...more] = madeSentences(proposal);
+  const [sentence, ...more] = madeSentences(proposal), isLeft = sumOf(after) + nonces.length > 0;
   return {
-    mood: sumOf(after) + nonces.length > 0 ? 'bad' : 'warn', sentence,
+    mood: isLeft ? 'bad' : 'warn', sentence,
     more: [...gaps, ...more, ...kept.length > 0 ? [say('kept', kept.join('; '))] : [], ...cautions],
-    blocks: blocksOf(proposal), unseen: [...leftTexts([...left, ...proposal.left]), ...unseen], data: proposal,
+    unseen: [...leftTexts([...left, ...proposal.left]), ...unseen], blocks: blocksOf(proposal),
+    data: proposal,
   };
 };

@@ -4,8 +4,10 @@ import { parseHtml } from '../js/readers/parse5.js';
 import { attacker } from './attacker.js';
 import { blocked } from './blocked.js';
 
-const WORKER = { kind: 'fetch', destination: 'worker', url: { scheme: 'blob' }, note: 'the worker that has the engine' };
-const MODULE = { kind: 'wasm', note: 'the engine, which is WebAssembly' };
+const OWN = [
+  { kind: 'fetch', destination: 'worker', url: { scheme: 'blob' }, note: 'the worker that has the engine' },
+  { kind: 'wasm', note: 'the engine, which is WebAssembly' },
+];
 
 /**
  * What the page's policy does with the page, and what an attacker could do who writes markup into it.
@@ -14,11 +16,9 @@ const MODULE = { kind: 'wasm', note: 'the engine, which is WebAssembly' };
  */
 export const own = async (program, { html }) => {
   const page = readHtml(html, { url: 'https://page.invalid/', parse: parseHtml }), { meta } = page;
-  const more = [WORKER, MODULE].map(request => ({ request, meta, said: request.note }));
-  const pieces = [...page.pieces.filter(it => it.request.kind !== 'wasm'), ...more];
+  const more = OWN.map(request => ({ request, meta, said: request.note }));
+  const pieces = [...page.pieces.filter(it => !it.possible), ...more];
   const site = { pages: [{ ...page, pieces, file: 'this page', url: '' }], events: [], left: [] };
-  const reading = { name: 'this page', lines: meta, left: [] };
-  return [
-    await blocked(program, { site, reading, origin: 'null' }, () => {}), attacker(program, { origin: 'null', reading }),
-  ];
+  const given = { site, origin: 'null', reading: { name: 'this page', lines: meta, left: [] } };
+  return [await blocked(program, given, () => {}), attacker(program, given)];
 };

@@ -12,13 +12,20 @@ import { clearExample, oneRequest, take, textsOf } from './taking.js';
 const asking = new Asking(by('worker').textContent, by('engine').textContent);
 const TABS = all('[role=tab]');
 
+/** Asks, and shows the answer where it begins below what is seen. */
+const askNow = async () => {
+  await ask(asking);
+  const { top } = by('answers').getBoundingClientRect();
+  if (top > window.innerHeight * 0.8) by('answers').scrollIntoView();
+};
+
 /**
  * Takes texts, and asks.
  * @param {{ name: string, text: string, blob?: Blob }[]} texts
  */
 const taken = async texts => {
   await take(asking, texts);
-  await ask(asking);
+  await askNow();
 };
 
 const takePaste = () => {
@@ -44,7 +51,8 @@ const select = id => {
 /** @param {KeyboardEvent} event */
 const tabKeys = event => {
   const at = TABS.findIndex(it => it.id === state.tab), last = TABS.length - 1;
-  const to = { ArrowRight: at === last ? 0 : at + 1, ArrowLeft: at === 0 ? last : at - 1, Home: 0, End: last }[event.key];
+  const next = at === last ? 0 : at + 1, before = at === 0 ? last : at - 1;
+  const to = { ArrowRight: next, ArrowLeft: before, Home: 0, End: last }[event.key];
   if (to === undefined) return;
   event.preventDefault();
   select(TABS[to].id);
@@ -55,7 +63,8 @@ const tabKeys = event => {
  * @param {string} name
  * @param {string} text
  */
-const save = (name, text) => element('a', { href: URL.createObjectURL(new Blob([text])), download: name }).click();
+const save = (name, text) =>
+  element('a', { href: URL.createObjectURL(new Blob([text])), download: name }).click();
 
 const makeLink = () => {
   const hash = linkOf(kept()), isWhole = state.files.every(it => it.kind !== 'reports');
@@ -78,9 +87,9 @@ const clicked = ({ target }) => {
   const button = target.closest('button');
   if (button === null) return;
   const { copy: text, save: file, as, remove: id } = button.dataset;
-  if (text !== undefined) copy(text);
+  if (text !== undefined) copy(text, button);
   if (file !== undefined) save(file, button.dataset.text);
-  if (as !== undefined) copyAnswer(as);
+  if (as !== undefined) copyAnswer(as, button);
   if (id !== undefined) remove(Number(id));
 };
 
@@ -97,8 +106,9 @@ const written = ({ target }) => {
   const { url, text } = target.dataset;
   if (target.id === 'paste' || target.id === 'open' || target.id.startsWith('one-')) return;
   if (['headers', 'newer', 'origin'].includes(target.id)) setField(target.id, target.value);
-  if (url !== undefined) target.dataset.url = String(changeFile(Number(url), { url: target.value.trim() || undefined }));
-  if (text !== undefined) target.dataset.text = String(changeFile(Number(text), { text: target.value }));
+  const { value } = target;
+  if (url !== undefined) target.dataset.url = changeFile(Number(url), { url: value.trim() || undefined });
+  if (text !== undefined) target.dataset.text = changeFile(Number(text), { text: value });
   changed();
   if (target.name === 'further') select('more');
   else if (['headers', 'newer'].includes(target.id)) describeSoon();
@@ -108,7 +118,7 @@ const hearKeys = () => {
   document.addEventListener('keydown', event => {
     if (event.key !== 'Enter' || !(event.ctrlKey || event.metaKey)) return;
     event.preventDefault();
-    if (by('paste').value.trim() === '') ask(asking);
+    if (by('paste').value.trim() === '') askNow();
     else takePaste();
   });
   by('questions').addEventListener('keydown', tabKeys);
@@ -125,7 +135,8 @@ const hearDrops = () => {
   document.addEventListener('drop', async event => {
     event.preventDefault();
     over(false);
-    const { files } = /** @type {DataTransfer} */ (event.dataTransfer), text = event.dataTransfer?.getData('text') ?? '';
+    const transfer = /** @type {DataTransfer} */ (event.dataTransfer), text = transfer.getData('text');
+    const { files } = transfer;
     if (files.length > 0) taken(await textsOf(files));
     else if (text !== '') taken([{ name: '', text }]);
   });
@@ -135,7 +146,7 @@ const hearFields = () => {
   by('given').addEventListener('input', written);
   by('given').addEventListener('submit', (/** @type {Event} */ event) => {
     event.preventDefault();
-    ask(asking);
+    askNow();
   });
   by('take').addEventListener('click', takePaste);
   by('paste').addEventListener('paste', () => setTimeout(takePaste));
@@ -186,7 +197,8 @@ const begin = async () => {
     state.revision += 1;
     show();
   });
-  Object.assign(window, { csp: (/** @type {string[]} */ words, /** @type {any[]} */ files) => asking.ask('call', { words, files }) });
+  const call = (/** @type {unknown} */ words, /** @type {unknown} */ files) => asking.ask('call', { words, files });
+  Object.assign(window, { csp: call });
   await show();
   await judgeItself(html);
   document.body.dataset.own = 'judged';

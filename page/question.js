@@ -7,6 +7,7 @@ import { framed } from './more/framed.js';
 import { proof } from './more/proof.js';
 import { required } from './more/required.js';
 import { shorter } from './more/shorter.js';
+import { headersText } from './reading.js';
 import { readLogs, reports } from './reports.js';
 import { say } from './sentences.js';
 import { weaker } from './weaker.js';
@@ -48,7 +49,7 @@ const readingOf = (text, name) => {
  */
 const plainLines = (text, lines) => {
   const rows = text.split(/\r?\n/).filter(it => /^[\w-]+:/.test(it));
-  return (rows.length === 0 ? lines : rows).map(it => `${it}\n`).join('');
+  return headersText(rows.length === 0 ? lines : rows);
 };
 
 /** @param {Asked} asked old and new headers, or what is lacking of them */
@@ -56,7 +57,8 @@ const pairOf = asked => {
   const { origin, reading } = subjectOf(asked), { newer } = asked.given;
   if (reading.lines.length === 0) return { lacks: lacking(say('giveHeaders')) };
   if (newer.trim() === '') return { lacks: lacking(say('giveNewer')) };
-  return { pair: { origin, old: { ...reading, name: 'the old headers' }, new: readingOf(newer, 'the new headers') } };
+  const old = { ...reading, name: 'the old headers' };
+  return { pair: { origin, old, new: readingOf(newer, 'the new headers') } };
 };
 
 /** @param {Asked} asked */
@@ -71,8 +73,10 @@ const asMake = async ({ program, given, choices: { form, unsafeHashes }, tell })
 
 /** @type {Record<string, (asked: Asked) => Answer | Promise<Answer>>} */
 const QUESTIONS = {
-  blocked: ({ program, given, tell }) =>
-    blocked(program, { site: given.site, origin: given.origin, reading: readingOf(given.headers, 'the headers') }, tell),
+  blocked: ({ program, given, tell }) => {
+    const { site, origin, headers } = given;
+    return blocked(program, { site, origin, reading: readingOf(headers, 'the headers') }, tell);
+  },
   attacker: asked => attacker(asked.program, subjectOf(asked)),
   weaker: asked => {
     const { lacks, pair } = pairOf(asked);
@@ -93,7 +97,8 @@ const QUESTIONS = {
   },
   required: asked => {
     const { origin, reading } = subjectOf(asked), { required: text, embedder } = asked.choices;
-    const response = plainLines(asked.given.headers, reading.lines), policy = readingOf(text, 'the required policy');
+    const response = plainLines(asked.given.headers, reading.lines);
+    const policy = readingOf(text, 'the required policy');
     return required(asked.program, { origin, embedder, required: policy, reading, response });
   },
 };

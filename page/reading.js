@@ -1,18 +1,20 @@
 /** How headers were read: what is probably not meant so, and the policies as they stand. */
 import { marksOf, policiesOf } from '../js/readers/marks.js';
-import { ordinal } from './answer.js';
+import { code, list, ordinal, table } from './answer.js';
 import { say } from './sentences.js';
 
 /**
- * @typedef {import('./answer.js').Block} Block
- * @typedef {{ name: string, lines: string[], left?: import('../js/readers/html.js').Said[] }} Reading header
- *   lines, and what stood beside them and wasn't taken
+ * Header lines, and what stood beside them and wasn't taken.
+ * @typedef {{ name: string, lines: string[], left?: import('../js/readers/html.js').Said[] }} Reading
  */
+
+/** @param {readonly string[]} lines header lines as one text */
+export const headersText = lines => lines.map(it => `${it}\n`).join('');
 
 /** @param {string} line */
 const whoOf = line => {
   const isMeta = /^meta-/i.test(line), isReport = /^[^:]*-report-only:/i.test(line);
-  return { from: isMeta ? 'meta element' : 'header', does: isReport ? 'only reports' : 'enforced' };
+  return [isMeta ? 'meta element' : 'header', isReport ? 'only reports' : 'enforced'];
 };
 
 /**
@@ -28,34 +30,32 @@ const marksIn = ({ name, lines, left = [] }, several) => {
   ];
 };
 
-/** @param {Reading} reading */
-const rowsIn = ({ name, lines }) => lines.flatMap(line => {
-  const { from, does } = whoOf(line);
-  return policiesOf([line]).flatMap(({ directives }) => directives.map(it => ({ name, from, does, directives: it })));
-});
+/**
+ * A row for each directive.
+ * @param {Reading} reading
+ * @param {boolean} several
+ */
+const rowsIn = ({ name, lines }, several) => lines.flatMap(line =>
+  policiesOf([line]).flatMap(policy => policy.directives.map(it =>
+    [...several ? [name] : [], ...whoOf(line), code(it.name), code(it.values.join(' '))])));
 
 /**
  * The marks, which are shown, and the directives, which are folded.
  * @param {Reading[]} readings
- * @returns {Block[]}
  */
 export const readingBlocks = readings => {
-  const several = readings.length > 1, marks = [...new Set(readings.flatMap(it => marksIn(it, several)))];
-  const rows = readings.flatMap(rowsIn).map(({ name, from, does, directives: { name: directive, values } }) =>
-    [...several ? [name] : [], from, does, { text: directive, isCode: true }, { text: values.join(' '), isCode: true }]);
+  const several = readings.length > 1, marks = readings.flatMap(it => marksIn(it, several));
+  const rows = readings.flatMap(it => rowsIn(it, several));
   const columns = [...several ? ['Page'] : [], 'From', 'It is', 'Directive', 'Values'];
   return [
-    ...marks.length === 0 ? [] : [/** @type {Block} */ ({ kind: 'list', head: say('marked'), items: marks })],
-    ...rows.length === 0 ? [] : [/** @type {Block} */ ({
-      kind: 'table', head: say('howRead', rows.length), columns, rows, isFolded: true,
-    })],
+    ...list(say('marked'), [...new Set(marks)]),
+    ...table(say('howRead', rows.length), columns, rows, { isFolded: true }),
   ];
 };
 
 /**
  * The distinct header lines of pages.
  * @param {readonly import('../js/readers/site.js').SitePage[]} pages
- * @returns {Reading[]}
  */
 export const readingsOf = pages => {
   const found = /** @type {Map<string, Reading>} */ (new Map());

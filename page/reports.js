@@ -3,9 +3,9 @@ import { judge } from '../js/index.js';
 import { propose } from '../js/propose.js';
 import { Reports, Tally } from '../js/readers/reports.js';
 import { urlOf } from '../js/readers/urls.js';
-import { number, groupedBy } from './answer.js';
-import { additionsBlock } from './make.js';
-import { readingBlocks } from './reading.js';
+import { code, copied, grouped, groupedBy, number } from './answer.js';
+import { additionsBlock, endingSentence } from './make.js';
+import { headersText, readingBlocks } from './reading.js';
 import { short } from './rows.js';
 import { say } from './sentences.js';
 
@@ -38,8 +38,8 @@ async function* chunksOf(blob, tell) {
  * @param {(done: number, all: number) => void} tell
  */
 export const readLogs = async (logs, tell) => {
-  const tally = new Tally(), left = /** @type {string[]} */ ([]), blobs = logs.map(it => new Blob([it.content]));
-  const all = blobs.reduce((sum, it) => sum + it.size, 0);
+  const tally = new Tally(), left = /** @type {string[]} */ ([]);
+  const blobs = logs.map(it => new Blob([it.content])), all = blobs.reduce((sum, it) => sum + it.size, 0);
   let done = 0, violations = 0, isWhole = true, isEmpty = true;
   for (const [n, { name }] of logs.entries()) {
     const reports = new Reports(chunksOf(blobs[n], size => tell(done += size, all)));
@@ -52,6 +52,9 @@ export const readLogs = async (logs, tell) => {
   return { tally, left, violations, isWhole, isEmpty };
 };
 
+/** @param {Reported} group */
+const originOf = ({ violation: { page } }) => urlOf(page)?.origin ?? 'null';
+
 /**
  * Which violations headers would still report, each on a page of its own origin.
  * @param {Program} program
@@ -59,11 +62,11 @@ export const readLogs = async (logs, tell) => {
  * @param {string} headers
  */
 const stillReported = (program, groups, headers) => {
-  const still = new Map();
-  for (const all of groupedBy(groups, it => urlOf(it.violation.page)?.origin ?? 'null')) {
-    const origin = urlOf(all[0].violation.page)?.origin ?? 'null';
+  const still = /** @type {Map<unknown, boolean>} */ (new Map());
+  for (const all of groupedBy(groups, originOf)) {
     const requests = /** @type {any} */ (all.map(it => it.request));
-    judge(program, { origin, headers, requests }).forEach(({ items }, n) => still.set(all[n].violation, items.length > 0));
+    const verdicts = judge(program, { origin: originOf(all[0]), headers, requests });
+    verdicts.forEach(({ items }, n) => still.set(all[n].violation, items.length > 0));
   }
   return still;
 };
@@ -73,30 +76,41 @@ const hostOf = ({ violation: { blocked } }) => urlOf(blocked)?.host || blocked;
 
 /** @param {Judged} group */
 const cellsOf = ({ violation: { blocked, file, page, line, column, sample }, pages, count }) => {
-  const at = [line, column].filter(it => it !== undefined).join(':');
-  const where = [file || page, at].filter(it => it !== '').join(':');
-  return [number(count), { text: short(blocked), isCode: true }, `${where}${pages.size > 1 ? ` (${pages.size} pages)` : ''}`,
-    { text: short(sample), isCode: true }];
+  const where = [file || page, line, column].filter(it => it !== undefined && it !== '').join(':');
+  const many = pages.size > 1 ? ` (${pages.size} pages)` : '';
+  return [number(count), code(short(blocked)), where + many, code(short(sample))];
 };
 
-/** @param {Judged} group */
-const badgeOf = ({ still, violation: { disposition } }) =>
-  still === undefined ? disposition === 'enforce' ? 'blocked' : 'reported' : still ? 'still reported' : 'ended';
-
-const MOODS = /** @type {const} */ ({ 'blocked': 'bad', 'reported': 'warn', 'still reported': 'bad', 'ended': 'plain' });
+const MOODS = /** @type {const} */ ({
+  'blocked': 'bad', 'reported': 'warn', 'still reported': 'bad', 'ended': 'plain',
+});
 
 /**
- * @param {Judged[]} groups
- * @returns {Group[]}
+ * @param {Judged} group
+ * @returns {keyof typeof MOODS}
  */
-const shownGroups = groups => groupedBy(groups, it => [it.violation.directive, hostOf(it), badgeOf(it)].join('\n')).map(all => {
-  const badge = /** @type {keyof typeof MOODS} */ (badgeOf(all[0])), pages = new Set(all.flatMap(it => [...it.pages]));
+const badgeOf = ({ still, violation: { disposition } }) => {
+  if (still !== undefined) return still ? 'still reported' : 'ended';
+  return disposition === 'enforce' ? 'blocked' : 'reported';
+};
+
+/**
+ * @param {Judged[]} all of one directive and host
+ * @returns {Group}
+ */
+const groupOf = all => {
+  const badge = badgeOf(all[0]), pages = new Set(all.flatMap(it => [...it.pages]));
   return {
     mood: MOODS[badge], badge, directive: all[0].violation.directive, of: hostOf(all[0]),
     count: all.reduce((sum, it) => sum + it.count, 0), because: [say('onPages', [...pages])], todo: [],
     columns: ['Times', 'Blocked', 'Where', 'Sample'], rows: all.map(cellsOf),
   };
-}).sort((a, b) => Number(a.badge === 'ended') - Number(b.badge === 'ended') || b.count - a.count);
+};
+
+/** @param {Judged[]} groups */
+const shownGroups = groups =>
+  groupedBy(groups, it => [it.violation.directive, hostOf(it), badgeOf(it)].join('\n')).map(groupOf)
+    .sort((a, b) => Number(a.badge === 'ended') - Number(b.badge === 'ended') || b.count - a.count);
 
 /**
  * What would end the reports, if headers are given to add to.
@@ -109,12 +123,10 @@ const endingBlocks = async (program, reports, headers) => {
   if (headers.length === 0 || reports.length === 0) return [];
   const proposal = await propose(program, { form: 'addition', reports, headers });
   if (proposal.additions.length === 0) return [];
-  const taken = proposal.additions.filter(it => it.isTaken), before = proposal.before?.reports ?? 0;
+  const policy = proposal.additions.some(it => it.isTaken) ? proposal.headers.trimEnd() : '';
   return [
-    { kind: 'paragraph', text: say('wouldEnd', taken.length, before - proposal.after.reports, before) },
-    ...additionsBlock(proposal),
-    ...taken.length === 0 ? [] : [/** @type {Block} */ ({
-      kind: 'code', head: say('withAdditions'), text: proposal.headers.trimEnd(), file: 'policy.txt' })],
+    { kind: 'paragraph', text: endingSentence(proposal) }, ...additionsBlock(proposal),
+    ...copied(say('withAdditions'), policy, { file: 'policy.txt' }),
   ];
 };
 
@@ -125,25 +137,23 @@ const endingBlocks = async (program, reports, headers) => {
  * @returns {Promise<Answer>}
  */
 export const reports = async (program, { logs, reading }, tell) => {
-  const { tally, left, violations, isWhole, isEmpty } = await readLogs(logs, tell);
-  const ended = tally.ended(), isJudged = reading.lines.length > 0;
-  const still = isJudged ? stillReported(program, ended.groups, reading.lines.map(it => `${it}\n`).join('')) : new Map();
+  const { tally, left, violations, isWhole, isEmpty } = await readLogs(logs, tell), { lines } = reading;
+  const ended = tally.ended(), isJudged = lines.length > 0;
+  const still = isJudged ? stillReported(program, ended.groups, headersText(lines)) : new Map();
   const groups = [...tally.groups.values()].map(it => ({ ...it, still: still.get(it.violation) }));
   const count = groups.filter(it => it.still).reduce((sum, it) => sum + it.count, 0);
-  const isSure = isWhole && groups.every(it => it.still === false) && groups.length > 0;
   const sentence = isEmpty ? say('noReport') : violations === 0 ? say('noViolation')
     : isJudged ? say('stillReports', count, violations) : say('violations', violations, groups.length);
+  const isEnded = groups.length > 0 && groups.every(it => it.still === false);
   return {
     mood: count > 0 ? 'bad' : 'warn', sentence,
-    more: [...isWhole ? [] : [say('notAllRead')], ...isSure ? [say('endedNotAll')] : [], say('ofBrowsers')],
+    more: [...isWhole ? [] : [say('notAllRead')], ...isEnded ? [say('endedNotAll')] : [], say('ofBrowsers')],
     blocks: [
-      ...isJudged ? readingBlocks([reading]) : [],
-      ...await endingBlocks(program, ended.groups, reading.lines),
-      ...groups.length === 0 ? [] : [/** @type {Block} */ ({
-        kind: 'groups', head: say('reported', violations), groups: shownGroups(groups) })],
+      ...isJudged ? readingBlocks([reading]) : [], ...await endingBlocks(program, ended.groups, lines),
+      ...grouped(say('reported', violations), shownGroups(groups)),
     ],
     unseen: [...left, ...ended.left],
-    data: groups.map(({ violation, count: times, pages, still: isStill }) =>
-      ({ ...violation, count: times, pages: [...pages], ...isJudged ? { still: isStill ?? null } : {} })),
+    data: groups.map(({ violation, count: times, pages, still: isStill = null }) =>
+      ({ ...violation, count: times, pages: [...pages], ...isJudged ? { still: isStill } : {} })),
   };
 };

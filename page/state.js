@@ -9,17 +9,21 @@ export const state = {
 };
 
 /** @param {string} name */
-const chosen = name => /** @type {HTMLInputElement} */ (document.querySelector(`input[name=${name}]:checked`)).value;
+const chosen = name => all(`input[name=${name}]`).find(it => it.checked).value;
 
 /** The question that is asked. */
 export const question = () => state.tab === 'more' ? chosen('further') : state.tab;
 
 /** What the worker is given of it. */
-export const raw = () => ({ headers: state.headers, newer: state.newer, origin: state.origin, files: state.files });
+export const raw = () => {
+  const { headers, newer, origin, files } = state;
+  return { headers, newer, origin, files };
+};
 
 export const choices = () => ({
-  form: chosen('form'), unsafeHashes: by('hashes').checked, proof: by('proof').value, required: by('required').value,
-  embedder: by('embedder').value.trim(), subject: Number(by('subject').value || 0),
+  form: chosen('form'), unsafeHashes: by('hashes').checked, proof: by('proof').value,
+  required: by('required').value, embedder: by('embedder').value.trim(),
+  subject: Number(by('subject').value || 0),
 });
 
 /**
@@ -49,11 +53,13 @@ export const changeFile = (id, change) => {
 };
 
 /** What a link keeps of it. */
-export const kept = () => ({
-  tab: state.tab, further: chosen('further'), origin: state.origin, headers: state.headers, newer: state.newer,
-  isExample: state.isExample, ...choices(),
-  files: state.files.filter(it => it.kind !== 'reports').map(({ name, kind, text, url }) => ({ name, kind, text, url })),
-});
+export const kept = () => {
+  const { tab, isExample } = state, files = state.files.filter(it => it.kind !== 'reports');
+  return {
+    tab, further: chosen('further'), isExample, ...raw(), ...choices(),
+    files: files.map(({ name, kind, text, url }) => ({ name, kind, text, url })),
+  };
+};
 
 /** @param {Record<string, any>} from what a link kept */
 export const restore = from => {
@@ -65,7 +71,9 @@ export const restore = from => {
   for (const it of Array.isArray(from.files) ? from.files : []) addFile(it);
   for (const id of ['proof', 'required', 'embedder']) by(id).value = String(from[id] ?? by(id).defaultValue);
   for (const name of ['further', 'form']) {
-    for (const it of all(`input[name=${name}]`)) it.checked = from[name] === undefined ? it.defaultChecked : it.value === from[name];
+    for (const it of all(`input[name=${name}]`)) {
+      it.checked = from[name] === undefined ? it.defaultChecked : it.value === from[name];
+    }
   }
   by('hashes').checked = from.unsafeHashes === true;
 };

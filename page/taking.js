@@ -9,7 +9,10 @@ import { addFile, question, raw, setField, state } from './state.js';
  * @typedef {import('./given.js').File} File
  */
 
-const NAMELESS = { har: 'pasted.har', html: 'page.html', requests: 'requests.json', events: 'console.txt', reports: 'reports.json' };
+const NAMELESS = {
+  har: 'pasted.har', html: 'page.html', requests: 'requests.json', events: 'console.txt',
+  reports: 'reports.json',
+};
 
 /** @param {Omit<File, 'id'>} file a name that no other file has */
 const nameFor = ({ name, kind }) => {
@@ -61,9 +64,11 @@ const sayTaken = (files, described) => {
   for (const { id, name } of files) {
     const found = described.files.find(it => it.id === id);
     if (found === undefined) continue;
-    const isRead = 'read' in found;
-    by('took').append(isRead ? told('p', say('takenFile', name, found.read)) : told('p', say('notTaken', name, found.fault), { class: 'bad' }));
-    if (!isRead) state.files = state.files.filter(it => it.id !== id);
+    if ('read' in found) by('took').append(told('p', say('takenFile', name, found.read)));
+    else {
+      by('took').append(told('p', say('notTaken', name, found.fault), { class: 'bad' }));
+      state.files = state.files.filter(it => it.id !== id);
+    }
   }
 };
 
@@ -89,9 +94,10 @@ export const textsOf = files => Promise.all([...files].map(async blob =>
 
 /** The one request that the fields tell. */
 export const oneRequest = () => {
-  const [kind, type] = by('one-kind').value.split(' '), of = by('one-of').value, nonce = by('one-nonce').value.trim();
-  const url = of.trim(), isPlain = ['form', 'base'].includes(kind);
-  const request = kind === 'inline' ? { kind, type, source: of } : isPlain ? { kind, url } : { kind: 'fetch', destination: kind, url };
+  const [kind, type] = by('one-kind').value.split(' '), source = by('one-of').value, url = source.trim();
+  const nonce = by('one-nonce').value.trim(), isPlain = ['form', 'base'].includes(kind);
+  const request = kind === 'inline' ? { kind, type, source }
+    : isPlain ? { kind, url } : { kind: 'fetch', destination: kind, url };
   const parsed = kind === 'script' ? { 'parser-inserted': true } : {};
   return JSON.stringify([{ ...request, ...parsed, ...nonce === '' ? {} : { nonce } }], null, 1);
 };

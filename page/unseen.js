@@ -1,4 +1,4 @@
-/** What was not looked at of pages, or is known only in part: a line each, with the pages that it is said of. */
+/** What was not looked at of pages, or is known only in part: a line each, with its pages. */
 import { ENFORCED } from '../js/readers/har.js';
 import { number } from './answer.js';
 

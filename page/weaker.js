@@ -1,19 +1,17 @@
 /** Whether new headers are weaker than old ones. */
 import { describeText } from '../js/describe.js';
 import { weaker as ask } from '../js/weaker.js';
-import { counted, joined } from './answer.js';
+import { code, copied, counted, joined, table } from './answer.js';
 import { changeMatrix } from './matrix.js';
-import { readingBlocks } from './reading.js';
+import { headersText, readingBlocks } from './reading.js';
 import { say } from './sentences.js';
 
 /**
- * @typedef {import('../js/index.js').Program} Program
  * @typedef {import('../js/weaker.js').Weakening} Weakening
  * @typedef {import('../js/answers.js').Shown} Shown
  * @typedef {import('./answer.js').Answer} Answer
  * @typedef {import('./answer.js').Block} Block
  * @typedef {import('./answer.js').Cell} Cell
- * @typedef {import('./answer.js').Text} Text
  * @typedef {import('./reading.js').Reading} Reading
  */
 
@@ -35,42 +33,36 @@ const summed = ({ verdict, uncovered, directives }) => {
     case 'weaker': return { mood: 'bad', sentence: say('weaker', weak, loose) };
     case 'loosened': return { mood: 'bad', sentence: say('loosened', loose) };
     case 'nothing': return { mood: 'warn', sentence: say('oldNothing') };
-    case 'unproved': throw new Error('a checker rejects the proof: please report this fault');
-    default: return { mood: 'good', sentence: say('notWeaker') };
+    case 'not weaker': return { mood: 'good', sentence: say('notWeaker') };
+    default: throw new Error('a checker rejects the proof: please report this fault');
   }
 };
 
-/**
- * @param {Weakening} answer
- * @returns {Block[]}
- */
-const uncoveredBlock = ({ uncovered }) => uncovered.length === 0 ? [] : [{
-  kind: 'table', head: say('uncovered'), columns: ['Directive', 'Change', 'Old', 'New'],
-  rows: uncovered.map(it => [
-    { text: it.directive, isCode: true }, { text: it.loosens ? `${it.change}: looser` : it.change, mood: it.loosens ? 'bad' : 'plain' },
-    { text: it.old, isCode: true }, { text: it.new, isCode: true },
-  ]),
-}];
+/** @param {Weakening} answer */
+const uncoveredBlock = ({ uncovered }) => {
+  const rows = uncovered.map(({ directive, change, loosens, old, new: newer }) => {
+    const told = loosens ? { text: `${change}: looser`, mood: /** @type {const} */ ('bad') } : change;
+    return [code(directive), told, code(old), code(newer)];
+  });
+  return table(say('uncovered'), ['Directive', 'Change', 'Old', 'New'], rows);
+};
 
-const CHANGES = /** @type {const} */ ({ weaker: 'bad', both: 'bad', stricter: 'plain', same: 'plain' });
+const CHANGES = /** @type {Record<string, Cell>} */ ({
+  weaker: { text: 'weaker', mood: 'bad' }, both: { text: 'weaker and stricter', mood: 'bad' },
+  stricter: 'stricter',
+});
 
 /**
  * @param {Weakening} answer
  * @returns {Block[]}
  */
 const directivesBlock = ({ directives }) => {
-  const changed = directives.filter(it => it.change !== 'same');
-  const same = directives.filter(it => it.change === 'same').map(it => it.directive);
-  const rows = changed.map(it => /** @type {Cell[]} */ ([
-    { text: it.directive, isCode: true },
-    { text: it.change === 'both' ? 'weaker and stricter' : it.change, mood: CHANGES[it.change] },
-    shownText(it.allowed), shownText(it.blocked),
-  ]));
+  const rows = directives.filter(it => it.change !== 'same').map(({ directive, change, allowed, blocked }) =>
+    [code(directive), CHANGES[change], shownText(allowed), shownText(blocked)]);
+  const same = joined(directives.filter(it => it.change === 'same').map(it => it.directive));
   return [
-    ...rows.length === 0 ? [] : [/** @type {Block} */ ({
-      kind: 'table', head: say('changed'), columns: ['Directive', 'It is', 'Allowed now, as', 'Blocked now, as'], rows,
-    })],
-    ...same.length === 0 ? [] : [/** @type {Block} */ ({ kind: 'paragraph', text: say('same', joined(same)) })],
+    ...table(say('changed'), ['Directive', 'It is', 'Allowed now, as', 'Blocked now, as'], rows),
+    ...same === '' ? [] : [/** @type {Block} */ ({ kind: 'paragraph', text: say('same', same) })],
   ];
 };
 
@@ -85,50 +77,46 @@ const auditBlock = ({ before, after }) => {
     const [was, is] = [before, after].map(it => it.rows.find(row => row.id === id)), row = is ?? was;
     if (row === undefined || was?.can === is?.can) return [];
     const isWorse = is !== undefined && is.can !== 'no' && (was === undefined || was.can === 'no');
-    return [/** @type {Cell[]} */ ([`${row.action} ${row.from ?? ''}`.trim(), was?.can ?? 'not named',
-      { text: is?.can ?? 'not named', mood: isWorse ? 'bad' : 'plain' }])];
+    const now = { text: is?.can ?? 'not named', ...isWorse && { mood: /** @type {const} */ ('bad') } };
+    return [[`${row.action} ${row.from ?? ''}`.trim(), was?.can ?? 'not named', now]];
   });
   const left = counted(ids.length - rows.length, 'thing');
   if (rows.length === 0) return [{ kind: 'paragraph', text: say('attackerSame', left) }];
-  return [{ kind: 'table', head: say('attackerChanged', left), columns: ['An attacker could', 'Before', 'Now'], rows }];
+  return table(say('attackerChanged', left), ['An attacker could', 'Before', 'Now'], rows);
 };
 
-/**
- * @param {Weakening} answer
- * @returns {Text[]}
- */
+/** @param {Weakening} answer */
 const noncesOf = ({ nonces, directives }) => {
-  const names = nonces.renamed.map(({ from, to }) => `${from} as ${to}`);
-  const hasNew = directives.some(({ allowed }) => allowed !== undefined && 'nonce' in allowed.request && allowed.request.nonce);
+  const names = joined(nonces.renamed.map(({ from, to }) => `${from} as ${to}`));
+  const hasNew = directives.some(({ allowed }) =>
+    allowed && 'nonce' in allowed.request && allowed.request.nonce);
   return [
-    ...names.length === 0 ? [] : [say('noncesRenamed', joined(names))],
+    ...names === '' ? [] : [say('noncesRenamed', names)],
     ...hasNew && nonces.old !== nonces.new ? [say('noncesUnmatched', nonces.old, nonces.new)] : [],
   ];
 };
 
 /**
- * @param {Weakening} answer
- * @returns {Block[]}
+ * A proof, folded.
+ * @param {string | undefined} proof
  */
-const proofBlock = ({ proved }) => proved === undefined ? [] : [
-  { kind: 'code', head: say('proof', proved.proof.split('\n').length - 1), text: proved.proof, file: 'proof.txt', isFolded: true },
-];
+export const proofBlock = proof =>
+  copied(say('proof', (proof ?? '').split('\n').length - 1), proof, { file: 'proof.txt', isFolded: true });
 
 /**
- * @param {Program} program
+ * @param {import('../js/index.js').Program} program
  * @param {{ origin: string, old: Reading, new: Reading }} given
  * @returns {Answer}
  */
 export const weaker = (program, { origin, old, new: newer }) => {
-  const text = (/** @type {Reading} */ it) => it.lines.map(line => `${line}\n`).join('');
-  const answer = ask(program, { origin, old: text(old), new: text(newer) });
+  const answer = ask(program, { origin, old: headersText(old.lines), new: headersText(newer.lines) });
   return {
     ...summed(answer),
     more: [say(answer.proved === undefined ? 'oneShown' : 'coversAll', origin), ...noncesOf(answer)],
     blocks: [
       ...uncoveredBlock(answer), ...directivesBlock(answer), ...auditBlock(answer),
       changeMatrix(program, { origin, old: old.lines, new: newer.lines }),
-      ...readingBlocks([old, newer]), ...proofBlock(answer),
+      ...readingBlocks([old, newer]), ...proofBlock(answer.proved?.proof),
     ],
     unseen: ['report-only policies: not compared', ...answer.after.notCovered], data: answer,
   };

@@ -6,9 +6,12 @@ import { described, takenFor } from './given.js';
 import { own } from './own.js';
 import { answerTo } from './question.js';
 
-/** @typedef {import('../js/index.js').Program} Program */
+/**
+ * @typedef {import('../js/index.js').Program} Program
+ * @typedef {(program: Program, given: any, tell: (done: number, all: number) => void) => unknown} Task
+ */
 
-/** @type {Record<string, (program: Program, given: any, tell: (done: number, all: number) => void) => unknown>} */
+/** @type {Record<string, Task>} */
 const TASKS = {
   answer: answerTo, own,
   call: (program, { words, files }) => program.call(words, files),
@@ -22,10 +25,13 @@ const TASKS = {
  * @returns {import('./asking.js').Refused}
  */
 const told = error => {
-  if (error instanceof Refusal) return { file: error.file, line: error.line, problem: error.problem, hint: error.hint };
-  if (!(error instanceof ReadingError)) return { problem: error instanceof Error ? error.stack ?? error.message : String(error) };
+  if (error instanceof Refusal) {
+    return { file: error.file, line: error.line, problem: error.problem, hint: error.hint };
+  }
+  if (!(error instanceof ReadingError)) return { problem: String(error) };
   const { said, found, write, line, file } = error.told;
-  return { file, line, problem: found === undefined ? said : `${said}: "${found.slice(0, 60)}"`, hint: `${write}.` };
+  const problem = found === undefined ? said : `${said}: "${found.slice(0, 60)}"`;
+  return { file, line, problem, hint: `${write}.` };
 };
 
 const engine = /** @type {Promise<Program>} */ (new Promise(resolve => {

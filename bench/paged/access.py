@@ -4,7 +4,7 @@ from recorded.trial import point
 
 from .person import FURTHER, QUESTIONS, Person
 
-NAMELESS = """[...document.querySelectorAll('input, textarea, select, button, progress, summary, [role=tab], [role=tabpanel], [role=region]')]
+NAMELESS = """[...document.querySelectorAll('input, textarea, select, button, progress, summary, [role=tab], [role=tabpanel]')]
   .filter(it => !(it.labels?.length || it.textContent.trim() && it.matches('button, summary, [role=tab]')
     || it.getAttribute('aria-label') || document.getElementById(it.getAttribute('aria-labelledby')))).map(it => it.outerHTML)"""
 TABS = """[...document.querySelectorAll('[role=tab]')].filter(it => {

@@ -91,4 +91,4 @@ class Person:
 def names():
     """The names of all sentences."""
     text = (TOP / "page/sentences.js").read_text()
-    return set(re.findall(r"^  (\w+): \(", text, re.MULTILINE))
+    return set(re.findall(r"^  (\w+): ", text, re.MULTILINE))

@@ -53,10 +53,10 @@ CASES = [
     ("blocked", {"headers": ENFORCED + "img-src 'self'", "files": [html(IMAGE), events(TOLD)]}, "bad", "1 of 1 request is blocked.",
      {"browserTells"}),
     ("blocked", {"headers": ENFORCED + "img-src 'self'", "files": [html(IMAGE), events(OTHER)]}, "bad",
-     "The browser tells of 1 violation that isn't among what was given. Of 1 request that was given, 1 is blocked.",
+     "The browser tells of 1 violation that is not in this answer. Of 1 request that was given, 1 is blocked.",
      {"browserAlone", "toldAlone", "notGiven", "untold"}),
     ("blocked", {"headers": ENFORCED + "img-src https:", "files": [html(IMAGE), events(TOLD)]}, "bad",
-     "The browser tells of 1 violation that isn't among what was given. Of 1 request that was given, 0 are blocked.", {"saysOther"}),
+     "The browser tells of 1 violation that is not in this answer. Of 1 request that was given, 0 are blocked.", {"saysOther"}),
     ("blocked", {"headers": "", "files": [events(TOLD)]}, "bad",
      "The browser tells of 1 violation. No page was given, so nothing else was judged.", {"eventsAlone"}),
     ("blocked", {"headers": ENFORCED + "img-src 'self'", "files": [html('<img srcset="https://img.example/a.png 2x">')]}, "bad",
@@ -97,7 +97,7 @@ CASES = [
     ("make", {"files": [html('<p style="top: 0">')]}, "bad", "1 of 1 request is still blocked by this policy.",
      {"someStill", "stillBlocked"}),
     ("make", {"form": "strict", "headers": ENFORCED + "sandbox allow-scripts allow-same-origin", "files": [html(SCRIPT)]}, "bad",
-     "None of 2 requests is then still blocked by this policy, once the nonces are in their places.",
+     "None of 2 requests is still blocked by this policy, once the nonces are in their places.",
      {"needNonce", "madeShorter", "kept"}),
     ("make", {"form": "addition", "headers": ENFORCED + "img-src 'self'", "files": [html(IMAGE)]}, "warn",
      "1 addition would end 1 of 1 violation.", {"wouldEnd", "additions", "stillPossible"}),
@@ -217,7 +217,7 @@ def page(person):
     browser.run("void (navigator.clipboard.writeText = async text => { window.copied = text; })")
     for it in ("text", "Markdown", "JSON"):
         browser.click(f"#answers [data-as={it}]")
-        browser.wait("document.getElementById('copied').textContent === 'Copied.'")
+        browser.wait("document.querySelector('#answers .copies [data-says=copied]') !== null")
     person.note()
     browser.click("#link")
     person.note()

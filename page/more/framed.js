@@ -1,14 +1,15 @@
-/** Whether a page may be framed: by `frame-ancestors`, and by X-Frame-Options where no enforced policy has that. */
+/** Whether a page may be framed: by `frame-ancestors`, and by X-Frame-Options where nothing enforces that. */
 import { why } from '../../js/index.js';
 import { PolicyList } from '../../js/propose/policy.js';
 import { Refusal } from '../../js/refusal.js';
 import { urlOf } from '../../js/readers/urls.js';
-import { readingBlocks } from '../reading.js';
+import { headersText, readingBlocks } from '../reading.js';
 import { say } from '../sentences.js';
 
 /**
  * @typedef {import('../answer.js').Text} Text
- * @typedef {'allows' | 'blocks' | 'void' | 'absent'} Options what X-Frame-Options does; `void` where its value is none
+ * What X-Frame-Options does; `void` where its value is none.
+ * @typedef {'allows' | 'blocks' | 'void' | 'absent'} Options
  */
 
 const BAD_ORIGIN = 3;
@@ -37,12 +38,14 @@ export const frameOptions = (values, ancestors, origin) => {
   return ancestors.every(it => it === origin && it !== 'null') ? 'allows' : 'blocks';
 };
 
-/** @param {string[]} lines */
-const hasAncestors = lines => new PolicyList(lines.filter(it => !/^[^:]*-report-only:|^meta-/i.test(it))).policies
-  .flat().some(it => it.name === 'frame-ancestors');
+/** @param {string[]} lines whether an enforced policy of a header decides who may frame the page */
+const hasAncestors = lines => {
+  const enforced = lines.filter(it => !/^[^:]*-report-only:|^meta-/i.test(it));
+  return new PolicyList(enforced).policies.flat().some(it => it.name === 'frame-ancestors');
+};
 
 /** @param {string} text the addresses of the pages around it, the nearest first */
-const originsIn = text => text.split(/[\s,]+/).filter(it => it !== '').map(it => {
+const originsIn = text => text.split(/[\s,]+/).map(it => {
   const origin = it === 'null' ? it : urlOf(it)?.origin;
   if (origin !== undefined && (origin !== 'null' || it === 'null')) return origin;
   const hint = 'Write the address of the page that frames yours, as https://portal.example/.';
@@ -64,25 +67,29 @@ const optionsTold = (options, values, isIgnored) => {
 
 /**
  * @param {import('../../js/index.js').Program} program
- * @param {{ embedder: string, origin: string, response: string, reading: import('../reading.js').Reading }} given
+ * @param {{ embedder: string, origin: string, response: string,
+ *   reading: import('../reading.js').Reading }} given
  * @returns {import('../answer.js').Answer}
  */
 export const framed = (program, { embedder, origin, response, reading }) => {
-  const ancestors = originsIn(embedder), headers = reading.lines.map(it => `${it}\n`).join('');
-  if (ancestors.length === 0) originsIn('""');
+  const ancestors = originsIn(embedder), headers = headersText(reading.lines);
   const [reason] = why(program, { origin, headers, requests: [{ kind: 'ancestors', ancestors }] });
   const values = valuesIn(response), isIgnored = hasAncestors(reading.lines);
   const options = frameOptions(values, ancestors, origin), isStopped = !isIgnored && options === 'blocks';
-  const by = reason.policies.filter(it => it.directive === 'frame-ancestors').map(it => it.token ?? '').join(' ').trim();
-  const sentence = reason.blocked ? say('framedByPolicy', embedder) : isStopped ? say('framedByOptions', embedder, values.join(', '))
-    : isIgnored ? say('framedAllowed', embedder, by) : say('framedUndecided', embedder);
+  const deciding = reason.policies.filter(it => it.directive === 'frame-ancestors');
+  const tokens = deciding.flatMap(it => it.token ?? []);
+  const sentence = reason.blocked ? say('framedByPolicy', embedder)
+    : isStopped ? say('framedByOptions', embedder, values.join(', '))
+      : isIgnored ? say('framedAllowed', embedder, tokens.join(' and ')) : say('framedUndecided', embedder);
+  const told = optionsTold(options, values, isIgnored);
+  const isReported = !reason.blocked && reason.items.length > 0;
   return {
-    mood: 'plain', sentence,
-    more: [
-      ...!reason.blocked && reason.items.length > 0 ? [say('framedReported')] : [],
-      ...optionsTold(options, values, isIgnored),
-    ],
-    blocks: readingBlocks([reading]), unseen: ['the embedder\'s own frame-src, and what it requires of frames: not looked at'],
-    data: { ancestors, blocked: reason.blocked || isStopped, frameAncestors: reason, frameOptions: { values, options, isIgnored } },
+    mood: 'plain', sentence, more: isReported ? [say('framedReported'), ...told] : told,
+    blocks: readingBlocks([reading]),
+    unseen: ["the embedder's own frame-src, and what it requires of frames: not looked at"],
+    data: {
+      ancestors, blocked: reason.blocked || isStopped, frameAncestors: reason,
+      frameOptions: { values, options, isIgnored },
+    },
   };
 };

@@ -2,22 +2,28 @@
 import { checkProof } from '../../js/checker.js';
 import { blocksNothing, check } from '../../js/index.js';
 import { textOfLine } from '../../js/places.js';
+import { headersText } from '../reading.js';
 import { say } from '../sentences.js';
 
 /**
+ * @typedef {import('../reading.js').Reading} Reading
  * @param {import('../../js/index.js').Program} program
- * @param {{ origin: string, old: import('../reading.js').Reading, new: import('../reading.js').Reading, proof: string }} given
+ * @param {{ origin: string, old: Reading, new: Reading, proof: string }} given
  * @returns {import('../answer.js').Answer}
  */
-export const proof = (program, { origin, old, new: newer, proof: text }) => {
-  const [first, second] = [newer, old].map(it => it.lines.map(line => `${line}\n`).join(''));
-  const question = { origin, new: first, old: second, proof: text };
-  const engine = check(program, question), other = checkProof(question), isSecond = 'accepted' in other;
-  const isNothing = blocksNothing(program, { origin, headers: second });
-  const line = engine.accepted ? 0 : engine.line, said = { engine, second: other };
-  const told = { more: [say('checkedFor', origin)], blocks: [], unseen: ['report-only policies: not compared'], data: said };
-  if (engine.accepted !== isSecond) throw new Error('the two checkers differ: please report this fault');
-  if (!engine.accepted) return { ...told, mood: 'bad', sentence: say('rejected', line, textOfLine(text, line)) };
-  if (isNothing) return { ...told, mood: 'warn', sentence: say('oldNothing') };
+export const proof = (program, { origin, old: before, new: after, proof: text }) => {
+  const question = { origin, new: headersText(after.lines), old: headersText(before.lines), proof: text };
+  const engine = check(program, question), second = checkProof(question), data = { engine, second };
+  const unseen = ['report-only policies: not compared'];
+  const told = { more: [say('checkedFor', origin)], blocks: [], unseen, data };
+  if (engine.accepted !== 'accepted' in second) {
+    throw new Error('the two checkers differ: please report this fault');
+  }
+  if (!engine.accepted) {
+    return { ...told, mood: 'bad', sentence: say('rejected', engine.line, textOfLine(text, engine.line)) };
+  }
+  if (blocksNothing(program, { origin, headers: question.old })) {
+    return { ...told, mood: 'warn', sentence: say('oldNothing') };
+  }
   return { ...told, mood: 'good', sentence: say('accepted') };
 };

@@ -2,7 +2,8 @@
 import { describeText } from '../../js/describe.js';
 import { tidy } from '../../js/index.js';
 import { shorterOf } from '../../js/propose.js';
-import { readingBlocks } from '../reading.js';
+import { code, copied, table } from '../answer.js';
+import { headersText, readingBlocks } from '../reading.js';
 import { say } from '../sentences.js';
 
 /**
@@ -11,19 +12,16 @@ import { say } from '../sentences.js';
  * @returns {import('../answer.js').Answer}
  */
 export const shorter = (program, { origin, reading }) => {
-  const headers = reading.lines.map(it => `${it}\n`).join('');
-  const found = shorterOf(program, origin, headers), { needed } = tidy(program, { origin, headers });
-  const rows = needed.map(({ directive, token, how, request }) => [
-    { text: directive, isCode: true }, { text: token, isCode: true }, how === 'with' ? 'allows' : 'blocks', describeText(request),
-  ]);
+  const headers = headersText(reading.lines), found = shorterOf(program, origin, headers);
+  const { needed } = tidy(program, { origin, headers });
+  const rows = needed.map(({ directive, token, how, request }) =>
+    [code(directive), code(token), how === 'with' ? 'allows' : 'blocks', describeText(request)]);
   return {
     mood: 'warn', sentence: found === null ? say('noShorter') : say('shorter', headers.length - found.length),
     more: found === null ? [] : [say('oldBrowsers')], unseen: ['report-only policies: not made shorter'],
     blocks: [
-      ...found === null ? [] : [/** @type {import('../answer.js').Block} */ ({
-        kind: 'code', head: say('shorterHeaders'), text: found.trimEnd(), file: 'policy.txt' })],
-      ...rows.length === 0 ? [] : [/** @type {import('../answer.js').Block} */ ({
-        kind: 'table', head: say('needed'), columns: ['Directive', 'Word', 'It', 'As'], rows, isFolded: true })],
+      ...copied(say('shorterHeaders'), found?.trimEnd(), { file: 'policy.txt' }),
+      ...table(say('needed'), ['Directive', 'Word', 'It', 'As'], rows, { isFolded: true }),
       ...readingBlocks([reading]),
     ],
     data: { headers: found, needed },
