@@ -145,10 +145,15 @@ const rowsOf = async (program, answers) => {
   return rows;
 };
 
-/** @param {Given} given how the headers of its pages were read, or those of the field */
-const readingBlocksOf = ({ site, reading }) => {
+/**
+ * How the headers of pages were read, or those of the field.
+ * @param {Program} program
+ * @param {Given} given
+ */
+const readingBlocksOf = (program, { site, reading }) => {
   const own = readingsOf(site.pages), { left } = reading;
-  return readingBlocks(own.length === 0 ? [reading] : own.length === 1 ? [{ ...own[0], left }] : own);
+  const read = own.length === 0 ? [reading] : own.length === 1 ? [{ ...own[0], left }] : own;
+  return readingBlocks(program, read);
 };
 
 /**
@@ -172,7 +177,8 @@ export const blocked = async (program, given, tell) => {
   return {
     mood: summary.mood, sentence: summary.sentence, more: summary.more, unseen: unseenOf(given.site),
     blocks: [
-      ...readingBlocksOf(given), ...aloneBlock(beside), ...grouped(say('notAllowed'), groupsOf(not)),
+      ...readingBlocksOf(program, given), ...aloneBlock(beside),
+      ...grouped(say('notAllowed'), groupsOf(program, not)),
       ...untoldBlock(beside, answers), ...pagesBlock(answers), ...pageMatrix(program, answers),
       ...table(say('allowed', rows.length - not.length), columns, allowed, { isFolded: true }),
       ...summary.enforced.length > 0 ? recipe() : [],
@@ -192,7 +198,7 @@ const headersAlone = (program, { reading, origin }) => {
   return {
     mood: 'warn', sentence: say('nothingJudged'),
     more: [...isVoid ? [say('decidesNothing', 'a page with these headers')] : [], say('giveAPage')],
-    blocks: [...readingBlocks([reading]), ...pageMatrix(program, [], { origin, lines })],
+    blocks: [...readingBlocks(program, [reading]), ...pageMatrix(program, [], { origin, lines })],
     unseen: [], data: { pages: [], browserAlone: [] },
   };
 };
