@@ -1,6 +1,6 @@
 /** The page: what is heard of keys, clicks and drops. What reads and decides runs in the worker. */
-import { ask, changed, copy, copyAnswer, isFresh, showAnswer } from './asked.js';
-import { Asking } from './asking.js';
+import { ask, busyUntil, changed, copy, copyAnswer, isFresh, showAnswer } from './asked.js';
+import { Asking, Stopped } from './asking.js';
 import { all, by, element, told } from './element.js';
 import { showFields, showGiven } from './fields.js';
 import { beginning, linkOf, stateOf } from './link.js';
@@ -20,11 +20,19 @@ const askNow = async () => {
 };
 
 /**
+ * Does something that a person may stop.
+ * @param {Promise<unknown>} work
+ */
+const stoppable = work => busyUntil(work).catch(error => {
+  if (!(error instanceof Stopped)) throw error;
+});
+
+/**
  * Takes texts, and asks.
- * @param {{ name: string, text: string, blob?: Blob }[]} texts
+ * @param {import('./taking.js').Given[]} texts
  */
 const taken = async texts => {
-  await take(asking, texts);
+  await stoppable(take(asking, texts));
   await askNow();
 };
 
@@ -78,7 +86,7 @@ const remove = id => {
   state.files = state.files.filter(it => it.id !== id);
   state.isExample = false;
   changed();
-  showGiven(asking);
+  stoppable(showGiven(asking));
   ask(asking);
 };
 
@@ -98,7 +106,7 @@ let waiting = 0;
 /** Says how the fields are read, once nothing was written for a moment. */
 const describeSoon = () => {
   clearTimeout(waiting);
-  waiting = window.setTimeout(() => showGiven(asking), 400);
+  waiting = window.setTimeout(() => stoppable(showGiven(asking)), 400);
 };
 
 /** @param {any} event */
@@ -159,7 +167,7 @@ const hearFields = () => {
   by('clear').addEventListener('click', () => {
     clearExample();
     changed();
-    showGiven(asking);
+    stoppable(showGiven(asking));
     ask(asking);
     by('paste').focus();
   });
@@ -182,7 +190,7 @@ const show = () => {
   const from = stateOf(location.hash) ?? beginning();
   restore(from);
   select(TABS.some(it => it.id === from.tab) ? from.tab : 'blocked');
-  return showGiven(asking);
+  return stoppable(showGiven(asking));
 };
 
 const begin = async () => {
