@@ -1,4 +1,5 @@
 /** The page: what is heard of keys, clicks and drops. What reads and decides runs in the worker. */
+import { SNIPPET } from '../js/readers/events.js';
 import { ask, busyUntil, changed, copy, copyAnswer, isFresh, showAnswer } from './asked.js';
 import { Asking, Stopped } from './asking.js';
 import { all, by, element, told } from './element.js';
@@ -198,6 +199,7 @@ const begin = async () => {
   hearFields();
   hearKeys();
   hearDrops();
+  by('snippet').textContent = by('copy-snippet').dataset.copy = SNIPPET;
   document.addEventListener('click', clicked);
   by('stop').addEventListener('click', () => asking.stop());
   by('link').addEventListener('click', makeLink);

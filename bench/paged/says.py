@@ -39,6 +39,8 @@ CASES = [
      "1 of 2 requests is blocked.", {"standsIn", "better"}),
     ("blocked", {"headers": ENFORCED + "img-src https://img.example:444", "files": [html(IMAGE)]}, "bad",
      "1 of 1 request is blocked.", {"near"}),
+    ("blocked", {"headers": ENFORCED + "script-src 'self'", "files": [html('<script src="/a.js"></script>')]}, "warn",
+     "None of 2 requests is blocked.", {"scriptsNotRun"}),
     ("blocked", {"headers": ENFORCED + "script-src 'strict-dynamic' 'nonce-a'", "files": [html('<script src="/a.js"></script>')]}, "bad",
      "1 of 2 requests is blocked.", {"instead"}),
     ("blocked", {"headers": REPORT + "img-src 'self'", "files": [html(IMAGE)]}, "warn", "None of 1 request is blocked.",
