@@ -47,7 +47,8 @@ export const acceptable = accepted => {
     else {
       const hint = isUncovered(directive) ? `Write ${directive} and the reason, without a source.`
         : `Write one of ${Object.keys(STAND_INS).join(', ')}, a source and the reason.`;
-      throw new Refusal(USAGE, { file: 'accepted', got: line, problem: `can't accept ${directive} ${source ?? ''}`, hint });
+      const problem = `can't accept ${directive} ${source ?? ''}`;
+      throw new Refusal(USAGE, { file: 'accepted', got: line, problem, hint });
     }
   }
   return { requests, uncovered };
@@ -68,7 +69,8 @@ const widened = (policy, directive, sources) => {
   if (decides === undefined) return policy;
   const values = [...valuesOf(policy, decides), ...sources];
   // Under script-src a worker is judged as a script, under worker-src by its URL.
-  if (directive === 'worker-src' && decides === 'script-src') return withDirective(policy, directive, sources);
+  const isWorkers = directive === 'worker-src' && decides === 'script-src';
+  if (isWorkers) return withDirective(policy, directive, sources);
   const isNewForWorkers = directive === 'script-src' && decides === 'default-src'
     && !has('worker-src') && !has('child-src');
   const kept = isNewForWorkers ? withDirective(policy, 'worker-src', valuesOf(policy, decides)) : policy;

@@ -14,8 +14,8 @@
 
 /**
  * What a policy does with a check. `by` and `token` say what allows it, as `nonce` and `'nonce-r4nd0m'`;
- * `near` has the tokens that would allow it but for one thing, as the port; where there is none, `add` may have
- * the source that would allow the URL.
+ * `near` has the tokens that would allow it but for one thing, as the port; where there is none, `add` may
+ * have the source that would allow the URL.
  * @typedef {{ policy: number, directive: string, does: 'allows' | 'blocks' | 'would block', by?: string,
  *   token?: string, near: { token: string, butFor: string }[], add?: string }} Ground
  */

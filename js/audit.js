@@ -1,12 +1,14 @@
-/** What an attacker could do who writes markup into a page. The engine decides about each thing that is tried. */
-import { why } from './index.js';
+/**
+ * What an attacker could do who writes markup into a page. The engine decides about each thing that is tried.
+ */
+import { why } from './calls.js';
 import { knownOf } from './known.js';
 import { headersOf, readPolicies, valuesOf, withDirective } from './policies.js';
 import { questionsOf } from './questions.js';
 
 /**
- * @typedef {import('./index.js').Program} Program
- * @typedef {import('./index.js').Request} Request
+ * @typedef {import('./calls.js').Program} Program
+ * @typedef {import('./calls.js').Request} Request
  * @typedef {import('./answers.js').Reason} Reason
  * @typedef {import('./answers.js').Ground} Ground
  * @typedef {import('./policies.js').Policy} Policy
@@ -96,6 +98,9 @@ const ORDER = ['yes', 'reported', 'no'];
  */
 const canOf = ({ blocked, items }) => blocked ? 'no' : items.length > 0 ? 'reported' : 'yes';
 
+/** @param {Policy | undefined} policy */
+const isEnforced = policy => policy?.disposition === 'enforce';
+
 /** @param {string} text */
 const upper = text => text[0].toUpperCase() + text.slice(1);
 
@@ -106,7 +111,7 @@ const upper = text => text[0].toUpperCase() + text.slice(1);
 const becauseOf = ({ blocked, items, policies: grounds }, policies) => {
   const enforced = items.filter(it => it.disposition === 'enforce').map(it => it.governing);
   if (blocked) return `${[...new Set(enforced)].join(' and ')} blocks it`;
-  const allowing = grounds.filter(it => policies[it.policy]?.disposition === 'enforce' && it.directive !== '-');
+  const allowing = grounds.filter(it => it.directive !== '-' && isEnforced(policies[it.policy]));
   const by = allowing.map(it => `${it.directive}${it.token === undefined ? '' : ` ${it.token}`}`);
   const told = items.length > 0 ? ', and a policy that only reports would tell of it' : '';
   if (by.length === 0) return `no enforced directive decides about it${told}`;
@@ -134,7 +139,7 @@ class Stopping {
 
   /** @returns {Stop[]} */
   all() {
-    const enforced = this.#policies.map((it, n) => n).filter(n => this.#policies[n].disposition === 'enforce');
+    const enforced = [...this.#policies.keys()].filter(n => isEnforced(this.#policies[n]));
     const ways = enforced.flatMap(n => this.#ofPolicy(n)), reports = this.#enforcing();
     const least = Math.min(...ways.map(it => it.size));
     const news = enforced.length === 0 && reports.length === 0 ? this.#added(null) : [];
@@ -160,13 +165,14 @@ class Stopping {
     return this.#policies.map((it, n) => n === at ? policy : it);
   }
 
-  // A policy that only reports, enforced.
+  /** A policy that only reports, enforced. */
   #enforcing() {
     return this.#policies.flatMap((it, n) => {
-      if (it.disposition === 'enforce') return [];
+      if (isEnforced(it)) return [];
       /** @type {Policy} */
       const policy = { ...it, disposition: 'enforce' };
-      const change = { policy: n, directive: null, text: 'enforce this policy', policies: this.#with(n, policy) };
+      const text = 'enforce this policy';
+      const change = { policy: n, directive: null, text, policies: this.#with(n, policy) };
       return this.#stops(change) ? [change] : [];
     }).slice(0, 1);
   }
@@ -218,8 +224,8 @@ class Stopping {
     return [];
   }
 
-  // A nonce, beside which 'unsafe-inline' is void.
   /**
+   * A nonce, beside which 'unsafe-inline' is void.
    * @param {number} at
    * @param {string} directive
    * @param {string[]} taken
@@ -244,7 +250,8 @@ class Stopping {
  * @returns {Row}
  */
 const rowOf = (asked, policies, question, withStops) => {
-  const { id, group, subject, action, from, runs } = question, what = from === undefined ? action : `${action} ${from}`;
+  const { id, group, subject, action, from, runs } = question;
+  const what = from === undefined ? action : `${action} ${from}`;
   const { can, request, reason } = asked.about(headersOf(policies), question);
   const said = `${upper(subject)} ${can === 'no' ? "couldn't" : 'could'} ${what}`;
   const because = becauseOf(reason, policies);
@@ -260,7 +267,7 @@ const rowOf = (asked, policies, question, withStops) => {
  * What an attacker could do who writes markup into the page, knows no nonce, and has no code of theirs among
  * the policies' hashes.
  * @param {Program} program
- * @param {{ origin: string, headers: import('./index.js').Headers, stops?: boolean }} given `stops` false
+ * @param {{ origin: string, headers: import('./calls.js').Headers, stops?: boolean }} given `stops` false
  *   leaves out what would stop each
  * @returns {Audit}
  */

@@ -3,7 +3,7 @@ import { keyOf } from './readers/hops.js';
 import { urlOf } from './readers/urls.js';
 
 /**
- * @typedef {import('./index.js').Verdict} Verdict
+ * @typedef {import('./calls.js').Verdict} Verdict
  * @typedef {import('./readers/violations.js').Violation} Violation
  * @typedef {import('./readers/html.js').Piece} Piece
  */

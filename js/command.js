@@ -2,10 +2,11 @@
 import { readFileSync, writeFileSync } from 'node:fs';
 import { dirname, join } from 'node:path';
 import { acceptedIn } from './command/accepted.js';
+import { read } from './command/files.js';
 import { answersIn } from './command/folder.js';
 import { isHeaders, marksIn, readHeaderFile } from './command/headers.js';
 import { help, helpOf } from './command/help.js';
-import { lineOf, read } from './command/line.js';
+import { lineOf } from './command/line.js';
 import { runProgram } from './command/native.js';
 import { pageOf, wrapped } from './command/page.js';
 import { programOf, withProgress } from './command/program.js';
@@ -149,7 +150,8 @@ const answered = async (line, environment) => {
   if (word.word === 'reports') return answeredOfReports(line, headers.headers, environment);
   const sources = sourcesOf(line.sources), { run } = word;
   if (run !== undefined) {
-    const program = await programOf(environment.GUIDECERISE_PROGRAM), page = pageOf(process.stdout, environment);
+    const program = await programOf(environment.GUIDECERISE_PROGRAM);
+    const page = pageOf(process.stdout, environment);
     const given = { program, sources, headers: headers.headers, options, page };
     const { answer, told, remarks } = await withProgress(() => run(given));
     return { text: printed(line, answer, told, remarks, page), status: told.status };

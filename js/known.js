@@ -10,6 +10,13 @@
 const NONCE_LENGTH = 22;
 const LEAST_DIFFERENT = 8;
 
+const OBJECT = 'object-src is missing: old browsers run plugins from any host';
+const BASE = 'base-uri is missing, and default-src doesn\'t stand in for it: a <base> moves scripts with '
+  + 'relative URLs';
+const A_PATH = 'the path counts for the first URL alone: by a redirect any script of this host may run';
+const A_HOST = 'every script of this host may run: uploads of others, old libraries, answers that call what '
+  + 'a URL names';
+
 /**
  * @param {string} nonce
  * @returns {string[]}
@@ -46,10 +53,9 @@ const fallbacks = ({ disposition, directives }, number) => {
   const isAboutScripts = has('script-src') || has('script-src-elem') || has('default-src');
   if (disposition === 'report' || !isAboutScripts) return [];
   return [
-    ...has('object-src') || has('default-src') ? [] : [{ policy: number, directive: 'object-src', token: null,
-      said: 'object-src is missing: old browsers run plugins from any host' }],
-    ...has('base-uri') ? [] : [{ policy: number, directive: 'base-uri', token: null,
-      said: 'base-uri is missing, and default-src doesn\'t stand in for it: a <base> moves scripts with relative URLs' }],
+    ...has('object-src') || has('default-src') ? []
+      : [{ policy: number, directive: 'object-src', token: null, said: OBJECT }],
+    ...has('base-uri') ? [] : [{ policy: number, directive: 'base-uri', token: null, said: BASE }],
   ];
 };
 
@@ -58,13 +64,10 @@ const fallbacks = ({ disposition, directives }, number) => {
  * @param {readonly { group: string, can: string, policies: Ground[] }[]} rows
  * @returns {Known[]}
  */
-const hosts = rows => rows.filter(it => it.group === 'named host' && it.can !== 'no').flatMap(({ policies }) =>
-  policies.flatMap(({ policy, directive, token }) => token === undefined || /^'/.test(token) ? [] : [{
-    policy, directive, token,
-    said: /[^/]\/[^/]/.test(token)
-      ? 'the path counts for the first URL alone: by a redirect any script of this host may run'
-      : 'every script of this host may run: uploads of others, old libraries, answers that call what a URL names',
-  }]));
+const hosts = rows => rows.filter(it => it.group === 'named host' && it.can !== 'no')
+  .flatMap(it => it.policies).flatMap(({ policy, directive, token }) =>
+    token === undefined || token.startsWith("'") ? []
+      : [{ policy, directive, token, said: /[^/]\/[^/]/.test(token) ? A_PATH : A_HOST }]);
 
 /**
  * @param {readonly Policy[]} policies

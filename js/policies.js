@@ -2,43 +2,65 @@
  * What headers say, policy by policy, so that one word of them can be changed and the engine asked again.
  * Policies are numbered as the engine numbers them. Nothing here decides what a policy does.
  */
-import { compare } from './index.js';
-import { piecesOf } from './readers/marks.js';
+import { compare } from './calls.js';
+import { asciiLower } from './readers/words.js';
 
 /**
- * @typedef {{ name: string, values: string[] }} Directive
- * @typedef {{ disposition: 'enforce' | 'report', isMeta: boolean, directives: Directive[] }} Policy
+ * A piece of a policy. `text` is how it was written, where it was read.
+ * @typedef {{ name: string, values: string[], text?: string }} Directive
+ *
+ * A policy. `isFirst` says whether it begins its header, rather than standing behind a comma.
+ * @typedef {{ disposition: 'enforce' | 'report', isMeta: boolean, isFirst?: boolean,
+ *   directives: Directive[] }} Policy
  */
 
 const NOT_IN_META = ['report-uri', 'frame-ancestors', 'sandbox'];
 const LINE = /^((?:meta-)?content-security-policy|content-security-policy-report-only):(.*)$/i;
 
 /**
- * The directives that count: of two of one name the first, and none with a character outside ASCII.
+ * The pieces of a policy, split at semicolons as the standard splits it.
  * @param {string} text
- * @param {boolean} isMeta
+ * @returns {Directive[]}
  */
-const directivesOf = (text, isMeta) => {
-  const all = piecesOf(text.split(';').filter(it => !/[^\0-\x7f]/.test(it)).join(';'));
-  return all.filter(({ name }, n) => all.findIndex(it => it.name === name) === n)
-    .filter(({ name }) => !isMeta || !NOT_IN_META.includes(name))
-    .map(({ name, values }) => ({ name, values }));
-};
+const piecesOf = text => text.split(';').map(it => it.trim()).filter(it => it !== '').map(it => {
+  const [name, ...values] = it.split(/\s+/);
+  return { name: asciiLower(name), values, text: it };
+});
 
 /**
- * @param {string | Uint8Array} headers
+ * The policies of header lines with all of their pieces. A header is split at commas, what a meta element
+ * holds isn't.
+ * @param {readonly string[]} lines
  * @returns {Policy[]}
  */
-const policiesIn = headers => {
-  const text = typeof headers === 'string' ? headers : new TextDecoder().decode(headers);
-  return text.split(/\r?\n/).flatMap(line => {
-    const [, name, value] = LINE.exec(line) ?? [];
-    if (name === undefined) return [];
-    const isMeta = /^meta-/i.test(name), disposition = /-only$/i.test(name) ? 'report' : 'enforce';
-    return (isMeta ? [value] : value.split(',')).map(it =>
-      /** @type {Policy} */ ({ disposition, isMeta, directives: directivesOf(it, isMeta) }));
-  }).filter(it => it.directives.length > 0);
-};
+export const policiesOf = lines => lines.flatMap(line => {
+  const [, name, value] = LINE.exec(line.trimEnd()) ?? [];
+  if (name === undefined) return [];
+  const isMeta = /^meta-/i.test(name), disposition = /-only$/i.test(name) ? 'report' : 'enforce';
+  return (isMeta ? [value] : value.split(',')).map((text, n) =>
+    /** @type {Policy} */ ({ disposition, isMeta, isFirst: n === 0, directives: piecesOf(text) }));
+});
+
+/**
+ * Whether a piece counts: of two of one name the first does, and none with a character outside ASCII.
+ * @param {Directive} piece
+ * @param {Policy} policy
+ */
+const isKept = (piece, { isMeta, directives }) =>
+  isAscii(piece) && directives.find(it => isAscii(it) && it.name === piece.name) === piece
+    && !(isMeta && NOT_IN_META.includes(piece.name));
+
+/** @param {Directive} piece */
+const isAscii = ({ text = '' }) => !/[^\0-\x7f]/.test(text);
+
+/**
+ * The policies of header lines, with the directives that count.
+ * @param {readonly string[]} lines
+ * @returns {Policy[]}
+ */
+export const keptPolicies = lines => policiesOf(lines)
+  .map(policy => ({ ...policy, directives: policy.directives.filter(it => isKept(it, policy)) }))
+  .filter(it => it.directives.length > 0);
 
 /** @param {Directive} directive */
 export const directiveText = ({ name, values }) => [name, ...values].join(' ');
@@ -54,11 +76,12 @@ export const headersOf = policies => policies.map(({ disposition, isMeta, direct
 
 /**
  * The policies of header lines. That they allow exactly what the lines allow, the engine is asked.
- * @param {import('./index.js').Program} program
+ * @param {import('./calls.js').Program} program
  * @param {{ origin: string, headers: string | Uint8Array }} given
  */
 export const readPolicies = (program, { origin, headers }) => {
-  const policies = policiesIn(headers), read = headersOf(policies);
+  const text = typeof headers === 'string' ? headers : new TextDecoder().decode(headers);
+  const policies = keptPolicies(text.split('\n')), read = headersOf(policies);
   const differs = [[read, headers], [headers, read]].some(([newer, old]) =>
     compare(program, { origin, new: newer, old }).weaker);
   if (differs) throw new Error('the engine reads these headers in another way than js/policies.js');

@@ -2,7 +2,9 @@
  * Proposes a policy for pages, recordings and reports: by hosts, by nonces and hashes, or as an addition to
  * the present policy. The engine says what each proposal does with all that was given.
  */
-import { audit, compare, tidy } from './index.js';
+import { audit } from './audit.js';
+import { compare, tidy } from './calls.js';
+import { directiveText } from './policies.js';
 import { Refusal } from './refusal.js';
 import { additionsOf } from './propose/additions.js';
 import { emptyPolicy, keptOf, withStrictWords } from './propose/base.js';
@@ -21,7 +23,7 @@ export { NONCE } from './propose/items.js';
  * @typedef {import('./propose/items.js').Count} Count
  * @typedef {import('./propose/additions.js').Addition} Addition
  * @typedef {import('./propose/needs.js').Wish} Wish
- * @typedef {import('./index.js').Program} Program
+ * @typedef {import('./calls.js').Program} Program
  * @typedef {Wish['form']} Form `hosts`: by the hosts of what was loaded; `strict`: scripts by nonces and
  * hashes, with 'strict-dynamic'; `addition`: the present policy, and the sources that it lacks
  *
@@ -179,9 +181,10 @@ export const propose = async (program, given) => {
     form, headers, shorter: isOne ? shorterOf(program, origin, headers) : null,
     asked: countsOf(items), before: before && unallowed(before), after: unallowed(after),
     nonces: await rowsOf(judged(program, list.lines, [...edits]), own), blocked: await rowsOf(after, own),
-    additions: groups.map(it => it.addition), kept: kept.map(it => it.text),
+    additions: groups.map(it => it.addition), kept: kept.map(directiveText),
     audit: isOne ? auditOf(program, origin, headers) : null,
-    gaps: gapsOf(pages), cautions: cautionsOf({ form, headers, items }), left: leftOf(pages), unseen: unseenOf(pages),
+    gaps: gapsOf(pages), cautions: cautionsOf({ form, headers, items }), left: leftOf(pages),
+    unseen: unseenOf(pages),
   };
 };
 

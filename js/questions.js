@@ -1,17 +1,19 @@
-/** What an attacker may try who writes markup into a page: requests of a host and code that no policy names. */
-import { judge } from './index.js';
+/**
+ * What an attacker may try who writes markup into a page: requests of a host and code that no policy names.
+ */
+import { judge } from './calls.js';
 import { tokensOf } from './policies.js';
 
 /**
  * @typedef {import('./requests.js').Request} Request
  * @typedef {import('./policies.js').Policy} Policy
- * @typedef {import('./index.js').Program} Program
+ * @typedef {import('./calls.js').Program} Program
  */
 
 /**
- * What is tried. `starts` is the directive that would stop it where no other decides. One of `tries` has to be
- * allowed, and all of `needs`. `action` is done `from`, or to, some place. `runs` says that it runs what the
- * attacker wrote, `with` what it takes besides markup.
+ * What is tried. `starts` is the directive that would stop it where no other decides. One of `tries` has to
+ * be allowed, and all of `needs`. `action` is done `from`, or to, some place. `runs` says that it runs what
+ * the attacker wrote, `with` what it takes besides markup.
  * @typedef {{ id: string, group: Group, subject: string, action: string, from?: string, starts: string,
  *   tries: Request[], needs: Request[], runs: boolean, with?: string }} Question
  */
@@ -116,7 +118,8 @@ const INLINE = /** @type {const} */ ([
 const inline = ({ code }) => inlineOf(code).map((request, n) => {
   const [id, action, starts] = INLINE[n], runs = starts === 'script-src';
   return {
-    id, group: 'inline', subject: MARKUP, action, starts, tries: [request], needs: runs ? [SCRIPTS] : [], runs,
+    id, group: 'inline', subject: MARKUP, action, starts, tries: [request],
+    needs: runs ? [SCRIPTS] : [], runs,
   };
 });
 
@@ -138,14 +141,15 @@ const from = scheme => scheme === 'data' || scheme === 'blob' ? `from a ${scheme
  * @param {Attacker} attacker
  * @returns {Question[]}
  */
-const loads = attacker => LOADED.flatMap(([destination, action, starts, name, group]) => SCHEMES.map(scheme => ({
-  id: `${group} ${scheme}:`, group, subject: MARKUP, action, from: from(scheme), starts,
-  tries: attacker.urls(scheme, name).map(url => /** @type {Request} */ ({
-    kind: 'fetch', destination, url, ...destination === 'script' ? { 'parser-inserted': true } : {},
-  })),
-  needs: destination === 'script' ? [SCRIPTS] : [], runs: destination === 'script',
-  ...scheme === 'blob' ? { with: 'a blob: URL that a script of the page made' } : {},
-})));
+const loads = attacker => LOADED.flatMap(([destination, action, starts, name, group]) => {
+  const runs = destination === 'script', inserted = runs ? { 'parser-inserted': true } : {};
+  return SCHEMES.map(scheme => ({
+    id: `${group} ${scheme}:`, group, subject: MARKUP, action, from: from(scheme), starts,
+    tries: attacker.urls(scheme, name).map(url => ({ kind: 'fetch', destination, url, ...inserted })),
+    needs: runs ? [SCRIPTS] : [], runs,
+    ...scheme === 'blob' ? { with: 'a blob: URL that a script of the page made' } : {},
+  }));
+});
 
 /**
  * @param {Attacker} attacker
@@ -251,12 +255,15 @@ const running = attacker => [
  * @param {string} origin
  * @returns {Question[]}
  */
-const workers = origin => [...origin === 'null' ? [] : [`${origin}/upload/x.js`], 'data:', 'blob:'].map(url => ({
-  id: `worker ${url.startsWith('http') ? 'own' : url}`, group: 'worker', subject: SCRIPT, starts: 'worker-src',
-  action: 'start a worker', from: `from ${url.startsWith('http') ? 'the page\'s own origin' : `a ${url} URL`}`,
-  runs: false,
-  tries: [{ kind: 'fetch', destination: 'worker', url }], needs: [{ kind: 'worker-start' }],
-}));
+const workers = origin => {
+  const own = origin === 'null' ? [] : [['own', "from the page's own origin", `${origin}/upload/x.js`]];
+  const places = [...own, ...['data:', 'blob:'].map(it => [it, `from a ${it} URL`, it])];
+  return places.map(([name, from, url]) => ({
+    id: `worker ${name}`, group: 'worker', subject: SCRIPT, action: 'start a worker', from,
+    starts: 'worker-src', tries: [{ kind: 'fetch', destination: 'worker', url }],
+    needs: [{ kind: 'worker-start' }], runs: false,
+  }));
+};
 
 /**
  * All that is tried against these headers.

@@ -1,10 +1,10 @@
 /** What the engine says of each page of a site, piece by piece. */
-import { blocksNothing } from './index.js';
+import { blocksNothing } from './calls.js';
 import { questionsOf } from './readers/site.js';
 
 /**
- * @typedef {import('./index.js').Program} Program
- * @typedef {import('./index.js').Verdict} Verdict
+ * @typedef {import('./calls.js').Program} Program
+ * @typedef {import('./calls.js').Verdict} Verdict
  * @typedef {import('./readers/site.js').SitePage} SitePage
  * @typedef {import('./readers/html.js').Piece} Piece
  */

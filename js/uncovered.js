@@ -1,4 +1,7 @@
-/** What decides nothing in the engine, so that no proof says anything of it: whether it changed, and got looser. */
+/**
+ * What decides nothing in the engine, so that no proof says anything of it: whether it changed, and got
+ * looser.
+ */
 import { directiveText } from './policies.js';
 import { asciiLower } from './readers/words.js';
 

@@ -1,18 +1,19 @@
 /**
  * Whether new headers are weaker than old ones: directive by directive, with what no proof covers, and what
- * an attacker could do before and after. The engine decides; a yes is checked by it and by the second checker.
+ * an attacker could do before and after. The engine decides; a yes is checked by it and by the second
+ * checker.
  */
 import { acceptable, withAccepted } from './accepted.js';
 import { audit } from './audit.js';
 import { checkProof } from './checker.js';
-import { blocksNothing, check, compare, differ } from './index.js';
+import { blocksNothing, check, compare, differ } from './calls.js';
 import { noncesOf, renamed } from './nonces.js';
 import { headersOf, readPolicies } from './policies.js';
 import { uncoveredOf } from './uncovered.js';
 
 /**
- * @typedef {import('./index.js').Program} Program
- * @typedef {import('./index.js').Headers} Headers
+ * @typedef {import('./calls.js').Program} Program
+ * @typedef {import('./calls.js').Headers} Headers
  * @typedef {import('./answers.js').Shown} Shown
  * @typedef {import('./answers.js').Difference} Difference
  * @typedef {import('./audit.js').Audit} Audit
@@ -31,8 +32,8 @@ import { uncoveredOf } from './uncovered.js';
 /**
  * A directive. `allowed` is a request that the new headers allow and the old ones block, `blocked` one the
  * other way round, and `left` one that is allowed and isn't accepted.
- * @typedef {{ directive: string, change: 'weaker' | 'stricter' | 'both' | 'same', allowed?: Shown, left?: Shown,
- *   blocked?: Shown }} Change
+ * @typedef {{ directive: string, change: 'weaker' | 'stricter' | 'both' | 'same', allowed?: Shown,
+ *   left?: Shown, blocked?: Shown }} Change
  */
 
 /**

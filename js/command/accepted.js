@@ -1,10 +1,9 @@
 /** What may be new, each with a reason: a file with a line for each. */
-import { readFileSync } from 'node:fs';
 import { isUncovered } from '../uncovered.js';
 import { Refusal } from '../refusal.js';
+import { read } from './files.js';
 
 const USAGE = 2;
-const READ_FAULT = 8;
 const HINT = 'Write a directive, a source and the reason, as: img-src data: icons are data: URLs';
 
 /**
@@ -26,13 +25,5 @@ const entryOf = (path, line, number) => {
  * What a file accepts. Empty lines and lines that begin with # say nothing.
  * @param {string} path
  */
-export const acceptedIn = path => {
-  let text;
-  try {
-    text = readFileSync(path, 'utf8');
-  } catch (error) {
-    const { code } = /** @type {NodeJS.ErrnoException} */ (error);
-    throw new Refusal(READ_FAULT, { problem: `${path}: it can't be read (${code})` });
-  }
-  return text.split('\n').flatMap((line, n) => entryOf(path, line, n + 1));
-};
+export const acceptedIn = path =>
+  read(path, path).toString().split('\n').flatMap((line, n) => entryOf(path, line, n + 1));

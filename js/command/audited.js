@@ -24,7 +24,8 @@ const merged = rows => {
     const group = groups.get(key) ?? { row, from: [] };
     groups.set(key, { row, from: [...group.from, ...row.from === undefined ? [] : [row.from]] });
   }
-  return [...groups.values()].map(({ row, from }) => ({ row, what: [row.action, from.join(', ')].join(' ').trim() }));
+  return [...groups.values()]
+    .map(({ row, from }) => ({ row, what: `${row.action} ${from.join(', ')}`.trim() }));
 };
 
 /**
@@ -62,12 +63,38 @@ const summed = ({ rows, blocksNothing }, name) => {
     return { mood: 'red', sentence, status: MEANS_NOTHING };
   }
   if (code.length > 0) {
-    return { mood: 'red', sentence: `Injected markup could run code, in ${counted(code.length, 'way')}.${others}`, status: 1 };
+    const sentence = `Injected markup could run code, in ${counted(code.length, 'way')}.${others}`;
+    return { mood: 'red', sentence, status: 1 };
   }
-  const sentence = hosted.length === 0 ? 'Injected markup couldn\'t run code.'
-    : `Injected markup couldn't run code by itself, but with more it could, in ${counted(hosted.length, 'way')}.`;
+  const more = hosted.length === 0 ? '' : ' by itself, but with more it could, in '
+    + counted(hosted.length, 'way');
+  const sentence = `Injected markup couldn't run code${more}.`;
   return { mood: possible.length > 0 ? 'yellow' : 'green', sentence: sentence + others, status: 0 };
 };
+
+/**
+ * What isn't possible, in a line, with the directive that blocks it.
+ * @param {ReturnType<typeof merged>[0]} merged
+ * @param {import('./page.js').Page} page
+ */
+const notLines = ({ row: { because }, what }, page) => {
+  const text = `no       ${what} (${because.replace(/ blocks it$/, '')})`;
+  return wrapped(text, page, ' '.repeat(9)).map(it => it.replace(/^no /, `${page.paint('no', 'green')} `));
+};
+
+/**
+ * @param {Audit['known']} known
+ * @param {import('./page.js').Page} page
+ */
+const knownLines = (known, page) => {
+  const facts = known.map(({ said, directive, token }) =>
+    `- ${token === null ? directive : `${directive} ${token}`}: ${said}`);
+  return facts.length === 0 ? []
+    : ['Known, and not proved:', ...facts.flatMap(it => wrapped(plain(it), page, '  ')), ''];
+};
+
+const COVERS = 'for an attacker who writes markup into it and knows no nonce. One host that no policy names '
+  + 'stands for all of them, one script without a nonce for all.';
 
 /**
  * @param {Audit} answer
@@ -77,17 +104,13 @@ const summed = ({ rows, blocksNothing }, name) => {
 export const tellAudit = (answer, { names, lines, origin, page }) => {
   const { rows, known, notCovered } = answer, policies = rows[0].policies.length;
   const possible = rows.filter(it => it.can !== 'no'), not = merged(rows.filter(it => it.can === 'no'));
-  const facts = known.map(({ said, directive, token }) => `${token === null ? directive : `${directive} ${token}`}: ${said}`);
   return {
     lines: [
       ...merged(possible).flatMap(it => linesOf(it, policies, page)),
-      ...not.flatMap(({ row, what }) => wrapped(`no       ${what} (${row.because.replace(/ blocks it$/, '')})`, page,
-        ' '.repeat(9)).map(it => it.replace(/^no /, page.paint('no', 'green') + ' '))),
-      '', ...facts.length === 0 ? [] : ['Known, and not proved:', ...facts.flatMap(it => wrapped(`- ${plain(it)}`, page, '  ')), ''],
+      ...not.flatMap(it => notLines(it, page)), '', ...knownLines(known, page),
     ],
     ...summed(answer, names.headers), warnings: [],
-    covers: `On a page of ${origin}, for an attacker who writes markup into it and knows no nonce. One host that no`
-      + ' policy names stands for all of them, one script without a nonce for all.',
+    covers: `On a page of ${origin}, ${COVERS}`,
     unseen: notCovered,
     findings: () => possible.filter(it => it.runs).map(it => ({
       rule: it.group, level: isCode(it) ? 'error' : 'warning', file: names.headers, line: lines.headers,

@@ -1,11 +1,11 @@
 /** The pairs of headers in a folder: each folder below it that has the files new.txt and old.txt. */
-import { existsSync, readFileSync, readdirSync } from 'node:fs';
+import { existsSync, readdirSync } from 'node:fs';
 import { dirname, join, relative } from 'node:path';
 import { weaker } from '../index.js';
 import { Refusal } from '../refusal.js';
 import { acceptedIn } from './accepted.js';
 import { readHeaderFile } from './headers.js';
-import { read } from './line.js';
+import { read } from './files.js';
 import { statusOf } from './weakened.js';
 
 /**
@@ -62,14 +62,15 @@ const nearest = (folder, top, name) => {
 const answerOf = async (program, folder, top, common) => {
   const paths = { new: join(folder, 'new.txt'), old: join(folder, 'old.txt') };
   const lines = nearest(folder, top, 'accepted.txt'), named = nearest(folder, top, 'origin.txt');
-  const origin = named === undefined ? common.origin : readFileSync(named, 'utf8').trim();
+  const origin = named === undefined ? common.origin : read(named, named).toString().trim();
   const pair = { name: relative(top, folder) || '.', origin, ...paths, line: 1, remarks: [] };
   try {
     const accepted = [...common.accepted, ...lines === undefined ? [] : acceptedIn(lines)];
     const newer = await readHeaderFile('new', paths.new, read('new', paths.new));
     const old = await readHeaderFile('old', paths.old, read('old', paths.old));
     const answer = weaker(program, { origin, new: newer.content, old: old.content, accepted });
-    return { ...pair, line: newer.line, remarks: [...newer.remarks, ...old.remarks], answer, status: statusOf(answer) };
+    const remarks = [...newer.remarks, ...old.remarks];
+    return { ...pair, line: newer.line, remarks, answer, status: statusOf(answer) };
   } catch (error) {
     if (!(error instanceof Refusal)) throw error;
     return { ...pair, refused: error.message, status: error.status };

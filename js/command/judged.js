@@ -123,7 +123,7 @@ const coverage = (requests, { names, origin }) => {
 };
 
 /** @type {(all: number, blocked: number, reported: number) => string} */
-export const sentenceOf = (all, blocked, reported) => {
+const sentenceOf = (all, blocked, reported) => {
   if (all === 0) return 'No request was given, so nothing was judged.';
   const count = blocked === 0 ? 'None' : number(blocked), is = blocked > 1 ? 'are' : 'is';
   const more = blocked === 0 ? `But ${number(reported)}` : counted(reported, 'other');
@@ -191,7 +191,7 @@ const BUT = /** @type {Record<string, string>} */ ({
  * @param {import('../answers.js').Ground} ground
  * @param {boolean} several
  */
-export const groundText = ({ policy, directive, blocks, token, near }, several) => {
+export const groundText = ({ policy, directive, does, token, near, add }, several) => {
   const who = several ? `${ordinal(policy)} policy: ` : '';
   if (directive === '-') return `${who}no directive decides this`;
   if (does === 'allows') return `${who}${directive} allows it${token === undefined ? '' : ` by ${token}`}`;
@@ -208,7 +208,8 @@ export const groundText = ({ policy, directive, blocks, token, near }, several) 
  */
 const reasonLines = ({ number, blocked, items, checks }, request, { page }) => {
   const answer = blocked ? BLOCKED : items.length > 0 ? REPORTED : ALLOWED;
-  const text = describeText(request), [first, ...more] = wrapped(`${number} ${answer.text}: ${text}`, page, '  ');
+  const text = describeText(request);
+  const [first, ...more] = wrapped(`${number} ${answer.text}: ${text}`, page, '  ');
   const grounds = checks.flatMap(({ url, policies }) => [
     ...url === null || text.endsWith(url) ? [] : [`    at ${url}`],
     ...policies.map(it => `    ${groundText(it, policies.length > 1)}`),

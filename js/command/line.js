@@ -1,5 +1,5 @@
 /** Reads the command line: the word, its members and its options. */
-import { existsSync, readFileSync } from 'node:fs';
+import { existsSync } from 'node:fs';
 import { parseArgs } from 'node:util';
 import { Refusal } from '../refusal.js';
 import { usageOf } from './help.js';
@@ -23,7 +23,6 @@ import { ORIGINS, WORDS } from './words.js';
  */
 
 const USAGE = 2;
-const READ_FAULT = 8;
 
 const OPTIONS = /** @type {const} */ ({
   all: { type: 'boolean', default: false }, json: { type: 'boolean', default: false },
@@ -123,7 +122,8 @@ const placed = (word, given, positionals) => {
  * @param {Word} word
  * @param {Options} options
  */
-const refuseOptions = (word, { sarif, github, accepted, folder, url, events, ndjson, 'save-proof': path }) => {
+const refuseOptions = (word, options) => {
+  const { sarif, github, accepted, folder, url, events, ndjson, 'save-proof': path } = options;
   if (ndjson && !['requests', 'reports'].includes(word.word)) {
     throw misused('--ndjson goes with requests and reports', word);
   }
@@ -151,25 +151,4 @@ export const lineOf = (first, rest) => {
   const paths = Object.fromEntries(values.filter(([name]) => !ORIGINS.includes(name)));
   const { requests, ...others } = paths, all = requests === undefined ? sources : [requests, ...sources];
   return { word, origins: Object.fromEntries(origins), paths: others, sources: all, options };
-};
-
-const UNREAD = /** @type {Record<string, string>} */ ({
-  ENOENT: 'there is no such file', EISDIR: 'it is a folder', EACCES: 'you may not read it',
-});
-
-/**
- * What a file holds; - is standard input.
- * @param {string} file the member of the call, or the option
- * @param {string} path
- */
-export const read = (file, path) => {
-  try {
-    return readFileSync(path === '-' ? 0 : path);
-  } catch (error) {
-    const { code = '' } = /** @type {NodeJS.ErrnoException} */ (error);
-    const isHost = /^[\w-]+(\.[\w-]+)+(:\d+)?$/.test(path) && code === 'ENOENT';
-    const hint = /^(https?:|null$)/.test(path) ? 'An origin stands here in place of a file.'
-      : isHost ? `An origin begins with its scheme: https://${path}` : undefined;
-    throw new Refusal(READ_FAULT, { file, problem: UNREAD[code] ?? `it can't be read (${code})`, hint });
-  }
 };

@@ -5,7 +5,7 @@ import { ReadingError } from '../readers/error.js';
 import { readEvents } from '../readers/events.js';
 import { kindOf, readSite } from '../readers/site.js';
 import { refusalOfReading } from './headers.js';
-import { read } from './line.js';
+import { read } from './files.js';
 import { htmlParser } from './parser.js';
 
 /** @typedef {import('../readers/site.js').Site} Site */

@@ -46,7 +46,8 @@ const uncoveredLines = ({ uncovered }, page) => {
     return [isLoose ? painted(it.directive, 'red') : it.directive,
       it.accepted === undefined ? it.change : `${it.change}, accepted`, it.old, it.new];
   });
-  return ['Changed, and covered by no proof:', ...table(['directive', 'change', 'old', 'new'], rows, page), ''];
+  const head = ['directive', 'change', 'old', 'new'];
+  return ['Changed, and covered by no proof:', ...table(head, rows, page), ''];
 };
 
 /**
@@ -61,11 +62,15 @@ const directiveLines = ({ directives }, page) => {
     return [it.directive, painted(change, colour), textOf(it.left ?? it.allowed), textOf(it.blocked)];
   });
   const same = directives.filter(it => it.change === 'same').map(it => it.directive).join(', ');
+  const head = ['directive', 'change', 'now allowed', 'now blocked'];
   return [
-    ...rows.length === 0 ? [] : [...table(['directive', 'change', 'now allowed', 'now blocked'], rows, page), ''],
+    ...rows.length === 0 ? [] : [...table(head, rows, page), ''],
     ...same === '' ? [] : [`Same: ${same}.`, ''],
   ];
 };
+
+/** @param {string} can */
+const isNo = can => can === 'no' || can === 'not named';
 
 /**
  * What an attacker could do before and after, where that changed.
@@ -76,24 +81,29 @@ const auditLines = ({ before, after }, page) => {
   const ids = [...new Set([...before.rows, ...after.rows].map(it => it.id))];
   const rows = ids.flatMap(id => {
     const [was, is] = [before, after].map(it => it.rows.find(row => row.id === id)), row = is ?? was;
-    if (row === undefined || was?.can === is?.can) return [];
-    const colour = is === undefined || is.can === 'no' ? 'green' : was?.can === 'no' || was === undefined ? 'red' : 'yellow';
-    return [[`${row.action} ${row.from ?? ''}`.trim(), was?.can ?? 'not named', painted(is?.can ?? 'not named', colour)]];
+    const [old, now] = [was?.can ?? 'not named', is?.can ?? 'not named'];
+    if (row === undefined || old === now) return [];
+    const colour = isNo(now) ? 'green' : isNo(old) ? 'red' : 'yellow';
+    return [[`${row.action} ${row.from ?? ''}`.trim(), old, painted(now, colour)]];
   });
   const left = ids.length - rows.length, others = `${counted(left, 'thing')} that audit tries`;
   if (rows.length === 0) return [`What an attacker could do is the same: all ${others}.`, ''];
   return [...table(['an attacker could', 'old', 'new'], rows, page), `And as before: ${others}.`, ''];
 };
 
+/** @param {Weakening['uncovered']} uncovered */
+const looseOf = uncovered => uncovered.filter(it => it.loosens && it.accepted === undefined);
+
 /** @param {Weakening} answer */
 const warningsOf = ({ nonces, accepted, directives }) => {
   const names = nonces.renamed.map(({ from, to }) => `${from} as ${to}`).join(', ');
-  const hasNew = directives.some(({ left }) => left !== undefined && 'nonce' in left.request && left.request.nonce);
+  const hasNew = directives.some(({ left }) => left && 'nonce' in left.request && left.request.nonce);
   const all = accepted.map(({ directive, source = '', reason, needed }) => needed
     ? `Accepted: ${`${directive} ${source}`.trim()}: ${reason}.`
     : `Accepted without need: ${`${directive} ${source}`.trim()}. Nothing that is new needs it.`);
   return [
-    ...names === '' ? [] : [`The nonces are taken for those of two responses, and compared as the same: ${names}.`],
+    ...names === '' ? []
+      : [`The nonces are taken for those of two responses, and compared as the same: ${names}.`],
     ...hasNew && nonces.old !== nonces.new
       ? [`The nonces can't be matched: ${nonces.old} before, ${nonces.new} now.`
         + ' What carries a nonce of the new headers is new.'] : [],
@@ -106,12 +116,13 @@ const warningsOf = ({ nonces, accepted, directives }) => {
  * @param {{ new: string, old: string }} names
  */
 const sentenceOf = ({ verdict, uncovered, accepted }, names) => {
-  const besides = accepted.some(it => it.needed) ? ' but for what is accepted' : '';
-  const loose = uncovered.filter(it => it.loosens && it.accepted === undefined).map(it => it.directive).join(', ');
+  const loose = looseOf(uncovered).map(it => it.directive).join(', ');
+  const [but, all, more] = accepted.some(it => it.needed)
+    ? [' but for what is accepted', 'all else', ', and not just what is accepted'] : ['', 'all', ''];
   return {
-    'not weaker': `Not weaker${besides}: ${names.new} blocks all ${besides === '' ? 'that' : 'else that'} ${names.old} blocks.`
+    'not weaker': `Not weaker${but}: ${names.new} blocks ${all} that ${names.old} blocks.`
       + ' Both checkers accept the proof.',
-    weaker: `Weaker: ${names.new} allows what ${names.old} blocks${besides === '' ? '' : ', and not just what is accepted'}.`
+    weaker: `Weaker: ${names.new} allows what ${names.old} blocks${more}.`
       + (loose === '' ? '' : ` Besides, no proof covers what got looser: ${loose}.`),
     loosened: `Weaker outside the proof: ${names.new} loosens ${loose}, which no proof covers.`,
     nothing: `No answer: ${names.old} blocks nothing, so nothing is weaker than it.`,
@@ -140,7 +151,8 @@ const findingsOf = ({ uncovered, directives }, names, line) => {
     })),
     ...directives.filter(it => it.allowed !== undefined).map(it => ({
       ...at, rule: it.directive, level: levelOf(isAccepted(it)),
-      message: `${it.directive} is weaker: ${plain(textOf(it.left ?? it.allowed))} is now allowed, which ${names.old} blocks`,
+      message: `${it.directive} is weaker: ${plain(textOf(it.left ?? it.allowed))} is now allowed, `
+        + `which ${names.old} blocks`,
     })),
   ];
 };
@@ -205,7 +217,7 @@ export const tellPairs = (pairs, page) => {
     if ('refused' in it) return [it.name, painted('no answer', 'red'), plain(it.refused)];
     const { verdict, uncovered, directives } = it.answer;
     const why = [
-      ...uncovered.filter(it => it.loosens && it.accepted === undefined).map(it => `${it.directive} ${it.change}`),
+      ...looseOf(uncovered).map(it => `${it.directive} ${it.change}`),
       ...directives.filter(it => it.left !== undefined).map(it => it.directive),
     ].join(', ');
     return [it.name, painted(verdict, it.status === 0 ? 'green' : 'red'), why];
@@ -215,8 +227,10 @@ export const tellPairs = (pairs, page) => {
   return {
     lines: [...table(['pair', 'answer', 'weaker'], rows, page), ''], mood: bad === 0 ? 'green' : 'red',
     sentence: `${counted(pairs.length, 'pair')}: ${good} not weaker, ${bad} weaker or without an answer.`,
-    warnings: pairs.flatMap(it => 'answer' in it ? warningsOf(it.answer).map(said => `${it.name}: ${said}`) : []),
-    covers: 'A proof covers every request. Both checkers accept each proof. Not compared: report-only policies.',
+    warnings: pairs.flatMap(it => 'answer' in it ? warningsOf(it.answer).map(said => `${it.name}: ${said}`)
+      : []),
+    covers: 'A proof covers every request. Both checkers accept each proof. '
+      + 'Not compared: report-only policies.',
     status: isWeaker ? WEAKER : pairs.find(it => it.status !== 0)?.status ?? 0,
     findings: () => pairs.flatMap(it => 'answer' in it ? findingsOf(it.answer, it, it.line)
       : [{ rule: 'no-answer', level: 'error', file: it.new, line: 1, message: plain(it.refused) }]),

@@ -18,7 +18,7 @@ import { widerOf } from './policy.js';
  */
 
 /** An addition with the items that need it. */
-export class Group {
+class Group {
   /**
    * @param {string} directive
    * @param {string[]} sources
@@ -41,7 +41,7 @@ export class Group {
 
 /**
  * The sources that a list lacks, and the items that need them.
- * @param {import('../index.js').Program} program
+ * @param {import('../calls.js').Program} program
  * @param {PolicyList} list
  * @param {readonly Item[]} items
  * @param {import('./needs.js').Wish} wish
@@ -65,7 +65,7 @@ const groupsOf = async (program, list, items, wish) => {
 
 /**
  * The additions to a list, the greatest first.
- * @param {import('../index.js').Program} program
+ * @param {import('../calls.js').Program} program
  * @param {PolicyList} list
  * @param {readonly Item[]} items
  * @param {import('./needs.js').Wish} wish
@@ -84,7 +84,7 @@ export const additionsOf = async (program, list, items, wish) => {
 
 /**
  * The items that a list allows once a group was added to it, and nothing else.
- * @param {import('../index.js').Program} program
+ * @param {import('../calls.js').Program} program
  * @param {PolicyList} list
  * @param {Group} group
  * @param {number} own

@@ -1,11 +1,12 @@
 /** The policies to which a proposal adds what was given. */
+import { directiveText, keptPolicies } from '../policies.js';
 import { NONCE } from './items.js';
 import { sourceOf } from './needs.js';
 import { PolicyList } from './policy.js';
 
 /**
  * @typedef {import('./items.js').Item} Item
- * @typedef {import('./policy.js').Directive} Directive
+ * @typedef {import('../policies.js').Directive} Directive
  */
 
 // What no page tells that it needs. Of a policy that only reports, where it reports to is kept.
@@ -22,9 +23,9 @@ const REPORTING = ['report-uri', 'report-to'];
  */
 export const keptOf = lines => {
   const kept = /** @type {Map<string, Directive>} */ (new Map());
-  for (const line of lines) {
-    const names = /^[^:]*-report-only:/i.test(line) ? REPORTING : [...KEPT, ...REPORTING];
-    for (const it of new PolicyList([line]).policies.flat()) {
+  for (const { disposition, directives } of keptPolicies(lines)) {
+    const names = disposition === 'report' ? REPORTING : [...KEPT, ...REPORTING];
+    for (const it of directives) {
       if (names.includes(it.name) && !kept.has(it.name)) kept.set(it.name, it);
     }
   }
@@ -45,7 +46,7 @@ export const emptyPolicy = (items, kept) => {
   const framing = items.some(isOwnFrame) ? "'self'" : "'none'";
   const closed = ['default-src', 'object-src', 'base-uri', 'form-action'].map(it => `${it} 'none'`);
   const framed = kept.some(it => it.name === 'frame-ancestors') ? [] : [`frame-ancestors ${framing}`];
-  const all = [...closed, ...framed, ...kept.map(it => it.text)];
+  const all = [...closed, ...framed, ...kept.map(directiveText)];
   return new PolicyList([`Content-Security-Policy: ${all.join('; ')}`]);
 };
 

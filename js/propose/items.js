@@ -1,5 +1,5 @@
 /** What was given to a proposal, as things of which the engine is asked. */
-import { judge } from '../index.js';
+import { judge } from '../calls.js';
 import { questionsOf } from '../readers/site.js';
 import { urlOf } from '../readers/urls.js';
 
@@ -83,7 +83,7 @@ const reported = (request, { page, line, column }, count) => ({
 
 /**
  * What header lines do with items, each on a page of its origin and under the meta policies of its page.
- * @param {import('../index.js').Program} program
+ * @param {import('../calls.js').Program} program
  * @param {readonly string[]} lines
  * @param {readonly Item[]} items
  * @returns {Judged[]} in the order of the items

@@ -1,8 +1,8 @@
 /** Policies to which sources are added. What they then do, the engine says. */
-import { piecesOf } from '../readers/marks.js';
+import { headersOf, keptPolicies } from '../policies.js';
 import { DIRECTIVES } from '../readers/words.js';
 
-/** @typedef {import('../readers/marks.js').Directive} Directive */
+/** @typedef {import('../policies.js').Directive} Directive */
 
 /** Old browsers don't know the narrower directives, and take `default-src` where these stand alone. */
 const WIDER = /** @type {Record<string, string>} */ ({
@@ -26,31 +26,28 @@ const OLD = ['https:', "'unsafe-inline'"];
 /** @param {string} source */
 const rank = source => OLD.includes(source) ? ORDER.length : ORDER.findIndex(it => it.test(source));
 
-/** Header lines, of which each has policies, and each policy has directives. */
+/** The policies of header lines, each with the directives that count. */
 export class PolicyList {
+  #policies;
+
   /** @param {readonly string[]} lines */
   constructor(lines) {
-    this.headers = lines.map(line => {
-      const at = line.indexOf(':'), name = line.slice(0, at), value = line.slice(at + 1);
-      const texts = /^meta-/i.test(name) ? [value] : value.split(',');
-      return { name, policies: texts.map(piecesOf).filter(it => it.length > 0) };
-    });
+    this.#policies = keptPolicies(lines);
   }
 
-  /** The policies in the order in which the engine counts them. */
+  /** The directives of each policy, in the order in which the engine counts the policies. */
   get policies() {
-    return this.headers.flatMap(it => it.policies);
+    return this.#policies.map(it => it.directives);
+  }
+
+  /** The header lines, a policy on each, as one text. */
+  get text() {
+    return headersOf(this.#policies);
   }
 
   /** @returns {string[]} */
   get lines() {
-    return this.headers.map(({ name, policies }) =>
-      `${name}: ${policies.map(it => it.map(of => of.text).join('; ')).join(', ')}`);
-  }
-
-  /** The header lines as one text. */
-  get text() {
-    return this.lines.map(it => `${it}\n`).join('');
+    return this.text.split('\n').slice(0, -1);
   }
 
   /** A list of its own, that changes without this one. */
@@ -80,7 +77,7 @@ export class PolicyList {
    */
   set(policy, name, values) {
     const directives = this.policies[policy], at = directives.findIndex(it => it.name === name);
-    const directive = { name, values: [...values], text: [name, ...values].join(' ') };
+    const directive = { name, values: [...values] };
     if (at < 0) directives.push(directive);
     else directives[at] = directive;
   }
@@ -91,7 +88,6 @@ export class PolicyList {
       directives.sort((a, b) => DIRECTIVES.indexOf(a.name) - DIRECTIVES.indexOf(b.name));
       for (const it of directives) {
         it.values.sort((a, b) => rank(a) - rank(b) || OLD.indexOf(a) - OLD.indexOf(b) || (a < b ? -1 : 1));
-        it.text = [it.name, ...it.values].join(' ');
       }
     }
   }

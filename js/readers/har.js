@@ -4,7 +4,6 @@ import { ReadingError } from './error.js';
 import { namedIn } from './code.js';
 import { readHtml } from './html.js';
 import { keyOf, requestsOf } from './hops.js';
-import { piecesOf } from './marks.js';
 import { urlOf } from './urls.js';
 
 /**
@@ -58,8 +57,7 @@ const linesOf = response => (Array.isArray(response?.headers) ? response.headers
   .flatMap((/** @type {any} */ { name, value }) => String(value).split('\n').map(it => `${name}: ${it}`));
 
 /** @param {string} line whether a header line enforces a directive */
-const enforces = line => !/^[^:]*-report-only:/i.test(line)
-  && line.slice(line.indexOf(':') + 1).split(',').some(it => piecesOf(it).length > 0);
+const enforces = line => /^[^:]*(?<!-report-only):.*[^\s,;]/i.test(line);
 
 /**
  * The text of an answer, or nothing where the recording doesn't hold it.
@@ -226,8 +224,8 @@ const UNSEEN = [
   'blob: URLs, and the data: URLs that scripts and style sheets load: not looked at',
   'who frames the page: not looked at',
 ];
-export const NO_TEXT = 'inline code, nonces, integrity, forms and meta policies, since the recording has no text of '
-  + 'this page: not looked at (export the HAR with content)';
+export const NO_TEXT = 'inline code, nonces, integrity, forms and meta policies, since the recording has no '
+  + 'text of this page: not looked at (export the HAR with content)';
 const CACHED = 'the page came from the cache (status 304), and its headers may be missing: record it without '
   + 'cache';
 

@@ -3,13 +3,12 @@
 import { asciiLower, DEPRECATED, DIRECTIVES, KEYWORDS, isDirective, nearest } from './words.js';
 
 /**
- * @typedef {{name: string, values: string[], text: string}} Directive one piece of a policy, as it is written
- * @typedef {object} Policy
- * @property {'header' | 'meta'} from
- * @property {boolean} isFirst whether it begins its header, rather than standing behind a comma
- * @property {Directive[]} directives
- * @typedef {{policy: number, directive: string, said: string}} Mark policies are counted from 0
+ * @typedef {import('../policies.js').Directive} Directive
+ * @typedef {import('../policies.js').Policy} Policy
+ * @typedef {{ policy: number, directive: string, said: string }} Mark policies are counted from 0
  */
+
+export { policiesOf } from '../policies.js';
 
 // Directives whose values aren't sources.
 const NO_SOURCES = [
@@ -19,31 +18,10 @@ const HEADER_ONLY = ['frame-ancestors', 'sandbox', 'report-uri'];
 const NONCE_OR_HASH = /^'(?:nonce|sha256|sha384|sha512)-/i;
 const BARE = /^(?:nonce-\S+|sha(?:256|384|512)-\S+)$/i;
 
-/**
- * The pieces of header lines, split as the standard splits them: a header at commas, a policy at semicolons.
- * @param {string[]} lines
- * @returns {Policy[]}
- */
-export const policiesOf = lines => lines.flatMap(line => {
-  const at = line.indexOf(':'), value = line.slice(at + 1);
-  const from = /^meta-/i.test(line) ? /** @type {const} */ ('meta') : /** @type {const} */ ('header');
-  const texts = from === 'meta' ? [value] : value.split(',');
-  return texts.map((text, n) => ({ from, isFirst: n === 0, directives: piecesOf(text) }));
-});
-
-/**
- * The directives of a policy.
- * @param {string} text
- */
-export const piecesOf = text => text.split(';').map(it => it.trim()).filter(it => it !== '').map(it => {
-  const [name, ...values] = it.split(/\s+/);
-  return { name: asciiLower(name), values, text: it };
-});
-
 /** @typedef {(directive: Directive, policy: Policy) => (string | undefined)[]} Rule */
 
 /** @type {Rule} */
-const quotes = ({ text }) => {
+const quotes = ({ text = '' }) => {
   const found = /[\u2018\u2019\u201A\u201B\u201C\u201D\u2032\u2033\u00B4]/.exec(text)?.[0];
   const drops = 'makes browsers drop the directive';
   if (found !== undefined) return [`"${found}" is a typographic quote, which ${drops}: write '`];
@@ -58,7 +36,7 @@ const semicolon = ({ name, values }) => NO_SOURCES.includes(name) ? [] : values
 /** @type {Rule} */
 const comma = ({ name, text, values }, policy) => {
   const isBehind = !policy.isFirst && policy.directives[0]?.text === text && !isDirective(name);
-  const inMeta = policy.from === 'meta' ? values.filter(it => it.includes(',')) : [];
+  const inMeta = policy.isMeta ? values.filter(it => it.includes(',')) : [];
   return [
     isBehind ? `a comma stands before ${name}, and begins another policy: was a space meant?` : undefined,
     ...inMeta.map(it => `${it} has a comma, which a meta element keeps in the word: was a space meant?`),
@@ -104,7 +82,7 @@ const twice = (directive, { directives }) => [directives.find(it => it.name === 
   ? `${directive.name} stands twice: the first one counts` : undefined];
 
 /** @type {Rule} */
-const unmeta = ({ name }, { from }) => from === 'meta' && HEADER_ONLY.includes(name)
+const unmeta = ({ name }, { isMeta }) => isMeta && HEADER_ONLY.includes(name)
   ? [`${name} has no effect in a meta element: write it in a header`] : [];
 
 const RULES = [quotes, semicolon, comma, names, keywords, voided, none, twice, unmeta];

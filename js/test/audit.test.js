@@ -22,27 +22,30 @@ const CASES = [
     yes: [...SCRIPTS, ...all('script', HOSTS), 'own script', ...STYLES, ...LOADS, ...PLACES, ...RUNNING,
       ...all('added script', HOSTS), 'worker own'],
   }, {
-    name: 'a strict policy', headers: "Content-Security-Policy: default-src 'none'; script-src 'nonce-Hq3vX8kTz0Rm2LwY5bNc7A'"
+    name: 'a strict policy',
+    headers: "Content-Security-Policy: default-src 'none'; script-src 'nonce-Hq3vX8kTz0Rm2LwY5bNc7A'"
       + " 'strict-dynamic'; style-src 'self'; base-uri 'none'; form-action 'self'; frame-ancestors 'none'",
     yes: [...all('added script'), ...WORKERS],
   }, {
     // the hash is that of alert(1), by openssl
-    name: 'a policy of hashes', headers: "Content-Security-Policy: default-src 'self'; script-src 'unsafe-hashes'"
+    name: 'a policy of hashes',
+    headers: "Content-Security-Policy: default-src 'self'; script-src 'unsafe-hashes'"
       + " 'sha256-bhHHL3z2vDgxUt0W3dWQOrprscmda2Y5pLsLg4GF+pI='",
     yes: PLACES,
   }, {
     name: 'a policy that only reports', headers: "Content-Security-Policy-Report-Only: default-src 'none'",
     yes: PLACES, blocksNothing: true,
-    reported: [...SCRIPTS, ...all('script'), 'own script', ...STYLES, ...LOADS, ...RUNNING, ...all('added script'), ...WORKERS],
+    reported: [...SCRIPTS, ...all('script'), 'own script', ...STYLES, ...LOADS, ...RUNNING,
+      ...all('added script'), ...WORKERS],
   }, {
     name: 'a host that is named, in a sandbox without scripts',
-    headers: "Content-Security-Policy: default-src 'none'; script-src https://cdn.example/js/ 'unsafe-inline'\n"
-      + 'Content-Security-Policy: sandbox allow-forms',
+    headers: "Content-Security-Policy: default-src 'none'; script-src https://cdn.example/js/"
+      + " 'unsafe-inline'\nContent-Security-Policy: sandbox allow-forms",
     yes: PLACES,
   }, {
     name: 'a host that is named',
-    headers: "Content-Security-Policy: default-src 'none'; script-src https://cdn.example/js/; base-uri 'none';"
-      + " form-action 'none'; frame-ancestors https://*:8443",
+    headers: "Content-Security-Policy: default-src 'none'; script-src https://cdn.example/js/;"
+      + " base-uri 'none'; form-action 'none'; frame-ancestors https://*:8443",
     yes: ['script https://cdn.example/js/x.js', 'framing https:'],
   },
 ];

@@ -131,7 +131,8 @@ test('what is wrong is told with its place', () => {
 
 test('help fits a terminal, and each word has its own', () => {
   const { stdout, status } = guidecerise(['--help']);
-  const words = [...stdout.matchAll(/^ {2}([a-z]+) {2,}\S/gm)].map(it => it[1]).filter(it => !['csp', 'events'].includes(it));
+  const words = [...stdout.matchAll(/^ {2}([a-z]+) {2,}\S/gm)].map(it => it[1])
+    .filter(it => !['csp', 'events'].includes(it));
   assert.equal(status, 0);
   assert.ok(words.length >= 10);
   for (const text of [stdout, ...words.map(it => guidecerise([it, '--help']).stdout)]) {

@@ -37,8 +37,9 @@ test('JavaScript', () => {
 
 test('a proposal', () => {
   const [stdout, ...rest] = run('node', '--import', join(TOP, 'js/test/debian.js'), copied('propose.mjs'));
-  assert.equal(stdout, "Content-Security-Policy: default-src 'none'; script-src 'nonce-RANDOM' 'strict-dynamic' "
-    + "https: 'unsafe-inline'; object-src 'none'; base-uri 'none'; form-action 'none'; frame-ancestors 'none'\n\n"
+  assert.equal(stdout, "Content-Security-Policy: default-src 'none'; script-src 'nonce-RANDOM' "
+    + "'strict-dynamic' https: 'unsafe-inline'; object-src 'none'; base-uri 'none'; form-action 'none'; "
+    + "frame-ancestors 'none'\n\n"
     + 'line 1: src of <script> has to get the nonce\n'
     + 'line 1: onclick of <p>: move it to a script, with addEventListener\n');
   assert.deepEqual(rest, ['', 0]);

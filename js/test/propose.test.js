@@ -1,4 +1,4 @@
-/** Proposals: policies written by hand for pages, recordings and reports, and what is still blocked by them. */
+/** Proposals: policies written by hand for pages, recordings and reports, and what they still block. */
 import assert from 'node:assert/strict';
 import test from 'node:test';
 import { compare, learn } from '../index.js';
@@ -28,7 +28,8 @@ const HTML = `<!DOCTYPE html>
 test('by hosts: what a page loads, and its scripts by their hashes', async () => {
   const { headers, blocked, nonces, asked, after } = await propose(engine, { pages: [pageOf(HTML)] });
   assert.equal(headers, "Content-Security-Policy: default-src 'none'; "
-    + `script-src ${GO} https://cdn.example; style-src 'self'; img-src 'self' data: https://old.example:8080; `
+    + `script-src ${GO} https://cdn.example; style-src 'self'; `
+    + "img-src 'self' data: https://old.example:8080; "
     + "object-src 'none'; frame-src 'self'; base-uri 'none'; form-action https://pay.example; "
     + "frame-ancestors 'self'\n");
   assert.deepEqual(blocked.map(rowOf),
@@ -62,7 +63,8 @@ test('strict: scripts by nonces, and the places that lack one', async () => {
 });
 
 test('strict by hashes: what is not inline gets the nonce', async () => {
-  const { headers, nonces } = await propose(engine, { form: 'strict', inline: 'hashes', pages: [pageOf(HTML)] });
+  const given = { form: 'strict', inline: 'hashes', pages: [pageOf(HTML)] };
+  const { headers, nonces } = await propose(engine, given);
   assert.ok(headers.includes(`script-src 'nonce-RANDOM' 'strict-dynamic' ${GO} https: 'unsafe-inline'`));
   assert.deepEqual(nonces.map(it => it.line), [3]);
 });
@@ -82,9 +84,11 @@ test('what a page cannot tell is kept of the present policy, and a meta policy s
   const meta = "<meta http-equiv=Content-Security-Policy content=\"img-src 'none'\"><img src=/a.png>";
   const { headers, kept, blocked, before } = await propose(engine, { pages: [pageOf(meta, lines)] });
   assert.equal(headers, "Content-Security-Policy: default-src 'none'; img-src 'self'; object-src 'none'; "
-    + "base-uri 'none'; form-action 'none'; frame-ancestors https://a.example; report-uri /r; trusted-types x\n");
+    + "base-uri 'none'; form-action 'none'; frame-ancestors https://a.example; report-uri /r; "
+    + 'trusted-types x\n');
   assert.deepEqual(kept, ['frame-ancestors https://a.example', 'trusted-types x', 'report-uri /r']);
-  assert.deepEqual(blocked.map(it => it.advice), ['a meta element of the page blocks it: change its img-src']);
+  const advice = 'a meta element of the page blocks it: change its img-src';
+  assert.deepEqual(blocked.map(it => it.advice), [advice]);
   assert.equal(before.requests, 1);
 });
 
@@ -103,7 +107,8 @@ test('what frames of a recording load is left out', async () => {
   const { pages } = readSite([{ name: 'x.har', text }], { parse });
   const { headers, left } = await propose(engine, { pages });
   assert.ok(headers.includes("img-src 'self'; ") && headers.includes('frame-src https://video.example; '));
-  assert.deepEqual(left, [{ file: 'x.har', said: `frame ${video}: left out, since it has headers of its own` }]);
+  const said = `frame ${video}: left out, since it has headers of its own`;
+  assert.deepEqual(left, [{ file: 'x.har', said }]);
 });
 
 const POLICY = "default-src 'self'; script-src 'self'; img-src 'self'";
@@ -122,7 +127,8 @@ test('an addition: the sources that end most reports first, and what may be nois
   const reports = reported([
     [300, 'img-src', 'https://img.example/a.png'], [80, 'connect-src', 'wss://api.example/x'],
     [32, 'script-src-elem', 'https://b.example/x.js'], [380, 'script-src-elem', 'inline'],
-    [3, 'script-src-elem', 'data'], [4, 'img-src', 'https://odd.example/x'], [1, 'img-src', `${ORIGIN}/own.png`],
+    [3, 'script-src-elem', 'data'], [4, 'img-src', 'https://odd.example/x'],
+    [1, 'img-src', `${ORIGIN}/own.png`],
   ]);
   const headers = [`Content-Security-Policy-Report-Only: ${POLICY}`];
   const answer = await propose(engine, { form: 'addition', reports, headers });

@@ -22,7 +22,8 @@ const step = (path, environment) => {
 };
 
 const STRICTER = { NEW: 'examples/ci/stricter.txt' }, WEAKER = { NEW: 'examples/ci/weaker.txt' };
-const REASONS = /^Not weaker but for what is accepted: .*\nAccepted: img-src data:: for icons\.\n.* script-src h/m;
+const REASONS =
+  /^Not weaker but for what is accepted: .*\nAccepted: img-src data:: for icons\.\n.* script-src h/m;
 const CASES = [
   [STRICTER, /^Not weaker: /m, 0],
   [WEAKER, /^Weaker: /m, 1],
@@ -60,7 +61,8 @@ test('a folder of pairs', () => {
   for (const [name, from] of [['old', 'old'], ['new', 'weaker']]) {
     writeFileSync(join(pair, `${name}.txt`), contentOf(`examples/ci/${from}.txt`));
   }
-  const { stdout, status } = step('action.yml', { ORIGIN: 'https://a.example', FOLDER: join(folder, 'pairs') });
+  const inputs = { ORIGIN: 'https://a.example', FOLDER: join(folder, 'pairs') };
+  const { stdout, status } = step('action.yml', inputs);
   assert.match(stdout, /^::error file=.*shop\/home\/new\.txt,line=1,title=img-src::img-src is weaker/);
   assert.equal(status, 1);
 });

@@ -74,7 +74,8 @@ const verdictText = ({ number, blocked, items }) =>
   `${number} ${blocked ? 'blocked' : 'allowed'}${items.map(itemText).join('')}`;
 const groundText = ({ policy, directive, does, by, token, near, add }) => lines([
   `  ${policy} ${directive} ${does}${by === undefined ? '' : ` ${by} ${token}`}`,
-  ...near.map(it => `    ${it.token} ${it.butFor}`), ...add === undefined ? [] : [`    add ${add} to ${directive}`],
+  ...near.map(it => `    ${it.token} ${it.butFor}`),
+  ...add === undefined ? [] : [`    add ${add} to ${directive}`],
 ]);
 const toldText = ({ url, policies }) =>
   lines(url === null ? [] : [`  url ${url}`]) + policies.map(groundText).join('');
