@@ -114,7 +114,10 @@ const describeSoon = () => {
 const written = ({ target }) => {
   const { url, text } = target.dataset;
   if (target.id === 'paste' || target.id === 'open' || target.id.startsWith('one-')) return;
-  if (['headers', 'newer', 'origin'].includes(target.id)) setField(target.id, target.value);
+  if (['headers', 'newer', 'origin'].includes(target.id)) {
+    state.written.add(target.id);
+    setField(target.id, target.value);
+  }
   const { value } = target;
   if (url !== undefined) target.dataset.url = changeFile(Number(url), { url: value.trim() || undefined });
   if (text !== undefined) target.dataset.text = changeFile(Number(text), { text: value });

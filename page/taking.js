@@ -28,13 +28,12 @@ const nameFor = ({ name, kind }) => {
   }
 };
 
-/** The example goes as soon as anything else is given. */
+/** The example goes as soon as anything else is given. What a person wrote stays. */
 export const clearExample = () => {
   if (!state.isExample) return;
   state.isExample = false;
   state.files = [];
-  setField('headers', '');
-  setField('newer', '');
+  for (const id of /** @type {const} */ (['headers', 'newer'])) if (!state.written.has(id)) setField(id, '');
 };
 
 /**
