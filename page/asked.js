@@ -16,6 +16,8 @@ import { choices, question, raw, state } from './state.js';
 const answers = /** @type {Map<string, Kept>} */ (new Map());
 let running = 0, count = 0;
 
+const SOON = 300; // milliseconds
+
 /** Shows the answer of the question at hand. */
 export const showAnswer = () => {
   const found = answers.get(question()), box = by('answers');
@@ -83,21 +85,33 @@ const progress = (done, of) => {
 };
 
 /**
+ * Shows that something is under way, with the button that stops it, where it takes long.
+ * @template T
+ * @param {Promise<T>} work
+ */
+export const busyUntil = async work => {
+  running += 1;
+  by('busy-bar').removeAttribute('value');
+  const slow = setTimeout(() => { by('busy').hidden = false; }, SOON);
+  try {
+    return await work;
+  } finally {
+    clearTimeout(slow);
+    running -= 1;
+    if (running === 0) by('busy').hidden = true;
+  }
+};
+
+/**
  * Asks the question at hand.
  * @param {Asking} asking
  */
 export const ask = async asking => {
-  const name = question(), { revision } = state, turn = running += 1;
-  const slow = setTimeout(() => { by('busy').hidden = false; }, 300);
-  by('busy-bar').removeAttribute('value');
+  const name = question(), { revision } = state, given = { question: name, raw: raw(), choices: choices() };
   try {
-    const given = { question: name, raw: raw(), choices: choices() };
-    keep(name, await asking.ask('answer', given, progress), revision);
+    keep(name, await busyUntil(asking.ask('answer', given, progress)), revision);
   } catch (error) {
     keep(name, withoutAnswer(error), revision);
-  } finally {
-    clearTimeout(slow);
-    if (turn === running) by('busy').hidden = true;
   }
 };
 

@@ -33,6 +33,13 @@ import { unseenOf } from './unseen.js';
 const hasInline = ({ page, judged }) => page.role === 'worker' || (page.text === undefined
   ? !page.unseen.includes(NO_TEXT) : judged.some(it => it.piece.request.kind === 'inline'));
 
+const SCRIPTS = ['script', 'script-attribute', 'navigation'];
+
+/** @param {PageAnswer} answer whether scripts run in a page of HTML, of which nobody tells what they load */
+const hasScripts = ({ page, judged }) => page.role === undefined && page.text === undefined
+  && judged.some(({ piece: { request: { destination, type } } }) =>
+    destination === 'script' || SCRIPTS.includes(type));
+
 /** @param {PageAnswer[]} answers */
 const countsOf = answers => {
   const all = answers.flatMap(it => it.judged), blocked = all.filter(it => it.answer.blocked);
@@ -57,15 +64,16 @@ class Summary {
     this.enforced = answers.filter(it => it.page.isEnforced);
     this.nothing = answers.filter(it => it.isVoid && it.judged.length > 0);
     this.noInline = this.answers.filter(it => !hasInline(it));
+    this.unrun = this.answers.filter(hasScripts);
     this.beside = beside;
     this.alone = beside.filter(it => !it.isSame);
   }
 
   // Good news only where all was looked at that can be, and no browser says anything
   get mood() {
-    const { blocked, reported, all } = this.counts, { enforced, nothing, noInline, beside, alone } = this;
+    const { blocked, reported, all } = this.counts, { enforced, nothing, noInline, unrun, beside, alone } = this;
     if (blocked > 0 || alone.some(it => it.violation.disposition !== 'report')) return 'bad';
-    const doubts = [enforced, nothing, noInline, beside].reduce((sum, it) => sum + it.length, reported);
+    const doubts = [enforced, nothing, noInline, unrun, beside].reduce((sum, it) => sum + it.length, reported);
     return all > 0 && doubts === 0 ? 'good' : 'warn';
   }
 
@@ -94,6 +102,7 @@ class Summary {
       ...reported > 0 ? [say('wouldBlock', reported, blocked)] : [],
       ...this.nothing.map(it => say('decidesNothing', nameOf(it.page))),
       ...this.noInline.length > 0 ? [say('inlineNotGiven', this.noInline.map(it => nameOf(it.page)))] : [],
+      ...this.unrun.length > 0 ? [say('scriptsNotRun', this.unrun.map(it => nameOf(it.page)))] : [],
       ...beside.length > 0 && answers.length > 0
         ? [say('browserTells', beside.length, beside.length - alone.length)] : [],
     ];

@@ -1,6 +1,7 @@
 /** The page: what is heard of keys, clicks and drops. What reads and decides runs in the worker. */
-import { ask, changed, copy, copyAnswer, isFresh, showAnswer } from './asked.js';
-import { Asking } from './asking.js';
+import { SNIPPET } from '../js/readers/events.js';
+import { ask, busyUntil, changed, copy, copyAnswer, isFresh, showAnswer } from './asked.js';
+import { Asking, Stopped } from './asking.js';
 import { all, by, element, told } from './element.js';
 import { showFields, showGiven } from './fields.js';
 import { beginning, linkOf, stateOf } from './link.js';
@@ -20,11 +21,19 @@ const askNow = async () => {
 };
 
 /**
+ * Does something that a person may stop.
+ * @param {Promise<unknown>} work
+ */
+const stoppable = work => busyUntil(work).catch(error => {
+  if (!(error instanceof Stopped)) throw error;
+});
+
+/**
  * Takes texts, and asks.
- * @param {{ name: string, text: string, blob?: Blob }[]} texts
+ * @param {import('./taking.js').Given[]} texts
  */
 const taken = async texts => {
-  await take(asking, texts);
+  await stoppable(take(asking, texts));
   await askNow();
 };
 
@@ -78,7 +87,7 @@ const remove = id => {
   state.files = state.files.filter(it => it.id !== id);
   state.isExample = false;
   changed();
-  showGiven(asking);
+  stoppable(showGiven(asking));
   ask(asking);
 };
 
@@ -98,14 +107,17 @@ let waiting = 0;
 /** Says how the fields are read, once nothing was written for a moment. */
 const describeSoon = () => {
   clearTimeout(waiting);
-  waiting = window.setTimeout(() => showGiven(asking), 400);
+  waiting = window.setTimeout(() => stoppable(showGiven(asking)), 400);
 };
 
 /** @param {any} event */
 const written = ({ target }) => {
   const { url, text } = target.dataset;
   if (target.id === 'paste' || target.id === 'open' || target.id.startsWith('one-')) return;
-  if (['headers', 'newer', 'origin'].includes(target.id)) setField(target.id, target.value);
+  if (['headers', 'newer', 'origin'].includes(target.id)) {
+    state.written.add(target.id);
+    setField(target.id, target.value);
+  }
   const { value } = target;
   if (url !== undefined) target.dataset.url = changeFile(Number(url), { url: value.trim() || undefined });
   if (text !== undefined) target.dataset.text = changeFile(Number(text), { text: value });
@@ -159,7 +171,7 @@ const hearFields = () => {
   by('clear').addEventListener('click', () => {
     clearExample();
     changed();
-    showGiven(asking);
+    stoppable(showGiven(asking));
     ask(asking);
     by('paste').focus();
   });
@@ -182,7 +194,7 @@ const show = () => {
   const from = stateOf(location.hash) ?? beginning();
   restore(from);
   select(TABS.some(it => it.id === from.tab) ? from.tab : 'blocked');
-  return showGiven(asking);
+  return stoppable(showGiven(asking));
 };
 
 const begin = async () => {
@@ -190,6 +202,7 @@ const begin = async () => {
   hearFields();
   hearKeys();
   hearDrops();
+  by('snippet').textContent = by('copy-snippet').dataset.copy = SNIPPET;
   document.addEventListener('click', clicked);
   by('stop').addEventListener('click', () => asking.stop());
   by('link').addEventListener('click', makeLink);
