@@ -4,6 +4,7 @@ import { itemsOf, judged as judgedOf } from '../js/propose/items.js';
 import { adviceOf, needOf } from '../js/propose/needs.js';
 import { PolicyList, widerOf } from '../js/propose/policy.js';
 import { groupedBy } from './answer.js';
+import { policiesIn } from './reading.js';
 
 /**
  * @typedef {import('../js/index.js').Program} Program
@@ -33,10 +34,12 @@ const isElement = ({ request: { type } }) => type === 'script' || type === 'styl
  * @param {Judged[]} alike
  */
 const sourcesFor = async (program, lines, alike) => {
-  const found = /** @type {Map<unknown, string[]>} */ (new Map()), headers = new PolicyList(lines);
+  const found = /** @type {Map<unknown, string[]>} */ (new Map());
+  const headers = new PolicyList(policiesIn(program, lines));
   const texts = new Set(alike.map(it => describe(it.item.request).of));
   if (texts.size > MOST) return found;
-  const needs = await Promise.all(alike.map(({ item, items: [first] }) => needOf(item, first.effective, WISH)));
+  const needed = alike.map(({ item, items: [{ effective }] }) => needOf(item, effective, WISH));
+  const needs = await Promise.all(needed);
   alike.forEach(({ items }, n) => {
     if (needs[n].sources.length > 0) for (const it of items) headers.add(it, needs[n].sources);
   });
@@ -53,7 +56,7 @@ const sourcesFor = async (program, lines, alike) => {
  */
 const addedTo = async (program, { page, judged }) => {
   const found = /** @type {Map<unknown, string[]>} */ (new Map());
-  const own = new PolicyList(page.lines).policies.length;
+  const own = policiesIn(program, page.lines).length;
   const not = judged.filter(({ answer: { items } }) =>
     items.length > 0 && items.every(it => it.policy < own));
   const items = itemsOf([{ ...page, role: 'page', pieces: not.map(it => it.piece) }], [], 'addition');
@@ -83,7 +86,7 @@ const hasOther = (piece, lines) =>
  */
 export const allowingOf = async (program, answer) => {
   const added = await addedTo(program, answer), { page, judged } = answer;
-  const own = new PolicyList(page.lines).policies.length;
+  const own = policiesIn(program, page.lines).length;
   const pairs = judged.filter(it => it.answer.items.length > 0).map(({ piece, answer: { items } }) => {
     const sources = added.get(piece.request), [{ effective, governing }] = items, wider = widerOf(effective);
     const item = { ...piece, page: page.url, origin: page.origin, isReport: false, count: 1 };

@@ -16,6 +16,8 @@ import { choices, question, raw, state } from './state.js';
 const answers = /** @type {Map<string, Kept>} */ (new Map());
 let running = 0, count = 0;
 
+const SOON = 300; // milliseconds
+
 /** Shows the answer of the question at hand. */
 export const showAnswer = () => {
   const found = answers.get(question()), box = by('answers');
@@ -83,35 +85,55 @@ const progress = (done, of) => {
 };
 
 /**
+ * Shows that something is under way, with the button that stops it, where it takes long.
+ * @template T
+ * @param {Promise<T>} work
+ */
+export const busyUntil = async work => {
+  running += 1;
+  by('busy-bar').removeAttribute('value');
+  const slow = setTimeout(() => { by('busy').hidden = false; }, SOON);
+  try {
+    return await work;
+  } finally {
+    clearTimeout(slow);
+    running -= 1;
+    if (running === 0) by('busy').hidden = true;
+  }
+};
+
+/**
  * Asks the question at hand.
  * @param {Asking} asking
  */
 export const ask = async asking => {
-  const name = question(), { revision } = state, turn = running += 1;
-  const slow = setTimeout(() => { by('busy').hidden = false; }, 300);
-  by('busy-bar').removeAttribute('value');
+  const name = question(), { revision } = state, given = { question: name, raw: raw(), choices: choices() };
   try {
-    const given = { question: name, raw: raw(), choices: choices() };
-    keep(name, await asking.ask('answer', given, progress), revision);
+    keep(name, await busyUntil(asking.ask('answer', given, progress)), revision);
   } catch (error) {
     keep(name, withoutAnswer(error), revision);
-  } finally {
-    clearTimeout(slow);
-    if (turn === running) by('busy').hidden = true;
   }
 };
 
-/** @param {string} text */
-export const copy = async text => {
+/**
+ * @param {string} text
+ * @param {HTMLElement} button beside which it is said
+ */
+export const copy = async (text, button) => {
   await navigator.clipboard.writeText(text);
-  by('copied').replaceChildren(told('span', say('copied')));
+  button.parentElement?.querySelector('[data-says=copied]')?.remove();
+  button.after(told('span', say('copied')));
   saidAloud(textOf(say('copied')));
 };
 
-/** @param {string} as copies the answer of the question at hand */
-export const copyAnswer = as => {
+/**
+ * Copies the answer of the question at hand.
+ * @param {string} as
+ * @param {HTMLElement} button
+ */
+export const copyAnswer = (as, button) => {
   const found = answers.get(question());
   if (found === undefined) return;
   const { answer } = found, asked = { question: question(), origin: state.origin };
-  copy(as === 'JSON' ? asJson(answer, asked) : as === 'Markdown' ? asMarkdown(answer) : asText(answer));
+  copy(as === 'JSON' ? asJson(answer, asked) : as === 'Markdown' ? asMarkdown(answer) : asText(answer), button);
 };

@@ -89,7 +89,7 @@ const blocksOf = ({ rows, known }) => {
  * @returns {Answer}
  */
 export const attacker = (program, { origin, reading }) => {
-  const { lines } = reading, blocks = readingBlocks([reading]);
+  const { lines } = reading, blocks = readingBlocks(program, [reading]);
   if (lines.length === 0) {
     return { mood: 'bad', sentence: say('noHeaders'), more: [], blocks, unseen: [], data: null };
   }

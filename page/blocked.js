@@ -33,6 +33,13 @@ import { unseenOf } from './unseen.js';
 const hasInline = ({ page, judged }) => page.role === 'worker' || (page.text === undefined
   ? !page.unseen.includes(NO_TEXT) : judged.some(it => it.piece.request.kind === 'inline'));
 
+const SCRIPTS = ['script', 'script-attribute', 'navigation'];
+
+/** @param {PageAnswer} answer whether scripts run in a page of HTML, of which nobody tells what they load */
+const hasScripts = ({ page, judged }) => page.role === undefined && page.text === undefined
+  && judged.some(({ piece: { request: { destination, type } } }) =>
+    destination === 'script' || SCRIPTS.includes(type));
+
 /** @param {PageAnswer[]} answers */
 const countsOf = answers => {
   const all = answers.flatMap(it => it.judged), blocked = all.filter(it => it.answer.blocked);
@@ -57,15 +64,16 @@ class Summary {
     this.enforced = answers.filter(it => it.page.isEnforced);
     this.nothing = answers.filter(it => it.isVoid && it.judged.length > 0);
     this.noInline = this.answers.filter(it => !hasInline(it));
+    this.unrun = this.answers.filter(hasScripts);
     this.beside = beside;
     this.alone = beside.filter(it => !it.isSame);
   }
 
   // Good news only where all was looked at that can be, and no browser says anything
   get mood() {
-    const { blocked, reported, all } = this.counts, { enforced, nothing, noInline, beside, alone } = this;
+    const { blocked, reported, all } = this.counts, { enforced, nothing, noInline, unrun, beside, alone } = this;
     if (blocked > 0 || alone.some(it => it.violation.disposition !== 'report')) return 'bad';
-    const doubts = [enforced, nothing, noInline, beside].reduce((sum, it) => sum + it.length, reported);
+    const doubts = [enforced, nothing, noInline, unrun, beside].reduce((sum, it) => sum + it.length, reported);
     return all > 0 && doubts === 0 ? 'good' : 'warn';
   }
 
@@ -94,6 +102,7 @@ class Summary {
       ...reported > 0 ? [say('wouldBlock', reported, blocked)] : [],
       ...this.nothing.map(it => say('decidesNothing', nameOf(it.page))),
       ...this.noInline.length > 0 ? [say('inlineNotGiven', this.noInline.map(it => nameOf(it.page)))] : [],
+      ...this.unrun.length > 0 ? [say('scriptsNotRun', this.unrun.map(it => nameOf(it.page)))] : [],
       ...beside.length > 0 && answers.length > 0
         ? [say('browserTells', beside.length, beside.length - alone.length)] : [],
     ];
@@ -145,10 +154,15 @@ const rowsOf = async (program, answers) => {
   return rows;
 };
 
-/** @param {Given} given how the headers of its pages were read, or those of the field */
-const readingBlocksOf = ({ site, reading }) => {
+/**
+ * How the headers of pages were read, or those of the field.
+ * @param {Program} program
+ * @param {Given} given
+ */
+const readingBlocksOf = (program, { site, reading }) => {
   const own = readingsOf(site.pages), { left } = reading;
-  return readingBlocks(own.length === 0 ? [reading] : own.length === 1 ? [{ ...own[0], left }] : own);
+  const read = own.length === 0 ? [reading] : own.length === 1 ? [{ ...own[0], left }] : own;
+  return readingBlocks(program, read);
 };
 
 /**
@@ -172,7 +186,8 @@ export const blocked = async (program, given, tell) => {
   return {
     mood: summary.mood, sentence: summary.sentence, more: summary.more, unseen: unseenOf(given.site),
     blocks: [
-      ...readingBlocksOf(given), ...aloneBlock(beside), ...grouped(say('notAllowed'), groupsOf(not)),
+      ...readingBlocksOf(program, given), ...aloneBlock(beside),
+      ...grouped(say('notAllowed'), groupsOf(program, not)),
       ...untoldBlock(beside, answers), ...pagesBlock(answers), ...pageMatrix(program, answers),
       ...table(say('allowed', rows.length - not.length), columns, allowed, { isFolded: true }),
       ...summary.enforced.length > 0 ? recipe() : [],
@@ -192,7 +207,7 @@ const headersAlone = (program, { reading, origin }) => {
   return {
     mood: 'warn', sentence: say('nothingJudged'),
     more: [...isVoid ? [say('decidesNothing', 'a page with these headers')] : [], say('giveAPage')],
-    blocks: [...readingBlocks([reading]), ...pageMatrix(program, [], { origin, lines })],
+    blocks: [...readingBlocks(program, [reading]), ...pageMatrix(program, [], { origin, lines })],
     unseen: [], data: { pages: [], browserAlone: [] },
   };
 };

@@ -108,9 +108,8 @@ export class Given {
   /** @returns {Site} */
   get site() {
     const all = this.files.filter(it => it.kind !== 'reports').map(it => this.siteOf(it));
-    return {
-      pages: all.flatMap(it => it.pages), events: all.flatMap(it => it.events), left: all.flatMap(it => it.left),
-    };
+    const pages = all.flatMap(it => it.pages), events = all.flatMap(it => it.events);
+    return { pages, events, left: all.flatMap(it => it.left) };
   }
 
   get logs() {

@@ -1,9 +1,8 @@
 /** Policies as a picture: directives by hosts, what a page needed, and what the policies give. */
 import { judge } from '../js/index.js';
-import { PolicyList } from '../js/propose/policy.js';
 import { urlOf } from '../js/readers/urls.js';
 import { groupedBy } from './answer.js';
-import { headersText } from './reading.js';
+import { headersText, policiesIn } from './reading.js';
 import { say } from './sentences.js';
 
 /**
@@ -68,11 +67,11 @@ const placesOf = (request, origin) => {
 const HOST = /^(?:[a-z][a-z0-9+.-]*:\/\/)?((?:\*\.)?[a-z0-9-]+(?:\.[a-z0-9-]+)+)(?::\d+|:\*)?(?:\/\S*)?$/i;
 
 /**
- * The hosts that header lines name.
- * @param {readonly string[]} lines
+ * The hosts that directives name.
+ * @param {readonly import('../js/policies.js').Directive[]} directives
  * @param {string} origin
  */
-const namedIn = (lines, origin) => new PolicyList(lines).policies.flat()
+const namedIn = (directives, origin) => directives
   .filter(it => /-src|-action|^base-uri|-ancestors/.test(it.name)).flatMap(it => it.values)
   .flatMap(it => HOST.exec(it)?.[1].toLowerCase() ?? []).filter(it => it !== urlOf(origin)?.host);
 
@@ -131,18 +130,20 @@ const givenTo = (program, { origin, lines }, places) => {
 
 /**
  * The rows and columns of a picture.
+ * @param {Program} program
  * @param {readonly string[]} lines
  * @param {string} origin
  * @param {Place[]} needed
  * @param {string[]} urgent the columns that come first
  */
-const axesOf = (lines, origin, needed, urgent) => {
-  const names = new PolicyList(lines).policies.flat().map(it => it.name.replace(/-(?:elem|attr)$/, ''));
+const axesOf = (program, lines, origin, needed, urgent) => {
+  const present = policiesIn(program, lines).flatMap(it => it.directives);
+  const names = present.map(it => it.name.replace(/-(?:elem|attr)$/, ''));
   const directives = DIRECTIVES.map(it => it[0]).filter(it =>
     ALWAYS.includes(it) || names.includes(it) || needed.some(of => of.directive === it));
   const others = needed.map(it => it.column).filter(it => !SPECIAL.includes(it) && it !== OWN);
   const loaded = groupedBy(others, it => it).sort((a, b) => b.length - a.length).map(it => it[0]);
-  const all = [...loaded.filter(it => urgent.includes(it)), ...loaded, ...namedIn(lines, origin)];
+  const all = [...loaded.filter(it => urgent.includes(it)), ...loaded, ...namedIn(present, origin)];
   const hosts = [...new Set(all)], text = lines.join(' ');
   const code = SPECIAL.filter(it =>
     CODE.includes(it) || needed.some(of => of.column === it) || text.includes(it));
@@ -217,7 +218,7 @@ const matrixOf = (program, { origin, lines, name }, judged) => {
   const needed = judged.flatMap(it => placesOf(it.piece.request, origin)), counts = countsOf(judged, origin);
   const urgent = judged.filter(it => it.answer.items.length > 0)
     .flatMap(it => columnOf(it.piece.request, origin) ?? []);
-  const axes = axesOf(lines, origin, needed, urgent), { columns, hosts } = axes;
+  const axes = axesOf(program, lines, origin, needed, urgent), { columns, hosts } = axes;
   const gives = givenTo(program, { origin, lines }, placesIn(axes));
   return {
     kind: 'matrix', head: say('matrix', name, Math.min(hosts, MOST_HOSTS), hosts), columns,
@@ -262,7 +263,8 @@ const NEITHER = { sign: '·', means: 'blocked before and now' };
  * @returns {Block}
  */
 export const changeMatrix = (program, { origin, old, new: newer }) => {
-  const axes = axesOf([...old, ...newer], origin, [], []), { columns, hosts } = axes, places = placesIn(axes);
+  const axes = axesOf(program, [...old, ...newer], origin, [], []), { columns, hosts } = axes;
+  const places = placesIn(axes);
   const [before, after] = [old, newer].map(lines => givenTo(program, { origin, lines }, places));
   return {
     kind: 'matrix', head: say('changeMatrix', Math.min(hosts, MOST_HOSTS), hosts), columns,

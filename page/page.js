@@ -1,6 +1,7 @@
 /** The page: what is heard of keys, clicks and drops. What reads and decides runs in the worker. */
-import { ask, changed, copy, copyAnswer, isFresh, showAnswer } from './asked.js';
-import { Asking } from './asking.js';
+import { SNIPPET } from '../js/readers/events.js';
+import { ask, busyUntil, changed, copy, copyAnswer, isFresh, showAnswer } from './asked.js';
+import { Asking, Stopped } from './asking.js';
 import { all, by, element, told } from './element.js';
 import { showFields, showGiven } from './fields.js';
 import { beginning, linkOf, stateOf } from './link.js';
@@ -12,13 +13,28 @@ import { clearExample, oneRequest, take, textsOf } from './taking.js';
 const asking = new Asking(by('worker').textContent, by('engine').textContent);
 const TABS = all('[role=tab]');
 
+/** Asks, and shows the answer where it begins below what is seen. */
+const askNow = async () => {
+  await ask(asking);
+  const { top } = by('answers').getBoundingClientRect();
+  if (top > window.innerHeight * 0.8) by('answers').scrollIntoView();
+};
+
+/**
+ * Does something that a person may stop.
+ * @param {Promise<unknown>} work
+ */
+const stoppable = work => busyUntil(work).catch(error => {
+  if (!(error instanceof Stopped)) throw error;
+});
+
 /**
  * Takes texts, and asks.
- * @param {{ name: string, text: string, blob?: Blob }[]} texts
+ * @param {import('./taking.js').Given[]} texts
  */
 const taken = async texts => {
-  await take(asking, texts);
-  await ask(asking);
+  await stoppable(take(asking, texts));
+  await askNow();
 };
 
 const takePaste = () => {
@@ -71,7 +87,7 @@ const remove = id => {
   state.files = state.files.filter(it => it.id !== id);
   state.isExample = false;
   changed();
-  showGiven(asking);
+  stoppable(showGiven(asking));
   ask(asking);
 };
 
@@ -80,9 +96,9 @@ const clicked = ({ target }) => {
   const button = target.closest('button');
   if (button === null) return;
   const { copy: text, save: file, as, remove: id } = button.dataset;
-  if (text !== undefined) copy(text);
+  if (text !== undefined) copy(text, button);
   if (file !== undefined) save(file, button.dataset.text);
-  if (as !== undefined) copyAnswer(as);
+  if (as !== undefined) copyAnswer(as, button);
   if (id !== undefined) remove(Number(id));
 };
 
@@ -91,16 +107,20 @@ let waiting = 0;
 /** Says how the fields are read, once nothing was written for a moment. */
 const describeSoon = () => {
   clearTimeout(waiting);
-  waiting = window.setTimeout(() => showGiven(asking), 400);
+  waiting = window.setTimeout(() => stoppable(showGiven(asking)), 400);
 };
 
 /** @param {any} event */
 const written = ({ target }) => {
   const { url, text } = target.dataset;
   if (target.id === 'paste' || target.id === 'open' || target.id.startsWith('one-')) return;
-  if (['headers', 'newer', 'origin'].includes(target.id)) setField(target.id, target.value);
-  if (url !== undefined) target.dataset.url = changeFile(Number(url), { url: target.value.trim() || undefined });
-  if (text !== undefined) target.dataset.text = changeFile(Number(text), { text: target.value });
+  if (['headers', 'newer', 'origin'].includes(target.id)) {
+    state.written.add(target.id);
+    setField(target.id, target.value);
+  }
+  const { value } = target;
+  if (url !== undefined) target.dataset.url = changeFile(Number(url), { url: value.trim() || undefined });
+  if (text !== undefined) target.dataset.text = changeFile(Number(text), { text: value });
   changed();
   if (target.name === 'further') select('more');
   else if (['headers', 'newer'].includes(target.id)) describeSoon();
@@ -110,7 +130,7 @@ const hearKeys = () => {
   document.addEventListener('keydown', event => {
     if (event.key !== 'Enter' || !(event.ctrlKey || event.metaKey)) return;
     event.preventDefault();
-    if (by('paste').value.trim() === '') ask(asking);
+    if (by('paste').value.trim() === '') askNow();
     else takePaste();
   });
   by('questions').addEventListener('keydown', tabKeys);
@@ -138,7 +158,7 @@ const hearFields = () => {
   by('given').addEventListener('input', written);
   by('given').addEventListener('submit', (/** @type {Event} */ event) => {
     event.preventDefault();
-    ask(asking);
+    askNow();
   });
   by('take').addEventListener('click', takePaste);
   by('paste').addEventListener('paste', () => setTimeout(takePaste));
@@ -151,7 +171,7 @@ const hearFields = () => {
   by('clear').addEventListener('click', () => {
     clearExample();
     changed();
-    showGiven(asking);
+    stoppable(showGiven(asking));
     ask(asking);
     by('paste').focus();
   });
@@ -174,7 +194,7 @@ const show = () => {
   const from = stateOf(location.hash) ?? beginning();
   restore(from);
   select(TABS.some(it => it.id === from.tab) ? from.tab : 'blocked');
-  return showGiven(asking);
+  return stoppable(showGiven(asking));
 };
 
 const begin = async () => {
@@ -182,6 +202,7 @@ const begin = async () => {
   hearFields();
   hearKeys();
   hearDrops();
+  by('snippet').textContent = by('copy-snippet').dataset.copy = SNIPPET;
   document.addEventListener('click', clicked);
   by('stop').addEventListener('click', () => asking.stop());
   by('link').addEventListener('click', makeLink);
@@ -189,7 +210,7 @@ const begin = async () => {
     state.revision += 1;
     show();
   });
-  const call = (/** @type {string[]} */ words, /** @type {any[]} */ files) => asking.ask('call', { words, files });
+  const call = (/** @type {unknown} */ words, /** @type {unknown} */ files) => asking.ask('call', { words, files });
   Object.assign(window, { csp: call });
   await show();
   await judgeItself(html);

@@ -1,7 +1,11 @@
 /** How headers were read: what is probably not meant so, and the policies as they stand. */
-import { marksOf, policiesOf } from '../js/readers/marks.js';
+import { read } from '../js/index.js';
+import { readPolicies } from '../js/policies.js';
+import { marksOf } from '../js/readers/marks.js';
 import { code, list, ordinal, table } from './answer.js';
 import { say } from './sentences.js';
+
+/** @typedef {import('../js/index.js').Program} Program */
 
 /**
  * Header lines, and what stood beside them and wasn't taken.
@@ -11,41 +15,46 @@ import { say } from './sentences.js';
 /** @param {readonly string[]} lines header lines as one text */
 export const headersText = lines => lines.map(it => `${it}\n`).join('');
 
-/** @param {string} line */
-const whoOf = line => {
-  const isMeta = /^meta-/i.test(line), isReport = /^[^:]*-report-only:/i.test(line);
-  return [isMeta ? 'meta element' : 'header', isReport ? 'only reports' : 'enforced'];
-};
+/**
+ * @param {Program} program
+ * @param {readonly string[]} lines
+ */
+export const policiesIn = (program, lines) => readPolicies(program, { headers: headersText(lines) });
 
 /**
+ * @param {Program} program
  * @param {Reading} reading
  * @param {boolean} several
  */
-const marksIn = ({ name, lines, left = [] }, several) => {
-  const policies = policiesOf(lines), of = several ? `${name}: ` : '';
+const marksIn = (program, { name, lines, left = [] }, several) => {
+  const reading = read(program, { headers: headersText(lines) }), of = several ? `${name}: ` : '';
   return [
     ...left.map(({ line, said }) => `${of}${line === undefined ? '' : `line ${line}: `}${said}`),
-    ...marksOf(policies).map(({ policy, said }) =>
-      `${of}${policies.length > 1 ? `${ordinal(policy)} policy: ` : ''}${said}`),
+    ...marksOf(reading).map(({ policy, said }) =>
+      `${of}${policy !== null && reading.policies.length > 1 ? `${ordinal(policy)} policy: ` : ''}${said}`),
   ];
 };
 
 /**
  * A row for each directive.
+ * @param {Program} program
  * @param {Reading} reading
  * @param {boolean} several
  */
-const rowsIn = ({ name, lines }, several) => lines.flatMap(line =>
-  policiesOf([line]).flatMap(policy => policy.directives.map(it =>
-    [...several ? [name] : [], ...whoOf(line), code(it.name), code(it.values.join(' '))])));
+const rowsIn = (program, { name, lines }, several) =>
+  policiesIn(program, lines).flatMap(({ disposition, isMeta, directives }) => directives.map(it => [
+    ...several ? [name] : [], isMeta ? 'meta element' : 'header',
+    disposition === 'report' ? 'only reports' : 'enforced', code(it.name), code(it.values.join(' ')),
+  ]));
 
 /**
  * The marks, which are shown, and the directives, which are folded.
+ * @param {Program} program
  * @param {Reading[]} readings
  */
-export const readingBlocks = readings => {
-  const several = readings.length > 1, marks = readings.flatMap(it => marksIn(it, several));
-  const rows = readings.flatMap(it => rowsIn(it, several));
+export const readingBlocks = (program, readings) => {
+  const several = readings.length > 1, marks = readings.flatMap(it => marksIn(program, it, several));
+  const rows = readings.flatMap(it => rowsIn(program, it, several));
   const columns = [...several ? ['Page'] : [], 'From', 'It is', 'Directive', 'Values'];
   return [
     ...list(say('marked'), [...new Set(marks)]),

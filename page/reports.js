@@ -149,7 +149,8 @@ export const reports = async (program, { logs, reading }, tell) => {
     mood: count > 0 ? 'bad' : 'warn', sentence,
     more: [...isWhole ? [] : [say('notAllRead')], ...isEnded ? [say('endedNotAll')] : [], say('ofBrowsers')],
     blocks: [
-      ...isJudged ? readingBlocks([reading]) : [], ...await endingBlocks(program, ended.groups, lines),
+      ...isJudged ? readingBlocks(program, [reading]) : [],
+      ...await endingBlocks(program, ended.groups, lines),
       ...grouped(say('reported', violations), shownGroups(groups)),
     ],
     unseen: [...left, ...ended.left],

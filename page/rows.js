@@ -1,10 +1,12 @@
 /** What a policy doesn't allow, by directive and host: each group with its reason and what to do. */
 import { describe, describeText, hostOf } from '../js/describe.js';
-import { PolicyList } from '../js/propose/policy.js';
+import { directiveText } from '../js/policies.js';
 import { code, groupedBy, ordinal } from './answer.js';
+import { policiesIn } from './reading.js';
 import { say } from './sentences.js';
 
 /**
+ * @typedef {import('../js/index.js').Program} Program
  * @typedef {import('../js/index.js').Reason} Reason
  * @typedef {import('../js/sites.js').PageAnswer<Reason>} PageAnswer
  * @typedef {import('../js/readers/site.js').SitePage} SitePage
@@ -87,13 +89,15 @@ const BUT = /** @type {Record<string, string>} */ ({
 
 /**
  * The directive as it stands in the policy, and what nearly allows the row.
+ * @param {Program} program
  * @param {Row} row
  * @returns {Text[]}
  */
-const becauseOf = row => {
+const becauseOf = (program, row) => {
   const { page, piece, answer: { policies } } = row, { policy, governing, effective } = itemOf(row);
-  const directives = new PolicyList([...page.lines, ...piece.meta]).policies[policy] ?? [];
-  const text = directives.find(it => it.name === governing)?.text ?? governing;
+  const { directives } = policiesIn(program, [...page.lines, ...piece.meta])[policy];
+  const directive = directives.find(it => it.name === governing);
+  const text = directive === undefined ? governing : directiveText(directive);
   const near = policies.find(it => it.policy === policy)?.near ?? [];
   return [
     say(governing === 'default-src' ? 'standsIn' : 'decides', short(text), effective),
@@ -131,14 +135,15 @@ const keyOf = row => {
 };
 
 /**
+ * @param {Program} program
  * @param {Row[]} rows
  * @returns {Group}
  */
-const groupOf = rows => {
+const groupOf = (program, rows) => {
   const [first] = rows, badge = badgeOf(first);
   return {
     mood: MOODS[badge], badge, directive: directivesOf(first), of: whatOf(first.piece), count: rows.length,
-    because: becauseOf(first), ...todoOf(rows), columns: ['What', 'Where', 'Which', 'To allow it'],
+    because: becauseOf(program, first), ...todoOf(rows), columns: ['What', 'Where', 'Which', 'To allow it'],
     rows: rows.map(cellsOf),
   };
 };
@@ -147,9 +152,10 @@ const ORDER = ['bad', 'warn'];
 
 /**
  * Rows as groups, those that are blocked and frequent first.
+ * @param {Program} program
  * @param {Row[]} rows
  */
-export const groupsOf = rows => groupedBy(rows, keyOf).map(groupOf)
+export const groupsOf = (program, rows) => groupedBy(rows, keyOf).map(it => groupOf(program, it))
   .sort((a, b) => ORDER.indexOf(a.mood) - ORDER.indexOf(b.mood) || b.count - a.count);
 
 /** @param {Row} row the directives and words that allow it */

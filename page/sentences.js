@@ -8,6 +8,9 @@ const are = count => count === 1 ? 'is' : 'are';
 /** @param {string} origin */
 const onPage = origin => `On a page ${origin === 'null' ? 'without an origin' : `of ${origin}`}`;
 
+/** @param {string[]} names the first of them */
+const some = names => `${names.slice(0, 3).join(', ')}${names.length > 3 ? ` and ${names.length - 3} more` : ''}`;
+
 /** @param {number} count of what is possible besides */
 const others = count => count === 0 ? '' : ` ${counted(count, 'other thing')} ${are(count)} possible.`;
 
@@ -30,9 +33,9 @@ const BLOCKED = {
     `${number(blocked)} of ${counted(all, 'request')}${where} ${are(blocked)} blocked.`,
   /** @type {(alone: N, blocked: N, all: N) => T} */
   browserAlone: (alone, blocked, all) =>
-    `The browser tells of ${counted(alone, 'violation')} that ${are(alone)} not in this answer. Of`
-    + ` ${counted(all, 'request')} that ${all === 1 ? 'was' : 'were'} given, ${number(blocked)} ${are(blocked)}`
-    + ' blocked.',
+    `The browser tells of ${counted(alone, 'violation')} that ${are(alone)} not in this answer.`
+    + ` Of ${counted(all, 'request')} that ${all === 1 ? 'was' : 'were'} given,`
+    + ` ${number(blocked)} ${are(blocked)} blocked.`,
   /** @type {(count: N) => T} */
   eventsAlone: count =>
     `The browser tells of ${counted(count, 'violation')}. No page was given, so nothing else was judged.`,
@@ -52,8 +55,10 @@ const BLOCKED = {
   decidesNothing: name =>
     `No enforced policy decides anything on ${name}: nothing is blocked there, whatever it loads.`,
   /** @type {(names: T[]) => T} */
-  inlineNotGiven: names => 'Inline code wasn\'t given, so none of it was judged: '
-    + `${names.slice(0, 3).join(', ')}${names.length > 3 ? ` and ${names.length - 3} more` : ''}.`,
+  inlineNotGiven: names => `Inline code wasn't given, so none of it was judged: ${some(names)}.`,
+  /** @type {(names: T[]) => T} */
+  scriptsNotRun: names => 'What scripts load and insert stands in no HTML, so none of it was judged:'
+    + ` ${some(names)}. A HAR of the page has more of it.`,
   /** @type {(all: N, same: N) => T} */
   browserTells: (all, same) =>
     `The browser tells of ${counted(all, 'violation')}:`

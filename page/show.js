@@ -80,7 +80,8 @@ const matrixOf = ({ head, columns, rows, signs }) => {
   const attributes = { 'class': 'wide', 'tabindex': '0', 'role': 'group', 'aria-label': textOf(head) };
   const key = signs.map(({ sign, mood = 'plain', means }) =>
     element('li', {}, element('span', { class: mood }, sign), ` ${means}`));
-  return element('figure', { class: 'matrix' }, element('div', attributes, table), element('ul', { class: 'key' }, ...key));
+  const wide = element('div', attributes, table);
+  return element('figure', { class: 'matrix' }, wide, element('ul', { class: 'key' }, ...key));
 };
 
 /** @param {import('./answer.js').Code} block */

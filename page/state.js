@@ -6,6 +6,7 @@ import { all, by } from './element.js';
 export const state = {
   tab: 'blocked', headers: '', newer: '', origin: '', isExample: false, revision: 0, last: 0,
   files: /** @type {File[]} */ ([]),
+  written: /** @type {Set<string>} the fields in which a person wrote */ (new Set()),
 };
 
 /** @param {string} name */
@@ -22,7 +23,8 @@ export const raw = () => {
 
 export const choices = () => ({
   form: chosen('form'), unsafeHashes: by('hashes').checked, proof: by('proof').value,
-  required: by('required').value, embedder: by('embedder').value.trim(), subject: Number(by('subject').value || 0),
+  required: by('required').value, embedder: by('embedder').value.trim(),
+  subject: Number(by('subject').value || 0),
 });
 
 /**
@@ -66,6 +68,7 @@ export const restore = from => {
   setField('headers', String(from.headers ?? ''));
   setField('newer', String(from.newer ?? ''));
   state.isExample = from.isExample === true;
+  state.written.clear();
   state.files = [];
   for (const it of Array.isArray(from.files) ? from.files : []) addFile(it);
   for (const id of ['proof', 'required', 'embedder']) by(id).value = String(from[id] ?? by(id).defaultValue);

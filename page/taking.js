@@ -9,6 +9,11 @@ import { addFile, question, raw, setField, state } from './state.js';
  * @typedef {import('./given.js').File} File
  */
 
+/**
+ * A text to be taken, with the name of its file, or none; or why it can't be.
+ * @typedef {{ name: string, text: string, blob?: Blob, fault?: string }} Given
+ */
+
 const NAMELESS = {
   har: 'pasted.har', html: 'page.html', requests: 'requests.json', events: 'console.txt',
   reports: 'reports.json',
@@ -23,13 +28,12 @@ const nameFor = ({ name, kind }) => {
   }
 };
 
-/** The example goes as soon as anything else is given. */
+/** The example goes as soon as anything else is given. What a person wrote stays. */
 export const clearExample = () => {
   if (!state.isExample) return;
   state.isExample = false;
   state.files = [];
-  setField('headers', '');
-  setField('newer', '');
+  for (const id of /** @type {const} */ (['headers', 'newer'])) if (!state.written.has(id)) setField(id, '');
 };
 
 /**
@@ -44,7 +48,7 @@ const takeHeaders = (name, text) => {
 
 /**
  * @param {Asking} asking
- * @param {{ name: string, text: string, blob?: Blob }} given
+ * @param {Given} given
  */
 const takeOne = async (asking, given) => {
   const files = /** @type {File[]} */ ([]);
@@ -54,6 +58,12 @@ const takeOne = async (asking, given) => {
   }
   return files;
 };
+
+/**
+ * @param {string} name
+ * @param {string} fault
+ */
+const sayNotTaken = (name, fault) => by('took').append(told('p', say('notTaken', name, fault), { class: 'bad' }));
 
 /**
  * Says what files were taken for. What can't be read isn't kept.
@@ -66,7 +76,7 @@ const sayTaken = (files, described) => {
     if (found === undefined) continue;
     if ('read' in found) by('took').append(told('p', say('takenFile', name, found.read)));
     else {
-      by('took').append(told('p', say('notTaken', name, found.fault), { class: 'bad' }));
+      sayNotTaken(name, found.fault);
       state.files = state.files.filter(it => it.id !== id);
     }
   }
@@ -75,22 +85,38 @@ const sayTaken = (files, described) => {
 /**
  * Takes texts, each with the name of its file, or none.
  * @param {Asking} asking
- * @param {{ name: string, text: string, blob?: Blob }[]} all
+ * @param {Given[]} all
  */
 export const take = async (asking, all) => {
   by('took').replaceChildren();
   clearExample();
   state.revision += 1;
   const files = /** @type {File[]} */ ([]);
-  for (const it of all) files.push(...await takeOne(asking, it));
+  for (const it of all) {
+    if (it.fault === undefined) files.push(...await takeOne(asking, it));
+    else sayNotTaken(it.name, it.fault);
+  }
   const described = await asking.ask('describe', raw());
   sayTaken(files, described);
   showDescribed(described);
 };
 
-/** @param {Iterable<globalThis.File>} files as texts; what is packed stays so */
-export const textsOf = files => Promise.all([...files].map(async blob =>
-  ({ name: blob.name, text: /\.gz$/i.test(blob.name) ? '' : await blob.text(), blob })));
+/**
+ * A file as a text. What is packed stays so; a folder can't be read.
+ * @param {globalThis.File} blob
+ * @returns {Promise<Given>}
+ */
+const textOfFile = async blob => {
+  const { name } = blob;
+  try {
+    return { name, text: /\.gz$/i.test(name) ? '' : await blob.text(), blob };
+  } catch {
+    return { name, text: '', fault: 'it can\'t be read. Of a folder, open the files.' };
+  }
+};
+
+/** @param {Iterable<globalThis.File>} files */
+export const textsOf = files => Promise.all([...files].map(textOfFile));
 
 /** The one request that the fields tell. */
 export const oneRequest = () => {

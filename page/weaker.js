@@ -116,7 +116,7 @@ export const weaker = (program, { origin, old, new: newer }) => {
     blocks: [
       ...uncoveredBlock(answer), ...directivesBlock(answer), ...auditBlock(answer),
       changeMatrix(program, { origin, old: old.lines, new: newer.lines }),
-      ...readingBlocks([old, newer]), ...proofBlock(answer.proved?.proof),
+      ...readingBlocks(program, [old, newer]), ...proofBlock(answer.proved?.proof),
     ],
     unseen: ['report-only policies: not compared', ...answer.after.notCovered], data: answer,
   };

@@ -120,9 +120,9 @@ class Chromium(Browser):
         feature = {"name": "prefers-color-scheme", "value": "dark" if dark else "light"}
         self.ask("Emulation.setEmulatedMedia", features=[feature])
 
-    def shot(self, file):
+    def shot(self, file, height=8000, scale=1):
         size = self.ask("Page.getLayoutMetrics")["cssContentSize"]
-        clip = {**size, "height": min(size["height"], 8000), "scale": 1}
+        clip = {**size, "height": min(size["height"], height), "scale": scale}
         data = self.ask("Page.captureScreenshot", format="png", captureBeyondViewport=True, clip=clip)["data"]
         Path(file).write_bytes(base64.b64decode(data))
 

@@ -1,4 +1,4 @@
-"""Pictures of the page, to be looked at."""
+"""Pictures of the page, to be looked at; those without a width in their names are the small ones of docs/pictures."""
 
 from pathlib import Path
 
@@ -15,6 +15,14 @@ def points(kind, folder):
                 for name in (*QUESTIONS, *FURTHER):
                     person.choose(name)
                     person.browser.shot(Path(folder, f"{name}-{width}-{'dark' if dark else 'light'}.png"))
+        small(person, folder)
     finally:
         person.browser.close()
     print(f"the pictures are in {folder}")
+
+
+def small(person, folder):
+    person.browser.look(1280, False)
+    for name, height in (("blocked", 920), ("weaker", 1260)):
+        person.choose(name)
+        person.browser.shot(Path(folder, f"{name}.png"), height, 0.6)

@@ -13,7 +13,10 @@ from .browsers import PAGE
 QUESTIONS = ("blocked", "attacker", "weaker", "make", "reports")
 FURTHER = ("framed", "shorter", "proof", "required")
 ANSWERED = "Number(document.body.dataset.answered ?? 0)"
-SAYS = """[...document.querySelectorAll('[data-says]')].filter(it => !it.closest('[hidden], #own')).map(it => it.dataset.says)"""
+SAYS = """[...document.querySelectorAll('[data-says]')].filter(it => !it.closest('[hidden], #own'))
+  .map(it => it.dataset.says)"""
+FRESH = """document.getElementById('busy').hidden
+  && document.querySelector('#answers .says:not(.stale > .says)') !== null"""
 
 
 class Person:
@@ -21,7 +24,9 @@ class Person:
 
     def __init__(self, kind):
         url = os.environ.get("PAGE_URL") or PAGE.as_uri()
-        os.environ.get("PAGE_URL") or PAGE.exists() or sys.exit(f"bench/page: there is no {PAGE}: packaging/ship makes it")
+        os.environ.get("PAGE_URL") or PAGE.exists() or sys.exit(
+            f"bench/page: there is no {PAGE}: packaging/ship makes it"
+        )
         self.browser, self.seen, self.links = kind(), set(), 0
         self.browser.look(1280, False)
         self.browser.open(url)
@@ -49,7 +54,9 @@ class Person:
 
     def write(self, field, text):
         """Writes into a field, as its input event tells the page."""
-        code = f"(it => {{ it.value = {json.dumps(text)}; it.dispatchEvent(new Event('input', {{ bubbles: true }})); }})"
+        code = (
+            f"(it => {{ it.value = {json.dumps(text)}; it.dispatchEvent(new Event('input', {{ bubbles: true }})); }})"
+        )
         self.browser.run(f"void {code}(document.querySelector({json.dumps(field)}))")
         self.note()
 
@@ -63,7 +70,7 @@ class Person:
             self.browser.click(f"input[value={question}]")
         else:
             self.browser.click(f"#{question}")
-        self.browser.wait("document.getElementById('busy').hidden && document.querySelector('#answers .says:not(.stale > .says)') !== null")
+        self.browser.wait(FRESH)
         self.note()
         return self.sentence
 
@@ -71,7 +78,13 @@ class Person:
         """Puts what a link holds into the page, and waits for the answer."""
         tab = question if question in QUESTIONS else "more"
         self.links += 1
-        told = {"link": self.links, "tab": tab, "further": question if tab == "more" else "framed", "origin": "https://shop.example", **state}
+        told = {
+            "link": self.links,
+            "tab": tab,
+            "further": question if tab == "more" else "framed",
+            "origin": "https://shop.example",
+            **state,
+        }
         address = "#" + quote(json.dumps(told))
         return self.does(lambda: self.browser.run(f"void (location.hash = {json.dumps(address)})"))
 

@@ -1,4 +1,4 @@
-"""The page beside what a browser says itself: a shop recorded without a policy, and what Chromium blocks of it under two."""
+"""The page beside what Chromium says itself of a shop, which it recorded without a policy."""
 
 import json
 import tempfile
@@ -38,15 +38,22 @@ def told(person, room, name):
     person.restore("blocked", {"headers": header(name)})
     person.open(Path(room, "shop.har"), Path(room, f"{name}.json"))
     count = len(json.loads(Path(room, f"{name}.json").read_text()))
-    same = int(person.browser.run("document.querySelector('[data-says=browserTells]').textContent").split(": ")[1].split(" ")[0])
+    same = int(
+        person.browser.run("document.querySelector('[data-says=browserTells]').textContent")
+        .split(": ")[1]
+        .split(" ")[0]
+    )
     print(f"{person.browser.name}, {name}: {same} of {count} violations are in the answer too")
     point(f"{name}: of what the browser tells, 95 of 100 are in the answer too", True, same >= 0.95 * count)
     point(f"{name}: the answer is no good news", "bad", person.mood)
     person.restore("blocked", {"headers": ""})
     person.open(Path(room, f"{name}.har"))
     begins = person.browser.run("document.querySelector('#answers .says p:nth-child(2)').dataset.says")
-    point(f"{name}: of a recording under the policy this is said first, and it is no good news", ("recordedEnforced", True),
-          (begins, person.mood in ("warn", "bad")))
+    point(
+        f"{name}: of a recording under the policy this is said first, and it is no good news",
+        ("recordedEnforced", True),
+        (begins, person.mood in ("warn", "bad")),
+    )
 
 
 def points(kind):

@@ -25,7 +25,22 @@ def value(name):
 def points(kind):
     person = Person(kind)
     try:
-        for task in (example, by_keys, blocked, one_request, attacker, weaker, make, reports, framed, forms, stale, copies, links):
+        for task in (
+            example,
+            by_keys,
+            kept,
+            blocked,
+            one_request,
+            attacker,
+            weaker,
+            make,
+            reports,
+            framed,
+            forms,
+            stale,
+            copies,
+            links,
+        ):
             task(person)
         point(f"{kind.name}: the browser complains of nothing", [], person.browser.complaints())
     finally:
@@ -37,7 +52,9 @@ def named(person, text):
 
 
 def example(person):
-    seen = person.browser.run("[document.getElementById('example').checkVisibility(), document.querySelectorAll('#answers .says').length]")
+    seen = person.browser.run(
+        "[document.getElementById('example').checkVisibility(), document.querySelectorAll('#answers .says').length]"
+    )
     point(named(person, "the first answer is about an example, which is called one"), [True, 1], seen)
     own = person.browser.run("document.querySelector('#own .sentence').textContent")
     point(named(person, "the page's own policy blocks nothing of the page"), "None of 5 requests is blocked.", own)
@@ -49,11 +66,27 @@ def by_keys(person):
     for key in ("ArrowRight", "End", "ArrowRight", "ArrowLeft", "Home"):
         browser.key(key)
         came.append(browser.run(SELECTED))
-    point(named(person, "arrows, Home and End go through the questions"), ["attacker", "more", "blocked", "more", "blocked"], came)
+    point(
+        named(person, "arrows, Home and End go through the questions"),
+        ["attacker", "more", "blocked", "more", "blocked"],
+        came,
+    )
     browser.run("document.getElementById('headers').focus()")
     person.write("#headers", "Content-Security-Policy: img-src *")
     came = person.does(lambda: browser.key("Enter", ctrl=True))
     point(named(person, "Ctrl+Enter asks"), "None of 10 requests is blocked.", came)
+
+
+def kept(person):
+    """What a person wrote over the example stays when the rest of it goes."""
+    told = "[document.getElementById('headers').value, document.getElementById('example').hidden]"
+    person.open(PAGES[0])
+    point(
+        named(person, "what was written stays when the example goes"),
+        ["Content-Security-Policy: img-src *", True],
+        person.browser.run(told),
+    )
+    person.restore("blocked", {"headers": ""})
 
 
 def blocked(person):
@@ -62,7 +95,11 @@ def blocked(person):
     person.write("#origin", "https://shop.test")
     person.paste(header("strict"))
     groups = person.browser.run(GROUPS)
-    for what in ("blocked script-src event handler × 16", "blocked script-src inline script × 7", "blocked script-src javascript: URL × 3"):
+    for what in (
+        "blocked script-src event handler × 16",
+        "blocked script-src inline script × 7",
+        "blocked script-src javascript: URL × 3",
+    ):
         point(named(person, f"of four pages of HTML: {what}"), True, what in groups)
     point(named(person, "each with its line"), True, "product.html, line " in person.answer)
     point(named(person, "and the answer isn't good news"), "bad", person.mood)
@@ -74,9 +111,16 @@ def one_request(person):
     browser.click("#one summary")
     browser.fill("#one-of", "https://cdn.example/b.js")
     person.does(lambda: browser.click("#one-add"))
-    point(named(person, "one request, and what nearly allows it"), True,
-          "https://cdn.example/a/ would allow it, but the path is another" in person.answer)
-    point(named(person, "and what would allow it"), True, "To allow it: add https://cdn.example to script-src." in person.answer)
+    point(
+        named(person, "one request, and what nearly allows it"),
+        True,
+        "https://cdn.example/a/ would allow it, but the path is another" in person.answer,
+    )
+    point(
+        named(person, "and what would allow it"),
+        True,
+        "To allow it: add https://cdn.example to script-src." in person.answer,
+    )
 
 
 def attacker(person):
@@ -95,8 +139,16 @@ def weaker(person):
     person.paste(header("strict"))
     rows = "[...document.querySelectorAll('#answers tbody tr')].map(it => it.innerText.replace(/\\s+/g, ' '))"
     table = person.browser.run(rows)
-    point(named(person, "the headers stayed, and the pasted ones are the new"), value("old"), person.browser.run("document.getElementById('headers').value"))
-    point(named(person, "the strict policy is stricter about handlers"), True, any(it.startswith("script-src-attr stricter") for it in table))
+    point(
+        named(person, "the headers stayed, and the pasted ones are the new"),
+        value("old"),
+        person.browser.run("document.getElementById('headers').value"),
+    )
+    point(
+        named(person, "the strict policy is stricter about handlers"),
+        True,
+        any(it.startswith("script-src-attr stricter") for it in table),
+    )
     person.restore("weaker", {"headers": header("strict"), "newer": header("old")})
     point(named(person, "and the way back is weaker"), "bad", person.mood)
 
@@ -106,29 +158,59 @@ def make(person):
     person.open(*PAGES)
     person.choose("make")
     policy = person.browser.run("document.querySelector('#answers pre').textContent")
-    point(named(person, "a policy for four pages names the hosts"), True, "https://js.paywell.test" in policy and "'self'" in policy)
-    point(named(person, "and is never good news, since something is left to do"), True, person.mood in ("warn", "bad"))
-    person.does(lambda: (person.browser.click("input[name=form][value=strict]"), person.browser.click("#given button[type=submit]")))
+    point(
+        named(person, "a policy for four pages names the hosts"),
+        True,
+        "https://js.paywell.test" in policy and "'self'" in policy,
+    )
+    point(
+        named(person, "and is never good news, since something is left to do"), True, person.mood in ("warn", "bad")
+    )
+    person.does(
+        lambda: (
+            person.browser.click("input[name=form][value=strict]"),
+            person.browser.click("#given button[type=submit]"),
+        )
+    )
     policy = person.browser.run("document.querySelector('#answers pre').textContent")
     point(named(person, "a strict one names no host for scripts"), True, "'strict-dynamic'" in policy)
 
 
 def reports(person):
     """Reports of two hosts, one of them noise, and what would end them."""
-    body = {"csp-report": {"effective-directive": "img-src", "blocked-uri": "https://img.example/a.png", "document-uri": "https://shop.test/",
-                           "disposition": "enforce"}}
-    noise = {"csp-report": {"effective-directive": "script-src-elem", "blocked-uri": "chrome-extension", "document-uri": "https://shop.test/"}}
+    body = {
+        "csp-report": {
+            "effective-directive": "img-src",
+            "blocked-uri": "https://img.example/a.png",
+            "document-uri": "https://shop.test/",
+            "disposition": "enforce",
+        }
+    }
+    noise = {
+        "csp-report": {
+            "effective-directive": "script-src-elem",
+            "blocked-uri": "chrome-extension",
+            "document-uri": "https://shop.test/",
+        }
+    }
     person.restore("reports", {"headers": "Content-Security-Policy: img-src 'self'"})
     came = person.paste("\n".join(json.dumps(it) for it in [body] * 3 + [noise]))
     point(named(person, "reports are grouped"), "The headers would still report 3 of 3 violations.", came)
     point(named(person, "noise stands apart"), True, "chrome-extension 1" in person.answer)
-    point(named(person, "and what would end them is told"), True, "1 addition would end 3 of 3 violations." in person.answer)
+    point(
+        named(person, "and what would end them is told"),
+        True,
+        "1 addition would end 3 of 3 violations." in person.answer,
+    )
 
 
 def framed(person):
     person.restore("framed", {"headers": "X-Frame-Options: DENY\nContent-Security-Policy: frame-ancestors 'none'"})
-    point(named(person, "a page that forbids it may not be framed"), "No: frame-ancestors doesn't allow https://portal.example to frame this page.",
-          person.sentence)
+    point(
+        named(person, "a page that forbids it may not be framed"),
+        "No: frame-ancestors doesn't allow https://portal.example to frame this page.",
+        person.sentence,
+    )
 
 
 def forms(person):
@@ -148,8 +230,11 @@ def forms(person):
         person.browser.wait("document.getElementById('headers-read').childElementCount > 0")
         point(named(person, said), True, said in person.browser.text("#headers-read"))
     person.paste("default-src 'self' img-src https:")
-    point(named(person, "a forgotten semicolon is told above the rows"), True,
-          "img-src names a directive, and counts as a source here: is a semicolon missing before it?" in person.answer)
+    point(
+        named(person, "a forgotten semicolon is told above the rows"),
+        True,
+        "img-src names a directive, and counts as a source here: is a semicolon missing before it?" in person.answer,
+    )
 
 
 def stale(person):
@@ -158,37 +243,62 @@ def stale(person):
     grey = "document.querySelector('#answers > .stale') !== null"
     before = person.browser.run(grey)
     person.ask()
-    point(named(person, "an answer is grey once something was changed, until it is asked anew"), (True, False), (before, person.browser.run(grey)))
+    point(
+        named(person, "an answer is grey once something was changed, until it is asked anew"),
+        (True, False),
+        (before, person.browser.run(grey)),
+    )
 
 
 def copies(person):
     browser, came = person.browser, {}
     page = "<!doctype html><html><head></head><body><img src='https://a.example/x.png'></body></html>"
-    person.restore("blocked", {"headers": "Content-Security-Policy: img-src 'self'", "files": [
-        {"name": "index.html", "kind": "html", "text": page, "url": "https://shop.example/"}]})
-    browser.run("void ((window.wrappedJSObject ?? window).navigator.clipboard.writeText = "
-                "async text => { document.body.dataset.copy = text; })")
+    person.restore(
+        "blocked",
+        {
+            "headers": "Content-Security-Policy: img-src 'self'",
+            "files": [{"name": "index.html", "kind": "html", "text": page, "url": "https://shop.example/"}],
+        },
+    )
+    browser.run(
+        "void ((window.wrappedJSObject ?? window).navigator.clipboard.writeText = "
+        "async text => { document.body.dataset.copy = text; })"
+    )
     for it in ("text", "Markdown", "JSON"):
         browser.run("void delete document.body.dataset.copy")
         browser.click(f"#answers [data-as={it}]")
         browser.wait("document.body.dataset.copy !== undefined")
         came[it] = browser.run("document.body.dataset.copy")
-    begins = [came["text"].startswith("1 of 1 request is blocked."), came["Markdown"].startswith("**1 of 1 request is blocked.**")]
+    begins = [
+        came["text"].startswith("1 of 1 request is blocked."),
+        came["Markdown"].startswith("**1 of 1 request is blocked.**"),
+    ]
     blocked = json.loads(came["JSON"])["answer"]["pages"][0]["items"][0]["blocked"]
     point(named(person, "an answer is copied as text, Markdown and JSON"), [True, True, True], [*begins, blocked])
 
 
 def links(person):
     browser = person.browser
-    person.restore("weaker", {"headers": "Content-Security-Policy: img-src é", "newer": "Content-Security-Policy: img-src *"})
+    person.restore(
+        "weaker", {"headers": "Content-Security-Policy: img-src é", "newer": "Content-Security-Policy: img-src *"}
+    )
     browser.click("#link")
     address = browser.run("location.href")
     browser.open("about:blank")
     browser.open(address)
     browser.wait("document.body?.dataset.own === 'judged'")
-    told = browser.run("[document.querySelector('[role=tab][aria-selected=true]').id, document.getElementById('headers').value]")
-    point(named(person, "a link brings back the question and what stood in it"), ["weaker", "Content-Security-Policy: img-src é"], told)
+    told = browser.run(
+        "[document.querySelector('[role=tab][aria-selected=true]').id, document.getElementById('headers').value]"
+    )
+    point(
+        named(person, "a link brings back the question and what stood in it"),
+        ["weaker", "Content-Security-Policy: img-src é"],
+        told,
+    )
     person.write("#headers", "x" * 9000)
     browser.click("#link")
-    point(named(person, "what is too long for a link is told"), "This is too long for a link: send the files, and the headers as a text.",
-          browser.text("#linked"))
+    point(
+        named(person, "what is too long for a link is told"),
+        "This is too long for a link: send the files, and the headers as a text.",
+        browser.text("#linked"),
+    )

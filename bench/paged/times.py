@@ -1,4 +1,4 @@
-"""How long the page takes: from opening the file to the first answer, a large recording, and large inputs beside the program."""
+"""How long the page takes: to its first answer, for a large recording, and for large inputs beside the program."""
 
 import json
 import os
@@ -23,12 +23,17 @@ POLICY = "Content-Security-Policy: default-src 'self'; img-src 'self' https://im
 
 
 def inputs():
-    requests = [{"kind": "fetch", "destination": "image", "url": f"https://h{n % 97}.example/x/{n}.png"} for n in range(10000)]
+    requests = [
+        {"kind": "fetch", "destination": "image", "url": f"https://h{n % 97}.example/x/{n}.png"} for n in range(10000)
+    ]
     sources = " ".join(f"https://h{n}.example" for n in range(97) if n % 3)
     hosts = " ".join(f"https://h{n}.example" for n in range(1024))
     policy, whole = f"Content-Security-Policy: img-src {sources}\n", f"Content-Security-Policy: img-src {hosts}\n"
     return {
-        "judge of 10,000 requests": (["judge", "https://a.example", "p", "r"], [["p", policy], ["r", json.dumps(requests)]]),
+        "judge of 10,000 requests": (
+            ["judge", "https://a.example", "p", "r"],
+            [["p", policy], ["r", json.dumps(requests)]],
+        ),
         "compare of 1,024 hosts": (["compare", "https://a.example", "p", "q"], [["p", whole], ["q", whole]]),
     }
 

@@ -17,28 +17,37 @@ const REASONS = {
 const whatOf = ({ disposition, meta }) =>
   `${disposition === 'enforce' ? 'enforced' : 'only reports'}${meta ? ', meta' : ''}`;
 
+const HEAD = ['policy', 'it is', 'directive', 'decides', 'values'];
+const DROPPED = ['policy', 'dropped', 'since'];
+
+/**
+ * @param {string[]} head
+ * @param {string[][]} rows
+ * @param {import('./page.js').Page} page
+ */
+const lines = (head, rows, page) => rows.length === 0 ? [] : [...table(head, rows, page), ''];
+
 /**
  * @param {Reading} reading
  * @param {Asked} asked
  * @returns {Told}
  */
 export const tellReading = ({ policies, dropped }, { names, page }) => {
-  const rows = policies.flatMap(policy => policy.directives.map(({ name, decides, tokens }) => [
-    String(policy.policy + 1), whatOf(policy), name, decides ? 'yes' : 'no', tokens.map(it => it.text).join(' '),
-  ]));
+  const rows = policies.flatMap(policy => policy.directives.map(({ name, decides, tokens }) => {
+    const values = tokens.map(it => it.text).join(' ');
+    return [String(policy.policy + 1), whatOf(policy), name, decides ? 'yes' : 'no', values];
+  }));
   const pieces = dropped.filter(it => it.dropped.trim() !== '').map(({ policy, dropped: text, reason }) =>
     [policy === null ? '-' : String(policy + 1), text.trim(), REASONS[reason]]);
-  const more = pieces.length === 0 ? '' : ` ${counted(pieces.length, 'piece')} of it ${
-    pieces.length > 1 ? 'are' : 'is'} dropped.`;
+  const count = policies.length === 1 ? '1 policy' : `${policies.length} policies`;
+  const more = pieces.length === 0 ? ''
+    : ` ${counted(pieces.length, 'piece')} of it ${pieces.length > 1 ? 'are' : 'is'} dropped.`;
   return {
-    lines: [
-      ...rows.length === 0 ? [] : [...table(['policy', 'it is', 'directive', 'decides', 'values'], rows, page), ''],
-      ...pieces.length === 0 ? [] : [...table(['policy', 'dropped', 'since'], pieces, page), ''],
-    ],
+    lines: [...lines(HEAD, rows, page), ...lines(DROPPED, pieces, page)],
     mood: policies.length === 0 || pieces.length > 0 ? 'yellow' : 'green',
-    sentence: `${names.headers} has ${policies.length === 1 ? '1 policy' : `${policies.length} policies`} with ${
-      counted(rows.length, 'directive')}.${more}`,
+    sentence: `${names.headers} has ${count} with ${counted(rows.length, 'directive')}.${more}`,
     warnings: [], status: 0, findings: () => [],
-    covers: "A directive that doesn't decide here may do something in browsers, as Trusted Types and reporting.",
+    covers: "A directive that doesn't decide here may do something in browsers, as Trusted Types and "
+      + 'reporting.',
   };
 };

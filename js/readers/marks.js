@@ -6,8 +6,8 @@ import { asciiLower, DEPRECATED, DIRECTIVES, KEYWORDS, isDirective, nearest } fr
  * @typedef {import('../answers.js').Directive} Directive
  * @typedef {import('../answers.js').Dropped} Dropped
  * @typedef {import('../answers.js').Policy} Policy
- * @typedef {{ policy: number | null, directive: string, said: string }} Mark the number of the policy, from 0,
- * or null where nothing is left of it
+ * @typedef {{ policy: number | null, directive: string, said: string }} Mark the number of the policy, from
+ * 0, or null where nothing is left of it
  */
 
 // Directives whose values aren't sources.
@@ -25,7 +25,8 @@ const semicolon = ({ name, tokens }) => NO_SOURCES.includes(name) ? [] : tokens
 
 /** @type {Rule} */
 const comma = (directive, { isFirst, meta, directives }) => {
-  const { name, tokens } = directive, isBehind = !isFirst && directives[0] === directive && !isDirective(name);
+  const { name, tokens } = directive;
+  const isBehind = !isFirst && directives[0] === directive && !isDirective(name);
   const inMeta = meta ? tokens.filter(it => it.text.includes(',')) : [];
   return [
     isBehind ? `a comma stands before ${name}, and begins another policy: was a space meant?` : undefined,

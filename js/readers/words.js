@@ -29,7 +29,7 @@ export const KEYWORDS = [
 ];
 
 /** @param {string} text */
-export const asciiLower = text => text.replace(/[A-Z]/g, it => it.toLowerCase());
+export const asciiLower = text => text.replace(/[A-Z]+/g, it => it.toLowerCase());
 
 /** @param {string} name */
 export const isDirective = name => DIRECTIVES.includes(name) || DEPRECATED.has(name);

@@ -37,6 +37,18 @@ test('each call over all examples', () => {
   for (const [words, files] of cases) assert.equal(same(words, files), 1);
 });
 
+test('read loses nothing over all examples', () => {
+  const cases = exampleCases().filter(([[word]]) => word === 'tidy');
+  assert.ok(cases.length > 20);
+  for (const [[, origin, name], files] of cases) {
+    const { code, text } = engine.call(['read', origin, name], files);
+    if (code !== 0) continue;
+    const { policies, dropped } = calls.read(engine, { headers: new Map(files).get(name) });
+    const all = [...policies, ...dropped.map(({ policy, ...it }) => it)].map(it => JSON.stringify(it));
+    assert.deepEqual(all.sort(), text.split('\n').slice(0, -1).sort(), name);
+  }
+});
+
 const RANDOM = `
 import json, random, sys
 sys.path.insert(0, "bench")

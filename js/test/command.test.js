@@ -157,7 +157,8 @@ test('csp is the program itself', () => {
 });
 
 test('GUIDECERISE_PROGRAM is asked in place of the module', () => {
-  const lines = ['#!/bin/sh', 'cat headers requests >"$OUT"', 'echo "1 blocked 0:enforce:a/b"', 'exit 1'];
+  const lines = ['#!/bin/sh', '[ "$1" != read ] || exit 0', 'cat headers requests >"$OUT"',
+    'echo "1 blocked 0:enforce:a/b"', 'exit 1'];
   const program = file('program', lines.map(it => `${it}\n`).join('')), out = join(folder, 'out');
   chmodSync(program, 0o755);
   const { stdout, status } = guidecerise(FIRST, { env: { GUIDECERISE_PROGRAM: program, OUT: out } });
@@ -173,6 +174,16 @@ test('a program that can\'t be run is no answer', () => {
     assert.match(stderr, /no-program.*ENOENT/);
     assert.deepEqual([stdout, status], ['', 70]);
   }
+});
+
+test('read for a person', () => {
+  const header = 'Content-Security-Policy: img-src https://a.example; IMG-SRC *, trusted-types x\n';
+  const { stdout, status } = guidecerise(['read', ORIGIN, file('read.txt', header)]);
+  assert.match(stdout, /^1 +enforced +img-src +yes +https:\/\/a\.example$/m);
+  assert.match(stdout, /^2 +enforced +trusted-types +no +x$/m);
+  assert.match(stdout, /^1 +IMG-SRC \* +another one of its name stands before it$/m);
+  assert.match(stdout, /has 2 policies with 2 directives\. 1 piece of it is dropped\.$/m);
+  assert.equal(status, 0);
 });
 
 test('colours stand on a terminal alone, and never where NO_COLOR is set', () => {

@@ -1,9 +1,8 @@
 /** Whether a page may be framed: by `frame-ancestors`, and by X-Frame-Options where nothing enforces that. */
 import { why } from '../../js/index.js';
-import { PolicyList } from '../../js/propose/policy.js';
 import { Refusal } from '../../js/refusal.js';
 import { urlOf } from '../../js/readers/urls.js';
-import { headersText, readingBlocks } from '../reading.js';
+import { headersText, policiesIn, readingBlocks } from '../reading.js';
 import { say } from '../sentences.js';
 
 /**
@@ -38,11 +37,13 @@ export const frameOptions = (values, ancestors, origin) => {
   return ancestors.every(it => it === origin && it !== 'null') ? 'allows' : 'blocks';
 };
 
-/** @param {string[]} lines whether an enforced policy of a header decides who may frame the page */
-const hasAncestors = lines => {
-  const enforced = lines.filter(it => !/^[^:]*-report-only:|^meta-/i.test(it));
-  return new PolicyList(enforced).policies.flat().some(it => it.name === 'frame-ancestors');
-};
+/**
+ * Whether an enforced policy decides who may frame the page.
+ * @param {import('../../js/index.js').Program} program
+ * @param {string[]} lines
+ */
+const hasAncestors = (program, lines) => policiesIn(program, lines).some(it =>
+  it.disposition === 'enforce' && it.directives.some(of => of.name === 'frame-ancestors'));
 
 /** @param {string} text the addresses of the pages around it, the nearest first */
 const originsIn = text => text.split(/[\s,]+/).map(it => {
@@ -74,7 +75,7 @@ const optionsTold = (options, values, isIgnored) => {
 export const framed = (program, { embedder, origin, response, reading }) => {
   const ancestors = originsIn(embedder), headers = headersText(reading.lines);
   const [reason] = why(program, { origin, headers, requests: [{ kind: 'ancestors', ancestors }] });
-  const values = valuesIn(response), isIgnored = hasAncestors(reading.lines);
+  const values = valuesIn(response), isIgnored = hasAncestors(program, reading.lines);
   const options = frameOptions(values, ancestors, origin), isStopped = !isIgnored && options === 'blocks';
   const deciding = reason.policies.filter(it => it.directive === 'frame-ancestors');
   const tokens = deciding.flatMap(it => it.token ?? []);
@@ -85,7 +86,7 @@ export const framed = (program, { embedder, origin, response, reading }) => {
   const isReported = !reason.blocked && reason.items.length > 0;
   return {
     mood: 'plain', sentence, more: isReported ? [say('framedReported'), ...told] : told,
-    blocks: readingBlocks([reading]),
+    blocks: readingBlocks(program, [reading]),
     unseen: ["the embedder's own frame-src, and what it requires of frames: not looked at"],
     data: {
       ancestors, blocked: reason.blocked || isStopped, frameAncestors: reason,

@@ -15,7 +15,8 @@ export const required = (program, { embedder, origin, required: asked, response,
   const headers = headersText(asked.lines);
   const answer = embed(program, { embedder, origin, required: headers, response });
   const told = {
-    more: [say('embeddedBy', origin, embedder)], blocks: readingBlocks([asked, reading]), data: answer,
+    more: [say('embeddedBy', origin, embedder)], blocks: readingBlocks(program, [asked, reading]),
+    data: answer,
     unseen: ['whether the response may be framed at all: frame-ancestors and X-Frame-Options decide that'],
   };
   if (answer.answer === 'added') {

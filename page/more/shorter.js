@@ -22,7 +22,7 @@ export const shorter = (program, { origin, reading }) => {
     blocks: [
       ...copied(say('shorterHeaders'), found?.trimEnd(), { file: 'policy.txt' }),
       ...table(say('needed'), ['Directive', 'Word', 'It', 'As'], rows, { isFolded: true }),
-      ...readingBlocks([reading]),
+      ...readingBlocks(program, [reading]),
     ],
     data: { headers: found, needed },
   };
