@@ -22,8 +22,8 @@ export class Stopped extends Error {}
  * @param {string} text
  */
 const unpacked = async text => {
-  const { DecompressionStream } = /** @type {any} */ (globalThis);
-  const bytes = Uint8Array.from(atob(text), it => it.charCodeAt(0));
+  const { DecompressionStream, Uint8Array: Bytes } = /** @type {any} */ (globalThis);
+  const bytes = Bytes.fromBase64?.(text) ?? Uint8Array.from(atob(text), it => it.charCodeAt(0));
   return new Response(new Blob([bytes]).stream().pipeThrough(new DecompressionStream('gzip'))).arrayBuffer();
 };
 

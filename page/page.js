@@ -197,8 +197,15 @@ const show = () => {
   return stoppable(showGiven(asking));
 };
 
+/** The page as it was opened, without the data that its scripts take out of it. */
+const ownHtml = () => {
+  const copy = /** @type {HTMLElement} */ (document.documentElement.cloneNode(true));
+  for (const it of copy.querySelectorAll('script[type]')) it.textContent = '';
+  return copy.outerHTML;
+};
+
 const begin = async () => {
-  const html = document.documentElement.outerHTML;
+  const html = ownHtml();
   hearFields();
   hearKeys();
   hearDrops();
