@@ -38,6 +38,9 @@
  *   }} Answer
  */
 
+/** The column that tells what would allow a thing. */
+export const ALLOWING = 'To allow it';
+
 /** @param {Cell} cell */
 export const textOf = cell => typeof cell === 'string' ? cell : cell.text;
 

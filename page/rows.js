@@ -1,7 +1,7 @@
 /** What a policy doesn't allow, by directive and host: each group with its reason and what to do. */
 import { describe, describeText, hostOf } from '../js/describe.js';
 import { directiveText } from '../js/policies.js';
-import { code, groupedBy, ordinal } from './answer.js';
+import { ALLOWING, code, groupedBy, ordinal } from './answer.js';
 import { policiesIn } from './reading.js';
 import { say } from './sentences.js';
 
@@ -143,7 +143,7 @@ const groupOf = (program, rows) => {
   const [first] = rows, badge = badgeOf(first);
   return {
     mood: MOODS[badge], badge, directive: directivesOf(first), of: whatOf(first.piece), count: rows.length,
-    because: becauseOf(program, first), ...todoOf(rows), columns: ['What', 'Where', 'Which', 'To allow it'],
+    because: becauseOf(program, first), ...todoOf(rows), columns: ['What', 'Where', 'Which', ALLOWING],
     rows: rows.map(cellsOf),
   };
 };

@@ -1,5 +1,5 @@
 /** Shows an answer in the page. */
-import { counted, number, textOf } from './answer.js';
+import { ALLOWING, counted, number, textOf } from './answer.js';
 import { element, told } from './element.js';
 
 /**
@@ -34,8 +34,13 @@ const tableOf = (caption, columns, rows) => {
 
 const FEW = 3;
 
-/** @param {Cell[]} row the first of few, of which what stands in the last column is told above */
-const lineOf = row => element('p', { class: 'place' }, ...row.slice(0, -1).filter(it => textOf(it) !== '')
+/**
+ * One of few places as a line. What would allow it is told below.
+ * @param {Cell[]} row
+ * @param {string[]} columns
+ */
+const lineOf = (row, columns) => element('p', { class: 'place' }, ...row
+  .filter((it, n) => textOf(it) !== '' && columns[n] !== ALLOWING)
   .flatMap((it, n) => [...n === 0 ? [] : [' · '], ...cellContent(it)]));
 
 /**
@@ -43,7 +48,7 @@ const lineOf = row => element('p', { class: 'place' }, ...row.slice(0, -1).filte
  * @param {string} name
  */
 const placesOf = ({ columns, rows }, name) => {
-  if (rows.length <= FEW) return rows.map(lineOf);
+  if (rows.length <= FEW) return rows.map(it => lineOf(it, columns));
   const summary = element('summary', {}, counted(rows.length, 'place'));
   return [element('details', {}, summary, tableOf(name, columns, rows))];
 };
@@ -75,13 +80,13 @@ const matrixOf = ({ head, columns, rows, signs }) => {
   const heads = columns.map(it => element('th', { scope: 'col' }, element('span', {}, it)));
   const body = rows.map(it =>
     element('tr', {}, element('th', { scope: 'row' }, it.directive), ...it.signs.map(signCell)));
-  const table = element('table', {}, told('caption', head),
+  const table = element('table', {}, element('caption', { class: 'unseen' }, textOf(head)),
     element('thead', {}, element('tr', {}, element('td'), ...heads)), element('tbody', {}, ...body));
   const attributes = { 'class': 'wide', 'tabindex': '0', 'role': 'group', 'aria-label': textOf(head) };
   const key = signs.map(({ sign, mood = 'plain', means }) =>
     element('li', {}, element('span', { class: mood }, sign), ` ${means}`));
   const wide = element('div', attributes, table);
-  return element('figure', { class: 'matrix' }, wide, element('ul', { class: 'key' }, ...key));
+  return element('figure', {}, told('figcaption', head), wide, element('ul', { class: 'key' }, ...key));
 };
 
 /** @param {import('./answer.js').Code} block */
