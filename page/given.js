@@ -1,5 +1,7 @@
 /** What was given, in any form: headers, pages, recordings, reports, requests; and what it was taken for. */
 import { readHeaders } from '../js/readers/headers.js';
+// Not the browser's parser: it tells neither lines nor attributes that stand twice, and Chromium holds what it parses
+// against the page's own policy.
 import { parseHtml } from '../js/readers/parse5.js';
 import { kindOf, readSite } from '../js/readers/site.js';
 import { counted } from './answer.js';

@@ -53,16 +53,29 @@ const nearest = (folder, top, name) => {
 };
 
 /**
+ * The origin that counts for a pair.
+ * @param {string} folder
+ * @param {string} top
+ * @param {string | undefined} common the command line's
+ */
+const originOf = (folder, top, common) => {
+  const named = nearest(folder, top, 'origin.txt');
+  if (named !== undefined) return read(named, named).toString().trim();
+  if (common !== undefined) return common;
+  throw new Refusal(USAGE, { problem: `${folder}: no origin is given for it`,
+    hint: `Write ORIGIN behind weaker, or the origin into ${join(top, 'origin.txt')}.` });
+};
+
+/**
  * @param {import('../index.js').Program} program
  * @param {string} folder
  * @param {string} top
- * @param {{ origin: string, accepted: Accepted[] }} common
+ * @param {{ origin: string | undefined, accepted: Accepted[] }} common
  * @returns {Promise<Paired>}
  */
 const answerOf = async (program, folder, top, common) => {
   const paths = { new: join(folder, 'new.txt'), old: join(folder, 'old.txt') };
-  const lines = nearest(folder, top, 'accepted.txt'), named = nearest(folder, top, 'origin.txt');
-  const origin = named === undefined ? common.origin : read(named, named).toString().trim();
+  const lines = nearest(folder, top, 'accepted.txt'), origin = originOf(folder, top, common.origin);
   const pair = { name: relative(top, folder) || '.', origin, ...paths, line: 1, remarks: [] };
   try {
     const accepted = [...common.accepted, ...lines === undefined ? [] : acceptedIn(lines)];
@@ -81,7 +94,7 @@ const answerOf = async (program, folder, top, common) => {
  * The answers about all pairs of a folder.
  * @param {import('../index.js').Program} program
  * @param {string} top
- * @param {{ origin: string, accepted: Accepted[] }} common
+ * @param {{ origin: string | undefined, accepted: Accepted[] }} common
  */
 export const answersIn = async (program, top, common) => {
   const folders = pairsIn(top), answers = [];

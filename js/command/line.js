@@ -102,7 +102,9 @@ const placed = (word, given, positionals) => {
     const isSource = name === 'requests' && given[name] === undefined && left.length > 0;
     const value = given[name] ?? (isOpen || isSource ? undefined : left.shift());
     if (value !== undefined) values.push([name, value]);
-    else if (!isOpen && !isSource) throw misused(`${name.toUpperCase()} is missing`, word);
+    else if (!isOpen && !isSource && given.folder === undefined) {
+      throw misused(`${name.toUpperCase()} is missing`, word);
+    }
   }
   if (members.includes('lists')) left.splice(0).forEach((it, n) => values.push([`list ${n + 1}`, it]));
   for (const name of word.optional ?? []) {

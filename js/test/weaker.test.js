@@ -78,6 +78,9 @@ test('a folder of pairs, each with its origin and what it accepts', () => {
   assert.match(bad.stdout, /^shop\/cart +weaker +img-src$/m);
   assert.match(bad.stdout, /^3 pairs: 1 not weaker, 2 weaker or without an answer\.$/m);
   assert.equal(bad.status, 1);
+  const unnamed = guidecerise(['weaker', '--folder', join(folder, 'all')]);
+  assert.match(unnamed.stderr, /cart: no origin is given for it\n.*all\/origin\.txt/);
+  assert.equal(unnamed.status, 2);
   put('half/new.txt', STRICT);
   const half = guidecerise(['weaker', ORIGIN, '--folder', join(folder, 'half')]);
   assert.match(half.stderr, /new\.txt stands there without old\.txt/);
