@@ -30,7 +30,7 @@ class Person:
         self.browser, self.seen, self.links = kind(), set(), 0
         self.browser.look(1280, False)
         self.browser.open(url)
-        self.browser.wait("document.body?.dataset.own === 'judged'")
+        self.browser.wait("document.body?.dataset.own === 'judged' && document.body.dataset.answered > 0")
         self.note()
 
     def note(self):
