@@ -155,10 +155,11 @@ def seen_in(firefox, page):
 
 
 CAUSES = [
-    ("img-src http://", "browsers load an image of http by https on such a page, but tell a report-only policy of http"),
-    ("frame-src ", "a document in an object is a frame too in this browser, and no type of it was recorded"),
-    ("style-src-attr inline", "a style that a script sets, of which no recording tells"),
-    ("script-src eval", "a call in a text that the recording doesn't hold"),
+    ("Chromium", "img-src http://", "an image that it loads by https; a report-only policy is told of http"),
+    ("Firefox", "img-src http://", "an image that it would load by https, and asks the policy about by http"),
+    ("", "frame-src ", "a document in an object is a frame too in this browser, and no type of it was recorded"),
+    ("", "style-src-attr inline", "a style that a script sets, of which no recording tells"),
+    ("", "script-src eval", "a call in a text that the recording doesn't hold"),
 ]
 
 
@@ -195,7 +196,8 @@ class Row:
         yield f"{browser:8}  {policy:6}  {self.places:6}  {found:5}  {100 * found / max(1, self.places):4.0f}%  {len(self.false):5}"
         for page, *rest in self.missed:
             text = " ".join(map(str, rest))
-            cause = next((why for begin, why in CAUSES if text.startswith(begin)), "not known why")
+            cause = next((why for name, begin, why in CAUSES
+                          if name in ("", browser) and text.startswith(begin)), "not known why")
             yield f"    not found: {page} {text}: {cause}"
         for page, note in self.false:
             yield f"    not told by the browser: {page} {note}"
