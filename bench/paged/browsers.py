@@ -148,12 +148,12 @@ class Chromium(Browser):
 class Firefox(Browser):
     name = "Firefox"
 
-    def __init__(self, dark=False):
+    def __init__(self, preferences=None):
         super().__init__()
         told = {"marionette.port": 0, "browser.shell.checkDefaultBrowser": False, "browser.aboutwelcome.enabled": False,
                 "datareporting.policy.dataSubmissionEnabled": False, "network.captive-portal-service.enabled": False,
                 "network.connectivity-service.enabled": False, "app.update.enabled": False,
-                "browser.startup.homepage_override.mstone": "ignore"}
+                "browser.startup.homepage_override.mstone": "ignore", **(preferences or {})}
         lines = [f"user_pref({json.dumps(name)}, {json.dumps(value)});\n" for name, value in told.items()]
         Path(self.profile, "user.js").write_text("".join(lines))
         words = ["firefox-esr", "--headless", "--marionette", "--remote-allow-system-access", "--no-remote"]
@@ -168,7 +168,7 @@ class Firefox(Browser):
         self.socket, self.number = socket.create_connection(("127.0.0.1", int(port.read_text()))), 0
         self.rest = b""
         self.hear()
-        self.ask("WebDriver:NewSession", capabilities={"alwaysMatch": {"acceptInsecureCerts": True}})
+        self.ask("WebDriver:NewSession", acceptInsecureCerts=True)
         self.ask("WebDriver:SetTimeouts", script=600000, pageLoad=60000)
 
     def hear(self):

@@ -10,7 +10,6 @@ that policy, once enforced and once as a report-only one, and says itself what i
 import base64
 import json
 import shutil
-import socket
 import ssl
 import subprocess
 import tempfile
@@ -18,6 +17,8 @@ import threading
 import time
 from http.server import BaseHTTPRequestHandler, ThreadingHTTPServer
 from pathlib import Path
+
+from paged.browsers import Firefox
 
 from .browser import Chromium, Recorder
 from .trial import TOP, guidecerise, point
@@ -34,7 +35,7 @@ WATCH = f"""window.seenViolations = [];
 addEventListener("securitypolicyviolation", event => seenViolations.push(
     Object.fromEntries({json.dumps(NAMES)}.map(name => [name, event[name]]))));"""
 WATCHED = b'<head><script src="/watch.js" nonce="R4nd0mPerRequest"></script>'  # on the same line
-CLICK = """for (const it of document.querySelectorAll("a[href^='javascript:' i]")) it.click();"""
+CLICK = """document.querySelectorAll("a[href^='javascript:' i]").forEach(it => it.click())"""
 
 
 EMPTY = {"iframe": b"<!DOCTYPE html><title>frame</title>", "image": base64.b64decode("R0lGODlhAQABAAAAACwAAAAAAQABAAA=")}
@@ -128,73 +129,37 @@ def recorded(browser):
 
 PREFERENCES = {
     "network.dns.forceResolve": "127.0.0.2",
-    "network.captive-portal-service.enabled": False,
-    "network.connectivity-service.enabled": False,
-    "datareporting.policy.dataSubmissionEnabled": False,
-    "browser.aboutwelcome.enabled": False,
-    "browser.startup.homepage_override.mstone": "ignore",
     "dom.security.https_first": False,
-    "marionette.port": 28287,
-    "security.sandbox.content.level": 0,
+    "print.enabled": False,  # the dialog of a javascript: URL that prints would hold the page
 }
+STATE = "[seenViolations.length, performance.getEntriesByType('resource').length]"
 
 
-class Firefox:
-    """A headless Firefox, steered by Marionette. A script of the page keeps the violations."""
+def settled(firefox, quiet=2, most=60):
+    """Waits until for so many seconds a page tells no new violation and no new answer."""
+    state, since = None, time.monotonic()
+    end = since + most
+    while time.monotonic() < min(since + quiet, end):
+        time.sleep(0.2)
+        if (now := firefox.run(STATE)) != state:
+            state, since = now, time.monotonic()
 
-    def __init__(self, folder):
-        profile = Path(folder) / "firefox"
-        profile.mkdir()
-        lines = (f"user_pref({json.dumps(name)}, {json.dumps(value)});\n" for name, value in PREFERENCES.items())
-        (profile / "user.js").write_text("".join(lines))
-        words = ["firefox-esr", "--headless", "--no-remote", "--marionette", "--profile", str(profile)]
-        self.process = subprocess.Popen(words, stdout=subprocess.DEVNULL, stderr=subprocess.DEVNULL)
-        self.sent, self.rest = 0, b""
-        end = time.monotonic() + 120
-        while True:
-            try:
-                self.socket = socket.create_connection(("127.0.0.1", PREFERENCES["marionette.port"]), timeout=120)
-                break
-            except OSError:
-                if time.monotonic() > end:
-                    raise
-                time.sleep(0.5)
-        self.message()
-        self.ask("WebDriver:NewSession", acceptInsecureCerts=True, pageLoadStrategy="none")
 
-    def message(self):
-        """A message: its length, a colon, and JSON."""
-        while b":" not in self.rest:
-            self.rest += self.socket.recv(1 << 16)
-        length, _, self.rest = self.rest.partition(b":")
-        while len(self.rest) < int(length):
-            self.rest += self.socket.recv(1 << 16)
-        text, self.rest = self.rest[: int(length)], self.rest[int(length) :]
-        return json.loads(text)
-
-    def ask(self, method, **params):
-        self.sent += 1
-        text = json.dumps([0, self.sent, method, params]).encode()
-        self.socket.sendall(str(len(text)).encode() + b":" + text)
-        _, _, error, result = self.message()
-        if error:
-            raise ValueError(f"firefox: {error}")
-        return result
-
-    def seen(self, page):
-        self.ask("WebDriver:Navigate", url=f"{ORIGIN}/{page}")
-        time.sleep(6)
-        self.ask("WebDriver:ExecuteScript", script=CLICK, args=[])
-        time.sleep(1)
-        told = self.ask("WebDriver:ExecuteScript", script="return window.seenViolations || []", args=[])
-        return json.loads(json.dumps(told["value"]))
+def seen_in(firefox, page):
+    """The violations that a script of the page keeps in Firefox, when the page is loaded, and its links clicked."""
+    firefox.open(f"{ORIGIN}/{page}")
+    settled(firefox)
+    firefox.run(CLICK)
+    settled(firefox)
+    return firefox.run("seenViolations")
 
 
 CAUSES = [
-    ("img-src http://", "browsers load an image of http by https on such a page, but tell a report-only policy of http"),
-    ("frame-src ", "a document in an object is a frame too in this browser, and no type of it was recorded"),
-    ("style-src-attr inline", "a style that a script sets, of which no recording tells"),
-    ("script-src eval", "a call in a text that the recording doesn't hold"),
+    ("Chromium", "img-src http://", "an image that it loads by https; a report-only policy is told of http"),
+    ("Firefox", "img-src http://", "an image that it would load by https, and asks the policy about by http"),
+    ("", "frame-src ", "a document in an object is a frame too in this browser, and no type of it was recorded"),
+    ("", "style-src-attr inline", "a style that a script sets, of which no recording tells"),
+    ("", "script-src eval", "a call in a text that the recording doesn't hold"),
 ]
 
 
@@ -231,7 +196,8 @@ class Row:
         yield f"{browser:8}  {policy:6}  {self.places:6}  {found:5}  {100 * found / max(1, self.places):4.0f}%  {len(self.false):5}"
         for page, *rest in self.missed:
             text = " ".join(map(str, rest))
-            cause = next((why for begin, why in CAUSES if text.startswith(begin)), "not known why")
+            cause = next((why for name, begin, why in CAUSES
+                          if name in ("", browser) and text.startswith(begin)), "not known why")
             yield f"    not found: {page} {text}: {cause}"
         for page, note in self.false:
             yield f"    not told by the browser: {page} {note}"
@@ -269,8 +235,8 @@ def the_shop_is_found():
             headers = policies(recording)
             browsers = {"Chromium": lambda page: Visit(chromium, page).seen}
             if shutil.which("firefox-esr") and server.server_address[1] == 443:
-                firefox = Firefox(folder)
-                browsers["Firefox"] = firefox.seen
+                firefox = Firefox(PREFERENCES)
+                browsers["Firefox"] = lambda page: seen_in(firefox, page)
             for browser, seen in browsers.items():
                 for name, header in headers.items():
                     row = Row(folder, har, header, told_under(header, server, seen))
@@ -279,9 +245,10 @@ def the_shop_is_found():
                         print(line, flush=True)
                         lines.append(line)
         finally:
-            for process in (chromium.process, *([firefox.process] if firefox else [])):
-                process.terminate()
-                process.wait(20)
+            chromium.process.terminate()
+            chromium.process.wait(20)
+            if firefox:
+                firefox.close()
             server.shutdown()
     places, missed = sum(it.places for it in rows), sum(len(it.missed) for it in rows)
     lines.append(f"all                {places:6}  {places - missed:5}  {100 * (places - missed) / places:4.0f}%  "

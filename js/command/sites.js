@@ -265,7 +265,8 @@ const plainAnswer = (answers, said) => answers.map(({ page, judged }) => {
   const { file, url, origin, role = 'page', isEnforced: recordedUnderPolicy = false } = page;
   const items = judged.map(({ piece, answer }) => {
     const { request, line, column, possible = false } = piece;
-    return { ...answer, request, line, column, possible, ...said ? { browser: said.has(piece) } : {} };
+    const own = { request, line, column, possible, ...said ? { browser: said.has(piece) } : {} };
+    return Object.assign({}, answer, own); // in V8 several times as fast as { ...answer, .. }
   });
   return { file, url, origin, role, recordedUnderPolicy, items };
 });

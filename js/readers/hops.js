@@ -40,7 +40,7 @@ const DESTINATIONS = ['', 'audio', 'audioworklet', 'embed', 'font', 'frame', 'if
  * @param {string} name
  */
 export const header = (headers, name) =>
-  (Array.isArray(headers) ? headers : []).find(it => asciiLower(String(it?.name)) === name)?.value ?? null;
+  (Array.isArray(headers) ? headers : []).find(it => String(it?.name).toLowerCase() === name)?.value ?? null;
 
 /** @param {any} entry */
 const redirected = ({ request, response }) => {
@@ -108,7 +108,8 @@ const timeOf = ({ startedDateTime }) => Date.parse(startedDateTime) || 0;
  * @param {any[]} entries
  */
 const hopsOf = entries => {
-  const timed = entries.filter(it => !isPreflight(it) && !isReport(it)).sort((a, b) => timeOf(a) - timeOf(b));
+  const timed = entries.filter(it => !isPreflight(it) && !isReport(it))
+    .map(it => ({ it, time: timeOf(it) })).sort((a, b) => a.time - b.time).map(({ it }) => it);
   const firsts = new Map();
   for (const it of timed) if (!firsts.has(it.pageref ?? null)) firsts.set(it.pageref ?? null, it);
   return timed.map(it => hopOf(it, firsts.get(it.pageref ?? null) === it));
