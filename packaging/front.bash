@@ -28,29 +28,32 @@ response may be shown, and 1 where not. Above 1 the answer is a fault, which sta
 TEXT
 }
 
+# The words behind a command, as the help has them.
+words_of() { help | sed -n "s/^  csp ${1:-.} \([A-Z ]*[A-Z]\).*/\1/p"; }
+
 # Says how a command is called, or where to find all of them.
 tell_usage() {
-    local line
-    line=$(help | sed -n "s/^  \(csp $1 [A-Z ]*[A-Z]\).*/\1/p")
-    say "usage: ${line:-csp COMMAND ..; csp --help lists the commands}"
+    local words
+    words=$(words_of "$1")
+    if [ "$words" ]; then say "usage: csp $1 $words"; else say 'usage: csp COMMAND ..; csp --help lists the commands'; fi
 }
 
 # Says which file each role is that standard output may name, and which of them can't be read.
 tell_files() {
-    local role roles word at=0
-    case ${1-} in
-        judge | why | report) roles=(- policy requests) ;;
-        compare | differ) roles=(- first second) ;;
-        check) roles=(- first second proof) ;;
-        embed) roles=(- - required response) ;;
-        tidy | read) roles=(- policy) ;;
-        learn) roles=(- requests) ;;
-        *) roles=(-) ;;
-    esac
+    local words role word at=0
+    read -ra words <<<"$(words_of "${1-}")"
     for word in "${@:2}"; do
-        role=${roles[at]-list $at}
+        role=${words[at]-LISTS}
+        case $role in
+            NEW) role=first ;;
+            OLD) role=second ;;
+            LISTS) role="list $at" ;;
+        esac
         at=$((at + 1))
-        [ "$role" = - ] || say "$role: $word$([ -r "$word" ] || echo ', which is not there or may not be read')"
+        case $role in
+            ORIGIN | EMBEDDER | N) ;;
+            *) say "${role,,}: $word$([ -r "$word" ] || echo ', which is not there or may not be read')" ;;
+        esac
     done
 }
 

@@ -37,6 +37,12 @@ test('what the documents show is answered so', () => {
   }
 });
 
+test('the help that stands in front of the program lists its commands', () => {
+  const told = contentOf('packaging/front.bash').toString().match(/^  csp [a-z]+( [A-Z]+)+/gm)
+    .map(it => it.slice('  csp '.length).replace('NEW OLD', 'FIRST SECOND'));
+  assert.deepEqual(told.sort(), ask([], TOP).text.match(/[a-z]+( [A-Z]+)+/g).sort());
+});
+
 test('a module, its bytes and a view of them give an engine', async () => {
   const bytes = contentOf('dist/engine.wasm'), module = await WebAssembly.compile(bytes);
   for (const given of [module, bytes, new Uint8Array(bytes).buffer]) {
