@@ -24,7 +24,7 @@ URLS = ["https://a.example/x.png", "https://b.example:8443/a/b?q", "http://x.b.e
 
 KINDS = ["fetch"] * 3 + ["inline", "eval", "wasm", "base", "form", "ancestors", "capability", "worker-start"]
 VERBS = ["judge", "judge", "report", "compare", "compare", "check", "embed", "tidy", "learn", "order", "drill"]
-VERBS += ["usage", "why", "differ", "missing"]
+VERBS += ["usage", "why", "differ", "missing", "read"]
 
 
 class Maker:
@@ -92,8 +92,8 @@ class Maker:
             return [verb, self.pick(ORIGINS), origin, "p", "q"], [("p", required), ("q", response)]
         if verb == "order":
             return [verb, origin, "p", "q", "p"], [("p", a), ("q", b)]
-        if verb in ("tidy", "learn"):
-            return [verb, origin, "p"], [("p", a if verb == "tidy" else self.requests())]
+        if verb in ("tidy", "learn", "read"):
+            return [verb, origin, "p"], [("p", self.requests() if verb == "learn" else a)]
         if verb == "drill":
             return [verb, self.pick("1", "2", "7", "12", "0", "007", "201", "x")], []
         if verb == "missing":
@@ -131,12 +131,12 @@ def example_cases():
     return cases
 
 
-def answer(words, files):
-    """The program's status and output."""
+def answer(words, files, program=PROGRAM):
+    """The status and output of a program: the one that is tried, where none is named."""
     with tempfile.TemporaryDirectory() as room:
         for name, data in files:
             Path(room, name).write_bytes(data)
-        done = subprocess.run([PROGRAM, *words], cwd=room, capture_output=True)
+        done = subprocess.run([program, *words], cwd=room, capture_output=True)
     return [done.returncode, base64.b64encode(done.stdout).decode()]
 
 
