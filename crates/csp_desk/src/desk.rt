@@ -1,5 +1,5 @@
 //! A desk of reporters.
-ghost use Rattle.std.specs.Prelude.{◌≡◌, ◌<◌, ◌≤◌, ◌^◌, ◌∷◌, ◌++◌, [], length, map, OnOk, OnErr, IfOk, IfErr};
+ghost use Rattle.std.specs.Prelude.{◌≡◌, ◌<◌, ◌≤◌, ◌^◌, ◌∷◌, ◌++◌, ℕ, [], length, map, OnOk, OnErr, IfOk, IfErr};
 ghost use Rattle.std.specs.Prelude.{IsErrOf, IsTrue};
 ghost use Rattle.std.specs.List.{flat_map};
 ghost use Rattle.csp_io.specs.Told.{Rose};
@@ -38,6 +38,7 @@ fn accept_by(
     ensures refused { OnErr result (held reporter.new ≡ held reporter.old) }
     ensures may { IsErrOf result AcceptError.Refused → IsTrue (may_refuse reporter.old) }
     ensures cause { IsErrOf result AcceptError.Refused → Rose (faults reporter.old) (faults reporter.new) }
+    ensures no_fault { (IsErrOf result AcceptError.Refused → ⊥) → faults reporter.new ≡ faults reporter.old }
 {
     reporter.accept(alloc, violation)
 }
@@ -58,6 +59,8 @@ fn hand_each(
     ensures stopped { IfErr result (λ e. StopsAt e (violation.now ∷ [])
         (map (λ b. held b) desk.old) (map (λ b. held b) desk.new)
         (map (λ b. faults b) desk.old) (map (λ b. faults b) desk.new)) }
+    ensures no_fault { ((n : ℕ) → IsErrOf result (DeskError.Refused n) → ⊥)
+        → map (λ b. faults b) desk.new ≡ map (λ b. faults b) desk.old }
 {
     for (place, reporter) in desk.iter_mut().enumerate() {
         match accept_by(alloc, reporter, violation) {
@@ -92,6 +95,8 @@ pub fn hand_out(
     ensures stopped { IfErr result (λ e. StopsAt e violations.now
         (map (λ b. held b) desk.old.items) (map (λ b. held b) desk.new.items)
         (map (λ b. faults b) desk.old.items) (map (λ b. faults b) desk.new.items)) }
+    ensures no_fault { ((n : ℕ) → IsErrOf result (DeskError.Refused n) → ⊥)
+        → map (λ b. faults b) desk.new.items ≡ map (λ b. faults b) desk.old.items }
 {
     for violation in violations.as_slice() {
         hand_each(alloc, desk.as_mut_slice(), violation)?;

@@ -63,6 +63,8 @@ impl Reporter for FailingLines {
         ensures refused { OnErr result (failing_held self.new ≡ failing_held self.old) }
         ensures cause { IsErrOf result AcceptError.Refused
             → Rose (failing_faults self.old) (failing_faults self.new) }
+        ensures no_fault { (IsErrOf result AcceptError.Refused → ⊥)
+            → failing_faults self.new ≡ failing_faults self.old }
 
         // It refuses exactly the calls that it was told.
         ensures fails { IsErrOf result AcceptError.Refused

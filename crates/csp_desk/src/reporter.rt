@@ -78,7 +78,8 @@ pub trait Reporter: Drop {
         ensures took { OnOk result (held self.new ≡ held self.old ++ violation.now ∷ []) }
         ensures refused { OnErr result (held self.new ≡ held self.old) }
         ensures may { IsErrOf result AcceptError.Refused → IsTrue (may_refuse self.old) }
-        ensures cause { IsErrOf result AcceptError.Refused → Rose (faults self.old) (faults self.new) };
+        ensures cause { IsErrOf result AcceptError.Refused → Rose (faults self.old) (faults self.new) }
+        ensures no_fault { (IsErrOf result AcceptError.Refused → ⊥) → faults self.new ≡ faults self.old };
 
     /// What a reporter of its kind tells of what it holds.
     fn text(&self, alloc: Global) -> Result<Bytes, Memory>

@@ -1,5 +1,5 @@
 -- A reporter took its turn, or it stopped there.
-use Rattle.std.proofs.Common.{◌<◌, length, arith, ap, ◌∙◌, Err}
+use Rattle.std.proofs.Common.{◌<◌, length, arith, ap, refl, ◌∙◌, Err}
 use Rattle.std.proofs.lemmas.List.{length-map}
 use Rattle.csp_desk.proofs.Turns.{same-turn, NoneFell-turn, took-turn, stopped-turn, Rose-turn, MayRefuse-turn, StopsAt-refused}
 use Rattle.csp_desk.proofs.desk.hand_each.Goals as goal
@@ -23,6 +23,9 @@ returns-in-Err-Refused-clause-later g c =
     let within : c.loop-place.place < length c.loop-place.desk = omega (arith, c.loop-place-test.true, c.loop-place.auto.desk) in
     NoneFell-turn _ _ _ _ _ _ c.loop-place.invariant.later within c.accept_by.ensures.later
 
+pub returns-in-Err-Refused-clause-no_fault : goal.returns-in-Err-Refused-clause-no_fault
+returns-in-Err-Refused-clause-no_fault g c none = absurd (none _ refl)
+
 pub returns-in-Err-Refused-clause-stopped : goal.returns-in-Err-Refused-clause-stopped
 returns-in-Err-Refused-clause-stopped g c =
     let within : c.loop-place.place < length c.loop-place.desk = omega (arith, c.loop-place-test.true, c.loop-place.auto.desk) in
@@ -43,6 +46,11 @@ returns-in-Err-Memory-clause-later g c =
     let within : c.loop-place.place < length c.loop-place.desk = omega (arith, c.loop-place-test.true, c.loop-place.auto.desk) in
     NoneFell-turn _ _ _ _ _ _ c.loop-place.invariant.later within c.accept_by.ensures.later
 
+pub returns-in-Err-Memory-clause-no_fault : goal.returns-in-Err-Memory-clause-no_fault
+returns-in-Err-Memory-clause-no_fault g c none =
+    same-turn _ _ _ _ _ _ c.loop-place.invariant.no_fault
+    (c.accept_by.ensures.no_fault (λ refused. cc (refused, c.in-Err-Memory.is, c.in-Err-Memory.field-0-is)))
+
 pub returns-in-Err-Memory-clause-stopped : goal.returns-in-Err-Memory-clause-stopped
 returns-in-Err-Memory-clause-stopped g c = (
   0,
@@ -60,5 +68,6 @@ loop-place-preserved g c =
       same_may_refuse =
           same-turn _ _ _ _ _ _ c.loop-place.invariant.same_may_refuse c.accept_by.ensures.same_may_refuse;
       later = NoneFell-turn _ _ _ _ _ _ c.loop-place.invariant.later within c.accept_by.ensures.later;
+      no_fault = same-turn _ _ _ _ _ _ c.loop-place.invariant.no_fault (c.accept_by.ensures.no_fault (λ refused. cc (refused, c.in-Ok.is)));
       took = took-turn _ _ _ _ _ _ _ c.loop-place.invariant.took within c.loop-place.auto.desk c.in-Ok.ensures.took;
     }

@@ -11,6 +11,8 @@ invariant-loop-place g l = record {
       ≡ map (λ b. (goal.Reporter-dyn g (b.vtable, b.value)).may_refuse b.value) l.fn.desk;
   later : NoneFell (map (λ b. (goal.Reporter-dyn g (b.vtable, b.value)).faults b.value) l.fn.desk)
       (map (λ b. (goal.Reporter-dyn g (b.vtable, b.value)).faults b.value) l.desk);
+  no_fault : map (λ b. (goal.Reporter-dyn g (b.vtable, b.value)).faults b.value) l.desk
+      ≡ map (λ b. (goal.Reporter-dyn g (b.vtable, b.value)).faults b.value) l.fn.desk;
   took : map (λ b. (goal.Reporter-dyn g (b.vtable, b.value)).held b.value) l.desk
       ≡ all_grown (l.violation ∷ []) (take l.place (map (λ b. (goal.Reporter-dyn g (b.vtable, b.value)).held b.value) l.fn.desk))
       ++ drop l.place (map (λ b. (goal.Reporter-dyn g (b.vtable, b.value)).held b.value) l.fn.desk);

@@ -10,6 +10,7 @@ loop-violation-init g c = record {
   same_kinds = refl;
   same_may_refuse = refl;
   later = λ k. omega arith;
+  no_fault = refl;
   took = sym (all_grown-nil _);
 }
 
@@ -33,10 +34,12 @@ loop-violation-preserved g c =
     let kinds = rw c.as_mut_slice.ensures.value at c.in_ok-hand_each.ensures.same_kinds in
     let may = rw c.as_mut_slice.ensures.value at c.in_ok-hand_each.ensures.same_may_refuse in
     let later = rw c.as_mut_slice.ensures.value at c.in_ok-hand_each.ensures.later in
+    let none = rw c.as_mut_slice.ensures.value at (c.hand_each.ensures.no_fault (λ n refused. cc (refused, c.in_ok-hand_each.is))) in
     let took = rw c.as_mut_slice.ensures.value at c.in_ok-hand_each.ensures.took in
     rw whole (record {
       same_kinds = kinds ∙ c.loop-violation.invariant.same_kinds;
       same_may_refuse = may ∙ c.loop-violation.invariant.same_may_refuse;
       later = NoneFell-trans _ _ _ c.loop-violation.invariant.later later;
+      no_fault = none ∙ c.loop-violation.invariant.no_fault;
       took = all_grown-turn _ c.loop-violation.violation-index _ _ _ _ c.loop-violation-test.true c.violation-item.is c.loop-violation.invariant.took took;
     })

@@ -11,6 +11,8 @@ invariant-loop-violation g l = record {
       ≡ map (λ b. (goal.Reporter-dyn g (b.vtable, b.value)).may_refuse b.value) l.fn.desk.items;
   later : NoneFell (map (λ b. (goal.Reporter-dyn g (b.vtable, b.value)).faults b.value) l.fn.desk.items)
       (map (λ b. (goal.Reporter-dyn g (b.vtable, b.value)).faults b.value) l.desk.items);
+  no_fault : map (λ b. (goal.Reporter-dyn g (b.vtable, b.value)).faults b.value) l.desk.items
+      ≡ map (λ b. (goal.Reporter-dyn g (b.vtable, b.value)).faults b.value) l.fn.desk.items;
   took : map (λ b. (goal.Reporter-dyn g (b.vtable, b.value)).held b.value) l.desk.items
       ≡ all_grown (take l.violation-index l.violation-items) (map (λ b. (goal.Reporter-dyn g (b.vtable, b.value)).held b.value) l.fn.desk.items);
 }
