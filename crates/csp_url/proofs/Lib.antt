@@ -1,4 +1,4 @@
 mod Examples
 pub mod PathText
 pub mod ShownUrls
-mod Valid
+pub mod Valid

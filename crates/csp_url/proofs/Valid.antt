@@ -142,7 +142,7 @@ url_valid text there h = let c = and_then_some (parts_of text) url_from there h 
 
 -- Parts
 
-hosted_of_parts_valid : (scheme : Scheme) (host : Option (List ℕ)) (port : Option ℕ) (path : List ℕ) (there : Url) → hosted_of_parts scheme host port path ≡ Ok there → IsValidUrl there
+pub hosted_of_parts_valid : (scheme : Scheme) (host : Option (List ℕ)) (port : Option ℕ) (path : List ℕ) (there : Url) → hosted_of_parts scheme host port path ≡ Ok there → IsValidUrl there
 hosted_of_parts_valid scheme host port path there h =
     let a = or_bad_ok (given_host host) part.Host _ there h in
     let b = or_bad_ok (given_port scheme port) part.Port _ there a.2 in

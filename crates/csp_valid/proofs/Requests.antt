@@ -34,7 +34,8 @@ use Rattle.csp_url.specs.Parts.{url_of_parts}
 use Rattle.csp_url.specs.Reading.{url_of}
 use Rattle.csp_url.specs.declared.strip.ShownUrl.{ShownUrl}
 use Rattle.csp_valid.specs.ValidUrls.{HasValidUrl, HaveValidUrls}
-use Rattle.csp_valid.proofs.Urls.{parts_url_valid, url_valid}
+use Rattle.csp_url.proofs.Valid.{url_valid}
+use Rattle.csp_valid.proofs.Urls.{parts_url_valid}
 
 -- Steps
 
