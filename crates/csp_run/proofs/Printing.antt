@@ -3,7 +3,7 @@ use Rattle.std.proofs.Common.{◌≡◌, ◌≢◌, ℕ, List, Result, Ok, Err, 
 use Rattle.csp_desk.specs.declared.reporter.Kind.{Kind}
 use Rattle.csp_model.specs.declared.verdict.Violation.{Violation}
 use Rattle.csp_run.specs.declared.fault.Fault.{Fault}
-use Rattle.csp_run.specs.declared.fault.Fault.TheVariants.{Memory, Read}
+use Rattle.csp_run.specs.declared.fault.Fault.TheVariants.{Memory, Read, Refused}
 use Rattle.csp_run.specs.declared.output.Outcome.{Outcome}
 use Rattle.csp_run.specs.declared.output.Outcome.TheVariants.{Text, Reporters}
 use Rattle.csp_run.specs.declared.printed.Printed.{Printed}
@@ -37,4 +37,6 @@ printed_due w d words kinds helds found printed due same_kinds same_helds is fau
   grown = due.grown;
   no_fault = λ other. due.no_fault (λ file same.
       other file (ap printed_end (faulty (Read file) (fault_behind d.kinds d.held_now found (Read file) same))));
+  none_refused = λ other. due.none_refused (λ n same.
+      other n (ap printed_end (faulty (Refused n) (fault_behind d.kinds d.held_now found (Refused n) same))));
 }

@@ -66,6 +66,7 @@ fn write_pieces<S: Sink>(out: &mut S, pieces: &[&str]) -> Result<(), Failed>
         (GrewByPrefix (S.taken out.old) (S.taken out.new) (flat_map (λ piece. piece.now) pieces.now)) }
     ensures later { S.faults out.old ≤ S.faults out.new }
     ensures cause { OnErr result (Rose (S.faults out.old) (S.faults out.new)) }
+    ensures no_fault { OnOk result (S.faults out.new ≡ S.faults out.old) }
 {
     for piece in pieces {
         match write_all(out, piece.as_bytes()) {
@@ -145,6 +146,7 @@ pub fn write_fault<S: Sink>(out: &mut S, fault: Fault) -> Result<(), Failed>
         (GrewByPrefix (S.taken out.old) (S.taken out.new) (texts.fault_text fault)) }
     ensures later { S.faults out.old ≤ S.faults out.new }
     ensures cause { OnErr result (Rose (S.faults out.old) (S.faults out.new)) }
+    ensures no_fault { OnOk result (S.faults out.new ≡ S.faults out.old) }
 {
     let mut list = Buffer::new();
     let mut digits = Buffer::new();

@@ -27,6 +27,7 @@ fn put<S: Sink>(out: &mut S, gathered: &mut Vec<u8>, piece: &[u8]) -> Result<(),
         (GrewByPrefix (S.taken out.old) (S.taken out.new) (gathered.old.items ++ piece.now)) }
     ensures later { S.faults out.old ≤ S.faults out.new }
     ensures cause { OnErr result (Rose (S.faults out.old) (S.faults out.new)) }
+    ensures no_fault { OnOk result (S.faults out.new ≡ S.faults out.old) }
 {
     if gather(gathered, piece) {
         return Ok(());
@@ -46,6 +47,7 @@ fn put_pieces<S: Sink>(out: &mut S, gathered: &mut Vec<u8>, pieces: &[&[u8]]) ->
         (gathered.old.items ++ flat_map (λ piece. piece.now) pieces.now)) }
     ensures later { S.faults out.old ≤ S.faults out.new }
     ensures cause { OnErr result (Rose (S.faults out.old) (S.faults out.new)) }
+    ensures no_fault { OnOk result (S.faults out.new ≡ S.faults out.old) }
 {
     for piece in pieces {
         match put(out, gathered, piece) {
@@ -67,6 +69,7 @@ fn put_telling<S: Sink>(
         (gathered.old.items ++ telling_text telling.now)) }
     ensures later { S.faults out.old ≤ S.faults out.new }
     ensures cause { OnErr result (Rose (S.faults out.old) (S.faults out.new)) }
+    ensures no_fault { OnOk result (S.faults out.new ≡ S.faults out.old) }
 {
     match telling {
         Telling::Made(made) => put(out, gathered, made.as_slice()),
@@ -85,6 +88,7 @@ fn put_section<S: Sink>(
         (gathered.old.items ++ section_text section.now)) }
     ensures later { S.faults out.old ≤ S.faults out.new }
     ensures cause { OnErr result (Rose (S.faults out.old) (S.faults out.new)) }
+    ensures no_fault { OnOk result (S.faults out.new ≡ S.faults out.old) }
 {
     match put(out, gathered, section.heading.as_bytes()) {
         Err(failed) => return Err(failed),
@@ -104,6 +108,7 @@ fn put_sections<S: Sink>(
         (gathered.old.items ++ flat_map section_text sections.now)) }
     ensures later { S.faults out.old ≤ S.faults out.new }
     ensures cause { OnErr result (Rose (S.faults out.old) (S.faults out.new)) }
+    ensures no_fault { OnOk result (S.faults out.new ≡ S.faults out.old) }
 {
     for section in sections {
         match put_section(out, gathered, section) {
@@ -126,6 +131,7 @@ pub(crate) fn write_sections<S: Sink>(
         (GrewByPrefix (S.taken out.old) (S.taken out.new) (flat_map section_text sections.now)) }
     ensures later { S.faults out.old ≤ S.faults out.new }
     ensures cause { OnErr result (Rose (S.faults out.old) (S.faults out.new)) }
+    ensures no_fault { OnOk result (S.faults out.new ≡ S.faults out.old) }
 {
     let mut gathered = Vec::new(alloc);
     match put_sections(out, &mut gathered, sections) {

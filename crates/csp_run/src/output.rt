@@ -1,5 +1,5 @@
 //! What each command prints of what its files hold.
-ghost use Rattle.std.specs.Prelude.{◌≡◌, ◌≢◌, ◌⊎◌, ◌≤◌, ◌<◌, ◌^◌, IsTrue, All, length, map, List as Items};
+ghost use Rattle.std.specs.Prelude.{◌≡◌, ◌≢◌, ◌⊎◌, ◌≤◌, ◌<◌, ◌^◌, IsTrue, All, ℕ, length, map, List as Items};
 ghost use Rattle.csp_desk.specs.Growth.{NoneFell};
 ghost use Rattle.csp_desk.specs.declared.reporter.Kind.{Kind};
 ghost use Rattle.csp_model.specs.Policies.{IsReadable};
@@ -8,6 +8,7 @@ ghost use Rattle.csp_run.specs.Desk.{desk as lent, IsUntouched};
 ghost use Rattle.csp_run.specs.Files.{file_limit};
 ghost use Rattle.csp_run.specs.Outputs.{GrewOn, IsCheck, IsOutput};
 ghost use Rattle.csp_run.specs.Shown.{fits, IsSound, end_of};
+ghost use Rattle.csp_run.specs.declared.fault.Fault.TheVariants as fault;
 
 use crate::fault::{Fault, Role};
 use crate::files::Content;
@@ -51,6 +52,8 @@ pub(crate) fn output(
     ensures grown { let d = lent (λ b. kind b) (λ b. may_refuse b) (λ b. held b) (λ b. faults b)
         desk.old.items desk.new.items in
         IsUntouched d ⊎ GrewOn plan.now.form contents.now d }
+    ensures none_refused { ((n : ℕ) → result ≢ Err (fault.Refused n))
+        → map (λ b. faults b) desk.new.items ≡ map (λ b. faults b) desk.old.items }
     ensures kinds { map (λ b. kind b) desk.new.items ≡ map (λ b. kind b) desk.old.items }
     ensures may_refuse { map (λ b. may_refuse b) desk.new.items
         ≡ map (λ b. may_refuse b) desk.old.items }

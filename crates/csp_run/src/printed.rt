@@ -60,6 +60,7 @@ pub(crate) fn write_printed<S: Sink>(
         (GrewByPrefix (S.taken out.old) (S.taken out.new) (printed_as printed.now).text) }
     ensures later { S.faults out.old ≤ S.faults out.new }
     ensures cause { OnErr result (Rose (S.faults out.old) (S.faults out.new)) }
+    ensures no_fault { OnOk result (S.faults out.new ≡ S.faults out.old) }
 {
     match printed {
         Printed::Text(built) => write_all(out, built.text.as_slice()),

@@ -1,5 +1,5 @@
 //! What `report` does: it hands the violations of each request to a desk, whose reporters then tell of them.
-ghost use Rattle.std.specs.Prelude.{◌≡◌, ◌≢◌, ◌⊎◌, ◌≤◌, ◌<◌, ◌^◌, IfErr, OnOk, length, map, Ok, List as Items};
+ghost use Rattle.std.specs.Prelude.{◌≡◌, ◌≢◌, ◌⊎◌, ◌≤◌, ◌<◌, ◌^◌, IfErr, IsErrOf, OnOk, ℕ, length, map, Ok, List as Items};
 ghost use Rattle.csp_desk.specs.Growth.{GrewInPart, NoneFell, all_grown};
 ghost use Rattle.csp_model.specs.Policies.{IsReadable};
 ghost use Rattle.csp_model.specs.declared.verdict.Violation.{Violation};
@@ -8,6 +8,7 @@ ghost use Rattle.csp_run.specs.Desk.{desk as lent, IsUntouched};
 ghost use Rattle.csp_run.specs.Outputs.{IsReportOn};
 ghost use Rattle.csp_run.specs.Reports.{IsReport, all_violations, violations_in};
 ghost use Rattle.csp_run.specs.Shown.{HasStopped, end_of};
+ghost use Rattle.csp_run.specs.declared.fault.Fault.TheVariants as fault;
 
 use crate::fault::Fault;
 use crate::output::Outcome;
@@ -68,6 +69,8 @@ pub(crate) fn report(
         desk.old.items desk.new.items in
         IsUntouched d ⊎ ((all : Items Violation) × (violations_in list.now (requests_of bytes.now) ≡ Ok all)
         × GrewInPart all d.held_before d.held_now) }
+    ensures none_refused { ((n : ℕ) → result ≢ Err (fault.Refused n))
+        → map (λ b. faults b) desk.new.items ≡ map (λ b. faults b) desk.old.items }
     ensures kinds { map (λ b. kind b) desk.new.items ≡ map (λ b. kind b) desk.old.items }
     ensures may_refuse { map (λ b. may_refuse b) desk.new.items
         ≡ map (λ b. may_refuse b) desk.old.items }
@@ -97,6 +100,8 @@ fn report_each(
         (end_of d.kinds d.held_now result) }
     ensures grown { GrewInPart (all_violations list.now requests.now)
         (map (λ b. held b) desk.old.items) (map (λ b. held b) desk.new.items) }
+    ensures none_refused { ((n : ℕ) → result ≢ Err (fault.Refused n))
+        → map (λ b. faults b) desk.new.items ≡ map (λ b. faults b) desk.old.items }
     ensures kinds { map (λ b. kind b) desk.new.items ≡ map (λ b. kind b) desk.old.items }
     ensures may_refuse { map (λ b. may_refuse b) desk.new.items
         ≡ map (λ b. may_refuse b) desk.old.items }
@@ -119,6 +124,8 @@ fn hand_out_each(
     ensures stopped { IfErr result (λ e. HasStopped e (all_violations list.now requests.now)
         (lent (λ b. kind b) (λ b. may_refuse b) (λ b. held b) (λ b. faults b)
         desk.old.items desk.new.items)) }
+    ensures no_fault { ((n : ℕ) → IsErrOf result (DeskError.Refused n) → ⊥)
+        → map (λ b. faults b) desk.new.items ≡ map (λ b. faults b) desk.old.items }
     ensures kinds { map (λ b. kind b) desk.new.items ≡ map (λ b. kind b) desk.old.items }
     ensures may_refuse { map (λ b. may_refuse b) desk.new.items
         ≡ map (λ b. may_refuse b) desk.old.items }

@@ -11,6 +11,7 @@ loop-request-init g c = record {
   took = sym (all_grown-nil _);
   kinds = refl;
   may_refuse = refl;
+  no_fault = refl;
   later = λ k. omega arith;
 }
 
@@ -37,5 +38,7 @@ loop-request-preserved g c =
           c.loop-request-test.true c.request-item.is c.loop-request.invariant.took took;
       kinds = c.in_ok-hand_out.ensures.same_kinds ∙ c.loop-request.invariant.kinds;
       may_refuse = c.in_ok-hand_out.ensures.same_may_refuse ∙ c.loop-request.invariant.may_refuse;
+      no_fault =
+          c.hand_out.ensures.no_fault (λ n refused. cc (refused, c.in_ok-hand_out.is)) ∙ c.loop-request.invariant.no_fault;
       later = NoneFell-trans _ _ _ c.loop-request.invariant.later c.in_ok-hand_out.ensures.later;
     }

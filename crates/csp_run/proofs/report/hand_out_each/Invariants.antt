@@ -14,6 +14,8 @@ invariant-loop-request g l = record {
       ≡ map (λ b. (goal.Reporter-dyn g (b.vtable, b.value)).kind b.value) l.fn.desk.items;
   may_refuse : map (λ b. (goal.Reporter-dyn g (b.vtable, b.value)).may_refuse b.value) l.desk.items
       ≡ map (λ b. (goal.Reporter-dyn g (b.vtable, b.value)).may_refuse b.value) l.fn.desk.items;
+  no_fault : map (λ b. (goal.Reporter-dyn g (b.vtable, b.value)).faults b.value) l.desk.items
+      ≡ map (λ b. (goal.Reporter-dyn g (b.vtable, b.value)).faults b.value) l.fn.desk.items;
   later : NoneFell (map (λ b. (goal.Reporter-dyn g (b.vtable, b.value)).faults b.value) l.fn.desk.items)
       (map (λ b. (goal.Reporter-dyn g (b.vtable, b.value)).faults b.value) l.desk.items);
 }
