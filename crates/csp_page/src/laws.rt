@@ -2,10 +2,9 @@
 ghost use Rattle.std.specs.Prelude.{◌≡◌, ◌∷◌, ◌++◌, ℕ, All, List as Items, None, Ok, Option};
 ghost use Rattle.csp_page.specs.Laws.{IsReadable, told_contents};
 ghost use Rattle.csp_page.specs.Page.{IsPageAnswer};
-ghost use Rattle.csp_run.specs.Files.{found_in};
+ghost use Rattle.csp_run.specs.Files.{found_in, read_fault};
 ghost use Rattle.csp_run.specs.Texts.{fault_text};
 ghost use Rattle.csp_run.specs.Words.{File, Plan, plan_of};
-ghost use Rattle.csp_run.specs.declared.fault.Fault.TheVariants as fault;
 
 /// What the answer is made of is what the files hold that the words name: nothing is read that isn't there.
 pub fn what_is_found_is_what_the_files_hold()
@@ -21,5 +20,5 @@ pub fn a_file_that_is_not_there_is_a_read_fault()
         (plan : Plan) (front : Items File) (file : File) (rest : Items File) → plan_of words ≡ Ok plan
         → plan.files ≡ front ++ file ∷ rest → All (λ (f : File). IsReadable contents plan.origin f) front
         → contents file.name ≡ None → IsPageAnswer words contents code text
-        → (code ≡ 8) × (text ≡ fault_text (fault.Read file.role)) }
+        → (code ≡ 8) × (text ≡ fault_text (read_fault file.role)) }
 {}

@@ -15,14 +15,15 @@ use Rattle.csp_run.specs.Commands.{AcceptsInclusion, AsksFor, Wrote}
 use Rattle.csp_run.specs.Desk.{Desk}
 use Rattle.csp_run.specs.Due.{End, end_status, end_text}
 use Rattle.csp_run.specs.Files.{World, found_in}
-use Rattle.csp_run.specs.Outputs.{IsOutput}
+use Rattle.csp_run.specs.Outputs.{IsOutput, IsPrinted}
 use Rattle.csp_run.specs.Words.{Plan}
-use Rattle.csp_run.specs.declared.fault.Fault.{Fault}
-use Rattle.csp_run.specs.declared.files.Content.{Content}
-use Rattle.csp_run.specs.declared.files.Content.TheVariants as content
-use Rattle.csp_run.specs.declared.plan.Form.TheVariants.{Check}
+use Rattle.csp_run.specs.declared.fault.Fault.TheVariants as fault
+use Rattle.csp_run.specs.declared.fault.FileFault.{FileFault}
+use Rattle.csp_run.specs.Contents.{Content}
+use Rattle.csp_run.specs.Contents as content
+use Rattle.csp_run.specs.Forms.{Check}
 use Rattle.csp_run.proofs.Commands.{clean_suffices, written_output}
-use Rattle.csp_run.proofs.Ends.{not_by_fault}
+use Rattle.csp_run.proofs.Ends.{none_ends, not_by_fault}
 use Rattle.csp_run.proofs.PlanOrigins.{ValidOrigins, planned_origin}
 use Rattle.csp_run.proofs.ReadFiles.{first_from, found_from, second_from}
 
@@ -40,11 +41,11 @@ accepted_text None built is clean = ap (λ (b : Built). b.text) is
 accepted_text (Some line) built is clean = absurd (cc (sym clean ∙ ap (λ (b : Built). b.status) is))
 
 accepted_on : ShowsInclusion → ReadableLists → (w : World) (desk : Desk) (plan : Plan) (end : End)
-    (found : Result (List Content) Fault) → IsValidOrigin plan.origin
+    (found : Result (List Content) FileFault) → IsValidOrigin plan.origin
     → found_in plan.origin plan.files w.log ≡ found → IsOutput Check plan.origin found desk end
     → end_status end ≡ Clean → AcceptsInclusion w plan (end_text end)
 accepted_on shows readable w desk plan end (Err f) valid read is clean =
-    absurd (not_by_fault f end Clean refl is.0 clean)
+    absurd (not_by_fault (fault.File f) end Clean refl is.0 clean)
 accepted_on shows readable w desk plan (Ok built) (Ok (content.Policies first ∷ content.Policies second ∷ content.Proof proof ∷ [])) valid read is clean =
     let all = found_from plan.origin plan.files w.log _ read in
     let one = first_from plan.origin (content.Policies first) (content.Policies second ∷ content.Proof proof ∷ []) all in
@@ -60,7 +61,8 @@ accepted_on shows readable w desk plan (Ok built) (Ok (content.Policies first �
     }
 accepted_on shows readable w desk plan (Err f) (Ok (content.Policies first ∷ content.Policies second ∷ content.Proof proof ∷ [])) valid read is clean =
     absurd (not_by_fault f (Err f) Clean refl refl clean)
-accepted_on shows readable w desk plan end (Ok contents) valid read is clean = absurd is
+accepted_on shows readable w desk plan end (Ok contents) valid read is clean =
+    absurd (none_ends (IsPrinted Check plan.origin contents) (λ e never. never) end is.0)
 
 pub accepted_so : ShowsInclusion → ValidOrigins → ReadableLists → (w : World) (desk : Desk) (words : List (List ℕ))
     (plan : Plan) (status : Status) (text : List ℕ) → AsksFor words Check plan → Wrote w desk words status text

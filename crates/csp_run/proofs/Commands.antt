@@ -8,7 +8,7 @@ use Rattle.csp_run.specs.Due.{end_status}
 use Rattle.csp_run.specs.Files.{World, found_in}
 use Rattle.csp_run.specs.Outputs.{IsOutput}
 use Rattle.csp_run.specs.Words.{Plan}
-use Rattle.csp_run.specs.declared.plan.Form.{Form}
+use Rattle.csp_run.specs.Forms.{Form}
 use Rattle.csp_run.proofs.Ends.{output_on}
 
 -- what was written is the output of the command, where memory suffices

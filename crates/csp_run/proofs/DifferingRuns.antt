@@ -16,12 +16,13 @@ use Rattle.csp_run.specs.Desk.{Desk}
 use Rattle.csp_run.specs.Due.{End, end_status, end_text}
 use Rattle.csp_run.specs.Files.{World}
 use Rattle.csp_run.specs.Laws.{AreLists}
-use Rattle.csp_run.specs.Outputs.{IsBuilt, IsOutput}
+use Rattle.csp_run.specs.Outputs.{EndsSo, IsBuilt, IsOutput}
 use Rattle.csp_run.specs.Words.{Plan}
-use Rattle.csp_run.specs.declared.fault.Fault.{Fault}
-use Rattle.csp_run.specs.declared.files.Content.{Content}
-use Rattle.csp_run.specs.declared.plan.Form.TheVariants.{Differ}
+use Rattle.csp_run.specs.declared.fault.FileFault.{FileFault}
+use Rattle.csp_run.specs.Contents.{Content}
+use Rattle.csp_run.specs.Forms.{Differ}
 use Rattle.csp_run.proofs.Commands.{written_output}
+use Rattle.csp_run.proofs.Ends.{fault_ends}
 
 abbrev pub NamesEach : Type 0
 NamesEach = (first second : PolicyList) (differences : List Difference) (directive : Name)
@@ -35,12 +36,12 @@ CleanWhereIncluded = (first second : PolicyList) (built : Built) → IsDiffering
 -- the output on two lists that were read
 differing : (w : World) (desk : Desk) (words : List (List ℕ)) (plan : Plan) (status : Status) (text : List ℕ)
     (first second : PolicyList) → AsksFor words Differ plan → (wrote : Wrote w desk words status text)
-    → status ≢ NoMemory → AreLists w plan first second → IsBuilt (IsDiffering first second) wrote.end
+    → status ≢ NoMemory → AreLists w plan first second → EndsSo (IsBuilt (IsDiffering first second)) wrote.end
 differing w desk words plan status text first second asks wrote other read =
-    let P : Result (List Content) Fault → Type 0 = λ found. IsOutput Differ plan.origin found desk wrote.end in
+    let P : Result (List Content) FileFault → Type 0 = λ found. IsOutput Differ plan.origin found desk wrote.end in
     (subst P read (written_output w desk words plan status text Differ asks wrote other)).0
 
-named_on : NamesEach → (first second : PolicyList) (end : End) → IsBuilt (IsDiffering first second) end
+named_on : NamesEach → (first second : PolicyList) (end : End) → EndsSo (IsBuilt (IsDiffering first second)) end
     → NamesDirectives first second (end_status end) (end_text end)
 named_on law first second (Ok built) is = record {
   entries = is.entries;
@@ -48,12 +49,12 @@ named_on law first second (Ok built) is = record {
   printed = is.printed;
   named = λ directive. law first second is.entries directive is.differences;
 }
-named_on law first second (Err f) is = absurd is
+named_on law first second (Err f) is = absurd (fault_ends (IsDiffering first second) f is)
 
-clean_on : CleanWhereIncluded → (first second : PolicyList) (end : End) → IsBuilt (IsDiffering first second) end
+clean_on : CleanWhereIncluded → (first second : PolicyList) (end : End) → EndsSo (IsBuilt (IsDiffering first second)) end
     → (end_status end ≡ Clean) ↔ Subsumes first second
 clean_on law first second (Ok built) is = law first second built is
-clean_on law first second (Err f) is = absurd is
+clean_on law first second (Err f) is = absurd (fault_ends (IsDiffering first second) f is)
 
 pub named_so : NamesEach → (w : World) (desk : Desk) (words : List (List ℕ)) (plan : Plan) (status : Status)
     (text : List ℕ) (first second : PolicyList) → AsksFor words Differ plan → Wrote w desk words status text

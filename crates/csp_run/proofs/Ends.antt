@@ -21,26 +21,67 @@ use Rattle.csp_run.specs.Desk.{Desk}
 use Rattle.csp_run.specs.Due.{End, IsDue, IsEndOf, end_status}
 use Rattle.csp_run.specs.Files.{World, found_in}
 use Rattle.csp_run.specs.Laws.{AreLists, AreRequests}
-use Rattle.csp_run.specs.Outputs.{IsOutput, judged, request_fault}
-use Rattle.csp_run.specs.Texts.{status_of}
+use Rattle.csp_run.specs.Outputs.{EndsSo, IsBuilt, IsJudged, IsOnRequests, IsOutput, IsPrinted}
+use Rattle.csp_run.specs.Texts.{cause_status, output_status, status_of}
 use Rattle.csp_run.specs.Words.{Plan, plan_of}
 use Rattle.csp_run.specs.declared.fault.Fault.{Fault}
+use Rattle.csp_run.specs.declared.fault.Cause.{Cause}
+use Rattle.csp_run.specs.declared.fault.Cause.TheVariants as cause
 use Rattle.csp_run.specs.declared.fault.Fault.TheVariants as fault
-use Rattle.csp_run.specs.declared.files.Content.{Content}
-use Rattle.csp_run.specs.declared.files.Content.TheVariants as content
-use Rattle.csp_run.specs.declared.plan.Form.{Form}
-use Rattle.csp_run.specs.declared.plan.Form.TheVariants.{Judge, Compare}
+use Rattle.csp_run.specs.declared.fault.OutputFault.{OutputFault}
+use Rattle.csp_run.specs.declared.fault.OutputFault.TheVariants as output
+use Rattle.csp_run.specs.declared.fault.WordsFault.{WordsFault}
+use Rattle.csp_run.specs.declared.fault.WordsFault.TheVariants as words
+use Rattle.csp_run.specs.declared.fault.FileFault.{FileFault}
+use Rattle.csp_run.specs.Contents.{Content}
+use Rattle.csp_run.specs.Contents as content
+use Rattle.csp_run.specs.Forms.{Form}
+use Rattle.csp_run.specs.Forms.{Judge, Compare}
 use Rattle.csp_run.proofs.InLog.{found_there}
 use Rattle.csp_run.proofs.Statuses.{is_done}
 
 -- no fault has the status of an output
+
+cause_not_done : (c : Cause) → is_done (cause_status c) ≡ false
+cause_not_done cause.Read = refl
+cause_not_done c = refl
+
+output_not_done : (f : OutputFault) → is_done (output_status f) ≡ false
+output_not_done output.NotJson = refl
+output_not_done f = refl
+
 fault_not_done : (f : Fault) → is_done (status_of f) ≡ false
-fault_not_done fault.Usage = refl
+fault_not_done (fault.Words words.Usage) = refl
+fault_not_done (fault.Words words.BadOrigin) = refl
+fault_not_done (fault.File f) = cause_not_done f.cause
+fault_not_done (fault.Output f) = output_not_done f
 fault_not_done f = refl
 
 pub not_by_fault : (f : Fault) (end : End) (s : Status) → is_done s ≡ true → end ≡ Err f → end_status end ≡ s → ⊥
 not_by_fault f end s done is same =
     false≢true (sym (fault_not_done f) ∙ ap (λ (e : End). is_done (end_status e)) (sym is) ∙ ap is_done same ∙ done)
+
+-- a run ends so only where this says something of it
+pub none_ends : (Is : Result Built OutputFault → Type 0) → ((end : Result Built OutputFault) → Is end → ⊥)
+    → (end : End) → EndsSo Is end → ⊥
+none_ends Is none (Ok built) is = none (Ok built) is
+none_ends Is none (Err (fault.Output f)) is = none (Err f) is
+none_ends Is none (Err f) is = is
+
+pub fault_ends : (Is : Built → Type 0) (f : Fault) → EndsSo (IsBuilt Is) (Err f) → ⊥
+fault_ends Is (fault.Output f) is = is
+fault_ends Is f is = is
+
+pub built_ends : (built : Built) (end : End) → EndsSo (λ e. e ≡ Ok built) end → end ≡ Ok built
+built_ends built (Ok other) is = let same : other ≡ built = cc is in ap (λ (b : Built). Ok b) same
+built_ends built (Err (fault.Output f)) is = absurd (cc is)
+built_ends built (Err f) is = absurd is
+
+-- a request file that is refused gives no output
+pub refused_ends : {A : Type 0} (Is : A → Result Built OutputFault → Type 0) (refused : RequestError) (end : End)
+    (s : Status) → is_done s ≡ true → EndsSo (IsOnRequests Is (Err refused)) end → end_status end ≡ s → ⊥
+refused_ends Is refused (Ok built) s done is same = is
+refused_ends Is refused (Err f) s done is same = not_by_fault f (Err f) s done refl same
 
 -- The output of a command, where memory suffices
 
@@ -51,10 +92,10 @@ pub output_on : (w : World) (desk : Desk) (words : List (List ℕ)) (plan : Plan
     → plan_of words ≡ Ok plan → plan.form ≡ form → IsDue w desk words end → end_status end ≢ status.NoMemory
     → IsOutput form plan.origin (found_in plan.origin plan.files w.log) desk end
 output_on w desk words plan end form planned is due other =
-    let P : Result Plan Fault → Type 0 = λ p. IsEndOf w desk p end in
+    let P : Result Plan WordsFault → Type 0 = λ p. IsEndOf w desk p end in
     let so = subst P planned (due.ended (enough end other)) in
     let Q : Form → Type 0 = λ f. IsOutput f plan.origin so.0 desk end in
-    let R : Result (List Content) Fault → Type 0 = λ r. IsOutput form plan.origin r desk end in
+    let R : Result (List Content) FileFault → Type 0 = λ r. IsOutput form plan.origin r desk end in
     subst R (found_there w plan.origin plan.files w.log so.0 so.1) (subst Q is so.2)
 
 -- Where `compare` has a status that says this of its lists
@@ -73,7 +114,7 @@ compared_so : (s : Status) (Says : PolicyList → PolicyList → Type 0) → Say
 compared_so s Says says w plan first second built read is = (
   λ same. (first, second, read, (says first second built is).0 same),
   λ c.
-      let same : ◌≡◌ {A = Result (List Content) Fault}
+      let same : ◌≡◌ {A = Result (List Content) FileFault}
       (Ok (content.Policies first ∷ content.Policies second ∷ [])) (Ok (content.Policies c.0 ∷ content.Policies c.1 ∷ []))
       = sym read ∙ c.2 in
       let one : c.0 ≡ first = cc same in
@@ -82,16 +123,17 @@ compared_so s Says says w plan first second built read is = (
 )
 
 compared_by : (s : Status) (Says : PolicyList → PolicyList → Type 0) → is_done s ≡ true → SaysOfLists s Says
-    → (w : World) (desk : Desk) (plan : Plan) (end : End) (found : Result (List Content) Fault)
+    → (w : World) (desk : Desk) (plan : Plan) (end : End) (found : Result (List Content) FileFault)
     → found_in plan.origin plan.files w.log ≡ found → IsOutput Compare plan.origin found desk end
     → (end_status end ≡ s) ↔ Compared Says w plan
 compared_by s Says done says w desk plan end (Err f) read is =
-    (λ same. absurd (not_by_fault f end s done is.0 same), λ c. absurd (cc (sym read ∙ c.2)))
+    (λ same. absurd (not_by_fault (fault.File f) end s done is.0 same), λ c. absurd (cc (sym read ∙ c.2)))
 compared_by s Says done says w desk plan (Ok built) (Ok (content.Policies first ∷ content.Policies second ∷ [])) read is =
     compared_so s Says says w plan first second built read is.0
 compared_by s Says done says w desk plan (Err f) (Ok (content.Policies first ∷ content.Policies second ∷ [])) read is =
-    absurd is.0
-compared_by s Says done says w desk plan end (Ok contents) read is = absurd is
+    absurd (fault_ends (IsComparison first second) f is.0)
+compared_by s Says done says w desk plan end (Ok contents) read is =
+    absurd (none_ends (IsPrinted Compare plan.origin contents) (λ e never. never) end is.0)
 
 abbrev pub CompareEndsSo : Status → (PolicyList → PolicyList → Type 0) → Type 0
 CompareEndsSo s Says = (w : World) (desk : Desk) (words : List (List ℕ)) (plan : Plan) (end : End)
@@ -128,7 +170,7 @@ judged_so s Says says w plan end list requests read is =
     let so = ap end_status is in (
       λ same. (list, requests, read, (says list requests).0 (sym so ∙ same)),
       λ c.
-          let same : ◌≡◌ {A = Result (List Content) Fault}
+          let same : ◌≡◌ {A = Result (List Content) FileFault}
           (Ok (content.Policies list ∷ content.Requests read.bytes ∷ [])) (Ok (content.Policies c.0 ∷ content.Requests c.2.bytes ∷ []))
           = sym read.files ∙ c.2.files in
           let one : c.0 ≡ list = cc same in
@@ -141,15 +183,16 @@ judged_so s Says says w plan end list requests read is =
 judged_on : (s : Status) (Says : PolicyList → List Described → Type 0) → is_done s ≡ true → SaysOfRequests s Says
     → (w : World) (plan : Plan) (end : End) (list : PolicyList) (bytes : List ℕ)
     → found_in plan.origin plan.files w.log ≡ Ok (content.Policies list ∷ content.Requests bytes ∷ [])
-    → (described : Result (List Described) RequestError) → requests_of bytes ≡ described → end ≡ judged list described
-    → (end_status end ≡ s) ↔ Judged Says w plan
+    → (described : Result (List Described) RequestError) → requests_of bytes ≡ described
+    → EndsSo (IsOnRequests (IsJudged list) described) end → (end_status end ≡ s) ↔ Judged Says w plan
 judged_on s Says done says w plan end list bytes files (Ok requests) described is =
     judged_so s Says says w plan end list requests
-    (record { bytes = bytes; files = files; described = described }) is
+    (record { bytes = bytes; files = files; described = described })
+    (built_ends (judgment list (map (λ (d : Described). d.checks) requests)) end is)
 judged_on s Says done says w plan end list bytes files (Err refused) described is = (
-  λ same. absurd (not_by_fault (request_fault refused) end s done is same),
+  λ same. absurd (refused_ends (IsJudged list) refused end s done is same),
   λ c.
-      let same : ◌≡◌ {A = Result (List Content) Fault}
+      let same : ◌≡◌ {A = Result (List Content) FileFault}
       (Ok (content.Policies list ∷ content.Requests bytes ∷ [])) (Ok (content.Policies c.0 ∷ content.Requests c.2.bytes ∷ []))
       = sym files ∙ c.2.files in
       let also : c.2.bytes ≡ bytes = cc same in
@@ -157,14 +200,15 @@ judged_on s Says done says w plan end list bytes files (Err refused) described i
 )
 
 judged_by : (s : Status) (Says : PolicyList → List Described → Type 0) → is_done s ≡ true → SaysOfRequests s Says
-    → (w : World) (desk : Desk) (plan : Plan) (end : End) (found : Result (List Content) Fault)
+    → (w : World) (desk : Desk) (plan : Plan) (end : End) (found : Result (List Content) FileFault)
     → found_in plan.origin plan.files w.log ≡ found → IsOutput Judge plan.origin found desk end
     → (end_status end ≡ s) ↔ Judged Says w plan
 judged_by s Says done says w desk plan end (Err f) read is =
-    (λ same. absurd (not_by_fault f end s done is.0 same), λ c. absurd (cc (sym read ∙ c.2.files)))
+    (λ same. absurd (not_by_fault (fault.File f) end s done is.0 same), λ c. absurd (cc (sym read ∙ c.2.files)))
 judged_by s Says done says w desk plan end (Ok (content.Policies list ∷ content.Requests bytes ∷ [])) read is =
     judged_on s Says done says w plan end list bytes read (requests_of bytes) refl is.0
-judged_by s Says done says w desk plan end (Ok contents) read is = absurd is
+judged_by s Says done says w desk plan end (Ok contents) read is =
+    absurd (none_ends (IsPrinted Judge plan.origin contents) (λ e never. never) end is.0)
 
 abbrev pub JudgeEndsSo : Status → (PolicyList → List Described → Type 0) → Type 0
 JudgeEndsSo s Says = (w : World) (desk : Desk) (words : List (List ℕ)) (plan : Plan) (end : End)

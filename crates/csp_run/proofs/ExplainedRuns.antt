@@ -11,13 +11,14 @@ use Rattle.csp_run.specs.Desk.{Desk}
 use Rattle.csp_run.specs.Due.{end_status, end_text}
 use Rattle.csp_run.specs.Files.{World}
 use Rattle.csp_run.specs.Laws.{AreRequests}
-use Rattle.csp_run.specs.Outputs.{IsOutput, explained}
+use Rattle.csp_run.specs.Outputs.{EndsSo, IsExplained, IsOnRequests, IsOutput}
 use Rattle.csp_run.specs.Words.{Plan}
-use Rattle.csp_run.specs.declared.fault.Fault.{Fault}
-use Rattle.csp_run.specs.declared.files.Content.{Content}
-use Rattle.csp_run.specs.declared.plan.Form.TheVariants.{Why}
+use Rattle.csp_run.specs.declared.fault.FileFault.{FileFault}
+use Rattle.csp_run.specs.Contents.{Content}
+use Rattle.csp_run.specs.Forms.{Why}
 use Rattle.csp_run.proofs.Commands.{written_output}
-use Rattle.csp_run.proofs.Ends.{AllowsEach, BlocksWhatIsRefused, RefusesSome, SaysOfRequests, clean_says, found_says}
+use Rattle.csp_run.proofs.Ends.{AllowsEach, BlocksWhatIsRefused, RefusesSome, SaysOfRequests, built_ends, clean_says, found_says}
+use Rattle.csp_request.specs.declared.error.RequestError.{RequestError}
 
 abbrev pub EndsAsJudge : Type 0
 EndsAsJudge = (list : PolicyList) (requests : List Described)
@@ -31,10 +32,12 @@ explained_end : (w : World) (desk : Desk) (words : List (List ℕ)) (plan : Plan
     (list : PolicyList) (requests : List Described) → AsksFor words Why plan → Wrote w desk words status text
     → status ≢ NoMemory → AreRequests w plan list requests → Explains list requests status text
 explained_end w desk words plan status text list requests asks wrote other read =
-    let P : Result (List Content) Fault → Type 0 = λ found. IsOutput Why plan.origin found desk wrote.end in
+    let P : Result (List Content) FileFault → Type 0 = λ found. IsOutput Why plan.origin found desk wrote.end in
+    let Q : Result (List Described) RequestError → Type 0 =
+    λ found. EndsSo (IsOnRequests (IsExplained list) found) wrote.end in
     let is : wrote.end ≡ Ok (explanation list requests) =
-    (subst P read.files (written_output w desk words plan status text Why asks wrote other)).0
-    ∙ ap (explained list) read.described in
+    built_ends (explanation list requests) wrote.end
+    (subst Q read.described (subst P read.files (written_output w desk words plan status text Why asks wrote other)).0) in
     (wrote.status_is ∙ ap end_status is, wrote.text_is ∙ ap end_text is)
 
 pub explained_text : (w : World) (desk : Desk) (words : List (List ℕ)) (plan : Plan) (status : Status) (text : List ℕ)

@@ -1,5 +1,5 @@
 -- One more request whose violations are reported.
-use Rattle.std.proofs.Common.{◌≡◌, ◌++◌, List, [], ◌∷◌, Result, Ok, ap, sym, ◌∙◌}
+use Rattle.std.proofs.Common.{◌≡◌, ◌≢◌, ◌++◌, List, [], ◌∷◌, Option, Some, None, Result, Ok, Err, ap, refl, sym, subst, ◌∙◌}
 use Rattle.std.proofs.lemmas.List.{flat_map_more}
 use Rattle.std.specs.Prelude.{codes}
 use Rattle.csp_model.specs.Verdict.{violations_of}
@@ -10,7 +10,14 @@ use Rattle.csp_request.proofs.Parts.{same_of_told}
 use Rattle.csp_request.specs.Described.{sample_of}
 use Rattle.csp_request.specs.Wanted.{IsPartOf}
 use Rattle.csp_request.specs.declared.error.RequestError.{RequestError}
+use Rattle.csp_request.specs.declared.error.RequestError.TheVariants as request
 use Rattle.csp_request.specs.declared.texts.ReportTexts.TheVariants.{Made}
+use Rattle.csp_run.specs.Desk.{Desk, IsUntouched}
+use Rattle.csp_run.specs.Outputs.{IsReportOn, request_fault}
+use Rattle.csp_run.specs.Shown.{output_or_memory}
+use Rattle.csp_run.specs.declared.fault.Fault.{Fault}
+use Rattle.csp_run.specs.declared.fault.Fault.TheVariants as fault
+use Rattle.csp_run.specs.declared.fault.OutputFault.{OutputFault}
 use Rattle.csp_run.specs.Reports.{all_violations, violations_in}
 use Rattle.csp_verdict.proofs.NamedDigests.{wanted_violations}
 use Rattle.csp_verdict.specs.Algorithms.{algorithms_of}
@@ -41,3 +48,18 @@ held_violations list made found requests held so same are =
     ap (violations_in list) so
     ∙ ap (λ (l : PolicyList). told (all_violations l requests)) (sym same)
     ∙ ap told (sym are)
+
+-- the end of a report on a request file that is refused
+pub refused_report : (list : PolicyList) (found : Result (List Described) RequestError) (e : RequestError) (desk : Desk)
+    (f : Fault) → f ≡ output_or_memory (request_fault e) → (e ≢ request.Memory → found ≡ Err e) → f ≢ fault.Memory
+    → IsUntouched desk → IsReportOn (violations_in list found) desk (Err f)
+refused_report list found e desk f is refused real kept =
+    let found_is : found ≡ Err e =
+    refused (λ memory. real (is ∙ ap (λ (r : RequestError). output_or_memory (request_fault r)) memory)) in
+    subst (λ (r : Result (List Described) RequestError). IsReportOn (violations_in list r) desk (Err f)) (sym found_is)
+    (by (request_fault e) refl is)
+  where
+    by : (o : Option OutputFault) → request_fault e ≡ o → f ≡ output_or_memory o → IsReportOn (Err e) desk (Err f)
+    by (Some g) so same =
+        subst (λ (h : Fault). IsReportOn (Err e) desk (Err h)) (sym same) (so, kept)
+    by None so same = absurd (real same)

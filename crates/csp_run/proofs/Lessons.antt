@@ -1,6 +1,6 @@
 -- One more request that is learnt from, and what is printed of a lesson.
 use Rattle.std.proofs.Common.{◌≡◌, ◌≢◌, ◌≤◌, ◌<◌, ◌+◌, ℕ, List, [], ◌∷◌, ◌++◌, length, take, Result, Ok, Err, Some, None, Bool, true, false}
-use Rattle.std.proofs.Common.{refl, ap, sym, ◌∙◌, arith}
+use Rattle.std.proofs.Common.{refl, ap, sym, subst, ◌∙◌, arith}
 use Rattle.std.specs.Prelude.{nat_le, if◌then◌else◌}
 use Rattle.std.proofs.lemmas.Bool.Decides.{nat_tests}
 use Rattle.std.proofs.lemmas.List.{take_all}
@@ -19,11 +19,12 @@ use Rattle.csp_model.specs.declared.verdict.Described.{Described}
 use Rattle.csp_request.proofs.Parts.{same_of_checks}
 use Rattle.csp_request.specs.Wanted.{IsPartOf}
 use Rattle.csp_request.specs.declared.error.RequestError.{RequestError}
-use Rattle.csp_output.specs.Learnt.{learnt_output, lesson_output, printed}
+use Rattle.csp_output.specs.Learnt.{learning, learnt_output, lesson_output, printed}
 use Rattle.csp_output.specs.declared.built.Built.{Built}
 use Rattle.csp_run.specs.declared.fault.Fault.{Fault}
 use Rattle.csp_run.specs.declared.fault.Fault.TheVariants as fault
-use Rattle.csp_run.specs.Outputs.{learnt, learnt_or_fault}
+use Rattle.csp_run.specs.Outputs.{EndsSo, IsLearnt, IsOnRequests, learnt_or_fault}
+use Rattle.csp_run.specs.declared.fault.OutputFault.{OutputFault}
 use Rattle.csp_run.specs.Shown.{learn_fault}
 use Rattle.csp_run.specs.Taken.{wanted_to_learn}
 
@@ -54,12 +55,11 @@ learnt_more l before part whole is of_it =
 -- The output
 
 -- that of the lesson of a file's requests
-by_lesson : (o : Origin) (found : Result (List Described) RequestError) (log : List Described) (l : Lesson)
-    → found ≡ Ok log → l ≡ lesson_of log → learnt_or_fault (lesson_output o l) ≡ learnt o found
-by_lesson o found log l so is =
-    ap (λ (m : Lesson). learnt_or_fault (lesson_output o m)) is ∙ ap (learnt o) (sym so)
+by_lesson : (o : Origin) (log : List Described) (l : Lesson) → l ≡ lesson_of log
+    → learnt_or_fault (lesson_output o l) ≡ learnt_or_fault (learning o log)
+by_lesson o log l is = ap (λ (m : Lesson). learnt_or_fault (lesson_output o m)) is
 
-abbrev limited : Origin → Lesson → Bool → Result Built Fault
+abbrev limited : Origin → Lesson → Bool → Result Built OutputFault
 limited o l few =
     learnt_or_fault (if few then Some (learnt_output (policy_for o l.needs) l.left) else None)
 
@@ -77,27 +77,34 @@ many_learnt o l many =
     let past : nat_le (length l.needs) need_limit ≡ false = grind (arith, nat_tests, many) in
     ap (limited o l) past
 
-abbrev failed : Fault → Result Built Fault
-failed f = Err f
-
-abbrev built_so : Built → Result Built Fault
+abbrev built_so : Built → Result Built OutputFault
 built_so built = Ok built
+
+-- on the requests of a file
+on_log : (o : Origin) (found : Result (List Described) RequestError) (log : List Described) (end : Result Built OutputFault)
+    → found ≡ Ok log → end ≡ learnt_or_fault (learning o log) → IsOnRequests (IsLearnt o) found end
+on_log o found log end so is =
+    subst (λ (r : Result (List Described) RequestError). IsOnRequests (IsLearnt o) r end) (sym so) is
 
 -- nothing is learnt of it
 pub unlearnt : (o : Origin) (found : Result (List Described) RequestError) (log : List Described) (l : Lesson)
     (e : LearnError) (f : Fault) → found ≡ Ok log → l ≡ lesson_of log → f ≡ learn_fault e
     → (◌≡◌ {A = LearnError} e learn_error.TooManySources → need_limit < length l.needs)
-    → ◌≢◌ {A = Result Built Fault} (Err f) (Err fault.Memory) → Err f ≡ learnt o found
+    → ◌≢◌ {A = Result Built Fault} (Err f) (Err fault.Memory) → EndsSo (IsOnRequests (IsLearnt o) found) (Err f)
 unlearnt o found log l learn_error.TooManySources f so was is many real =
-    ap failed is ∙ sym (many_learnt o l (many refl)) ∙ by_lesson o found log l so was
-unlearnt o found log l learn_error.Memory f so was is many real = absurd (real (ap failed is))
+    subst (λ (g : Fault). EndsSo (IsOnRequests (IsLearnt o) found) (Err g)) (sym is)
+    (on_log o found log (learnt_or_fault None) so (sym (many_learnt o l (many refl)) ∙ by_lesson o log l was))
+unlearnt o found log l learn_error.Memory f so was is many real =
+    absurd (real (ap (λ (g : Fault). Err g) is))
 
 -- or what is learnt is printed
 pub learnt_built : (o : Origin) (found : Result (List Described) RequestError) (log : List Described) (l : Lesson)
     (made : Learnt) (built : Built) → found ≡ Ok log → l ≡ lesson_of log → length l.needs ≤ need_limit
-    → made.policy ≡ policy_for o l.needs → made.left ≡ l.left → built ≡ printed made → Ok built ≡ learnt o found
+    → made.policy ≡ policy_for o l.needs → made.left ≡ l.left → built ≡ printed made
+    → EndsSo (IsOnRequests (IsLearnt o) found) (Ok built)
 learnt_built o found log l made built so was few policy left is =
-    ap built_so
+    on_log o found log (Ok built) so
+    (ap built_so
     (is ∙ ap (λ (p : Policy). learnt_output p made.left) policy
     ∙ ap (λ (places : List Place). learnt_output (policy_for o l.needs) places) left)
-    ∙ sym (few_learnt o l few) ∙ by_lesson o found log l so was
+    ∙ sym (few_learnt o l few) ∙ by_lesson o log l was)

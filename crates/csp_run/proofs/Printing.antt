@@ -3,13 +3,13 @@ use Rattle.std.proofs.Common.{◌≡◌, ◌≢◌, ℕ, List, Result, Ok, Err, 
 use Rattle.csp_desk.specs.declared.reporter.Kind.{Kind}
 use Rattle.csp_model.specs.declared.verdict.Violation.{Violation}
 use Rattle.csp_run.specs.declared.fault.Fault.{Fault}
-use Rattle.csp_run.specs.declared.fault.Fault.TheVariants.{Memory, Read, Refused}
+use Rattle.csp_run.specs.declared.fault.Fault.TheVariants.{Memory, Refused}
 use Rattle.csp_run.specs.declared.output.Outcome.{Outcome}
 use Rattle.csp_run.specs.declared.output.Outcome.TheVariants.{Text, Reporters}
 use Rattle.csp_run.specs.declared.printed.Printed.{Printed}
 use Rattle.csp_run.specs.Desk.{Desk}
 use Rattle.csp_run.specs.Due.{End, IsDue, IsEndOf}
-use Rattle.csp_run.specs.Files.{World}
+use Rattle.csp_run.specs.Files.{World, read_fault}
 use Rattle.csp_run.specs.Shown.{end_of, printed_end}
 use Rattle.csp_run.specs.Words.{plan_of}
 
@@ -36,7 +36,7 @@ printed_due w d words kinds helds found printed due same_kinds same_helds is fau
       subst P (sym same) (due.ended (λ memory. real (same ∙ memory)));
   grown = due.grown;
   no_fault = λ other. due.no_fault (λ file same.
-      other file (ap printed_end (faulty (Read file) (fault_behind d.kinds d.held_now found (Read file) same))));
+      other file (ap printed_end (faulty (read_fault file) (fault_behind d.kinds d.held_now found (read_fault file) same))));
   none_refused = λ other. due.none_refused (λ n same.
       other n (ap printed_end (faulty (Refused n) (fault_behind d.kinds d.held_now found (Refused n) same))));
 }

@@ -13,14 +13,15 @@ use Rattle.csp_run.specs.Commands.{AsksFor, Tidies, Wrote}
 use Rattle.csp_run.specs.Desk.{Desk}
 use Rattle.csp_run.specs.Due.{End, end_status, end_text}
 use Rattle.csp_run.specs.Files.{World, found_in}
-use Rattle.csp_run.specs.Outputs.{IsOutput}
+use Rattle.csp_run.specs.Outputs.{IsOutput, IsPrinted}
 use Rattle.csp_run.specs.Words.{Plan}
-use Rattle.csp_run.specs.declared.fault.Fault.{Fault}
-use Rattle.csp_run.specs.declared.files.Content.{Content}
-use Rattle.csp_run.specs.declared.files.Content.TheVariants as content
-use Rattle.csp_run.specs.declared.plan.Form.TheVariants.{Tidy}
+use Rattle.csp_run.specs.declared.fault.Fault.TheVariants as fault
+use Rattle.csp_run.specs.declared.fault.FileFault.{FileFault}
+use Rattle.csp_run.specs.Contents.{Content}
+use Rattle.csp_run.specs.Contents as content
+use Rattle.csp_run.specs.Forms.{Tidy}
 use Rattle.csp_run.proofs.Commands.{clean_suffices, written_output}
-use Rattle.csp_run.proofs.Ends.{not_by_fault}
+use Rattle.csp_run.proofs.Ends.{fault_ends, none_ends, not_by_fault}
 use Rattle.csp_run.proofs.PlanOrigins.{ValidOrigins, planned_origin}
 use Rattle.csp_run.proofs.ReadFiles.{first_from, found_from}
 
@@ -30,10 +31,10 @@ TidiedReadsBack = (bytes : List ℕ) (origin : Origin) (list : PolicyList) (buil
     → list_of (header_lines is.tidied.list.policies) origin ≡ Ok is.tidied.list
 
 tidied_on : TidiedReadsBack → (w : World) (desk : Desk) (plan : Plan) (end : End)
-    (found : Result (List Content) Fault) → IsValidOrigin plan.origin
+    (found : Result (List Content) FileFault) → IsValidOrigin plan.origin
     → found_in plan.origin plan.files w.log ≡ found → IsOutput Tidy plan.origin found desk end
     → end_status end ≡ Clean → Tidies w plan (end_status end) (end_text end)
-tidied_on back w desk plan end (Err f) valid read is clean = absurd (not_by_fault f end Clean refl is.0 clean)
+tidied_on back w desk plan end (Err f) valid read is clean = absurd (not_by_fault (fault.File f) end Clean refl is.0 clean)
 tidied_on back w desk plan (Ok built) (Ok (content.Policies list ∷ [])) valid read is clean =
     let from = first_from plan.origin (content.Policies list) [] (found_from plan.origin plan.files w.log _ read) in
     record {
@@ -43,8 +44,10 @@ tidied_on back w desk plan (Ok built) (Ok (content.Policies list ∷ [])) valid 
       equivalent = is.0.is.equivalent;
       back = back from.0 plan.origin list built valid from.1 is.0;
     }
-tidied_on back w desk plan (Err f) (Ok (content.Policies list ∷ [])) valid read is clean = absurd is.0
-tidied_on back w desk plan end (Ok contents) valid read is clean = absurd is
+tidied_on back w desk plan (Err f) (Ok (content.Policies list ∷ [])) valid read is clean =
+    absurd (fault_ends (IsTidying list) f is.0)
+tidied_on back w desk plan end (Ok contents) valid read is clean =
+    absurd (none_ends (IsPrinted Tidy plan.origin contents) (λ e never. never) end is.0)
 
 pub tidied_so : TidiedReadsBack → ValidOrigins → (w : World) (desk : Desk) (words : List (List ℕ)) (plan : Plan)
     (status : Status) (text : List ℕ) → AsksFor words Tidy plan → Wrote w desk words status text → status ≡ Clean

@@ -19,12 +19,12 @@ use Rattle.csp_output.specs.declared.status.Status.{Status}
 use Rattle.csp_policy.specs.HeaderLines.{header_lines}
 use Rattle.csp_policy.specs.Refusal.{list_of}
 use Rattle.csp_request.specs.Requests.{requests_of}
+use Rattle.csp_run.specs.Contents as content
 use Rattle.csp_run.specs.Desk.{Desk}
 use Rattle.csp_run.specs.Due.{End, IsDue, end_status, end_text}
 use Rattle.csp_run.specs.Files.{World, found_in}
+use Rattle.csp_run.specs.Forms.{Form}
 use Rattle.csp_run.specs.Words.{Plan, plan_of}
-use Rattle.csp_run.specs.declared.files.Content.TheVariants as content
-use Rattle.csp_run.specs.declared.plan.Form.{Form}
 use Rattle.csp_tidy.specs.Thinnings.{AreEquivalent}
 
 -- What `run` promises of every call that doesn't end with `WriteFault`: the status and the text that was written

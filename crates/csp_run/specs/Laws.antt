@@ -5,17 +5,17 @@ use Rattle.csp_model.specs.declared.policy.PolicyList.{PolicyList}
 use Rattle.csp_model.specs.declared.url.Origin.{Origin}
 use Rattle.csp_model.specs.declared.verdict.Described.{Described}
 use Rattle.csp_request.specs.Requests.{requests_of}
-use Rattle.csp_run.specs.declared.files.Content.TheVariants as content
-use Rattle.csp_run.specs.declared.fault.Fault.{Fault}
-use Rattle.csp_run.specs.declared.plan.Form.{Form}
-use Rattle.csp_run.specs.declared.plan.Form.TheVariants.{Report}
+use Rattle.csp_run.specs.Contents as content
+use Rattle.csp_run.specs.Outputs.{hands_out}
+use Rattle.csp_run.specs.declared.fault.FileFault.{FileFault}
+use Rattle.csp_run.specs.declared.fault.WordsFault.{WordsFault}
 use Rattle.csp_output.specs.declared.status.Status.{Status}
 use Rattle.csp_output.specs.declared.status.Status.TheVariants as status
 use Rattle.csp_run.specs.Files.{World, found_in, read_as}
 use Rattle.csp_run.specs.Words.{File, Plan}
 
 -- a file's bytes are told and have this fault, and it didn't fail
-pub record IsFaulty (w : World) (origin : Origin) (file : File) (f : Fault) : Type 0 where
+pub record IsFaulty (w : World) (origin : Origin) (file : File) (f : FileFault) : Type 0 where
   pub bytes : List ℕ
   pub told : w.contents file.name ≡ Some bytes
   pub fault : read_as origin file.role bytes ≡ Err f
@@ -32,12 +32,8 @@ pub record AreRequests (w : World) (plan : Plan) (list : PolicyList) (requests :
   pub files : found_in plan.origin plan.files w.log ≡ Ok (content.Policies list ∷ content.Requests bytes ∷ [])
   pub described : requests_of bytes ≡ Ok requests
 
-abbrev pub hands_out : Form → Bool
-hands_out Report = true
-hands_out form = false
-
 -- the words ask for a command that hands violations out
-abbrev pub is_report : Result Plan Fault → Bool
+abbrev pub is_report : Result Plan WordsFault → Bool
 is_report (Ok plan) = hands_out plan.form
 is_report (Err f) = false
 

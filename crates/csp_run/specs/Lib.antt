@@ -1,7 +1,9 @@
 pub mod Commands
+pub mod Contents
 pub mod Desk
 pub mod Due
 pub mod Files
+pub mod Forms
 pub mod Gathered
 pub mod Laws
 pub mod Outputs

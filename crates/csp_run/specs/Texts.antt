@@ -6,8 +6,14 @@ use Rattle.csp_run.specs.declared.fault.Role.{Role}
 use Rattle.csp_run.specs.declared.fault.Role.TheVariants as role
 use Rattle.csp_run.specs.declared.fault.Limit.{Limit}
 use Rattle.csp_run.specs.declared.fault.Limit.TheVariants as limit
+use Rattle.csp_run.specs.declared.fault.Cause.{Cause}
+use Rattle.csp_run.specs.declared.fault.Cause.TheVariants as cause
 use Rattle.csp_run.specs.declared.fault.Fault.{Fault}
 use Rattle.csp_run.specs.declared.fault.Fault.TheVariants as fault
+use Rattle.csp_run.specs.declared.fault.OutputFault.{OutputFault}
+use Rattle.csp_run.specs.declared.fault.OutputFault.TheVariants as output
+use Rattle.csp_run.specs.declared.fault.WordsFault.{WordsFault}
+use Rattle.csp_run.specs.declared.fault.WordsFault.TheVariants as words
 use Rattle.csp_output.specs.declared.status.Status.{Status}
 use Rattle.csp_output.specs.declared.status.Status.TheVariants as status
 
@@ -36,28 +42,42 @@ limit_text limit.Token = codes "token"
 limit_text limit.Requests = codes "requests"
 limit_text limit.Hops = codes "hops"
 
--- the pieces of the line that is written for a fault
-unfoldable pub fault_pieces : Fault → List (List ℕ)
-fault_pieces fault.Usage =
+-- the pieces of the line that is written for words that ask for nothing
+unfoldable pub words_pieces : WordsFault → List (List ℕ)
+words_pieces words.Usage =
     codes "usage: judge ORIGIN POLICY REQUESTS | report ORIGIN POLICY REQUESTS"
     ∷ codes " | compare ORIGIN FIRST SECOND | check ORIGIN FIRST SECOND PROOF"
     ∷ codes " | drill N | embed EMBEDDER ORIGIN REQUIRED RESPONSE"
     ∷ codes " | tidy ORIGIN POLICY | learn ORIGIN REQUESTS | order ORIGIN LISTS"
     ∷ codes " | why ORIGIN POLICY REQUESTS"
     ∷ codes " | differ ORIGIN FIRST SECOND | read ORIGIN POLICY\n" ∷ []
-fault_pieces fault.BadOrigin = codes "bad origin" ∷ [] ∷ [] ∷ [] ∷ [] ∷ codes "\n" ∷ []
-fault_pieces (fault.BadPolicy file line) =
-    codes "bad policy: " ∷ role_word file ∷ role_number file ∷ codes " line " ∷ decimal line ∷ codes "\n" ∷ []
-fault_pieces (fault.TooLarge file limit) =
-    codes "too large: " ∷ role_word file ∷ role_number file ∷ codes " " ∷ limit_text limit ∷ codes "\n" ∷ []
-fault_pieces fault.NotJson = codes "bad requests: not a JSON array" ∷ [] ∷ [] ∷ [] ∷ [] ∷ codes "\n" ∷ []
-fault_pieces (fault.BadRequest request field) =
-    codes "bad requests: request " ∷ decimal request ∷ codes " " ∷ field_text field ∷ [] ∷ codes "\n" ∷ []
-fault_pieces (fault.BadProof line) =
-    codes "bad proof: line " ∷ decimal line ∷ [] ∷ [] ∷ [] ∷ codes "\n" ∷ []
-fault_pieces fault.BadRequired = codes "bad required policy" ∷ [] ∷ [] ∷ [] ∷ [] ∷ codes "\n" ∷ []
-fault_pieces (fault.Read file) =
+words_pieces words.BadOrigin = codes "bad origin" ∷ [] ∷ [] ∷ [] ∷ [] ∷ codes "\n" ∷ []
+
+-- for a file of which nothing is read
+unfoldable pub file_pieces : Role → Cause → List (List ℕ)
+file_pieces file cause.Read =
     codes "read fault: " ∷ role_word file ∷ role_number file ∷ [] ∷ [] ∷ codes "\n" ∷ []
+file_pieces file (cause.TooLarge limit) =
+    codes "too large: " ∷ role_word file ∷ role_number file ∷ codes " " ∷ limit_text limit ∷ codes "\n" ∷ []
+file_pieces file (cause.BadPolicy line) =
+    codes "bad policy: " ∷ role_word file ∷ role_number file ∷ codes " line " ∷ decimal line ∷ codes "\n" ∷ []
+file_pieces file cause.BadRequired = codes "bad required policy" ∷ [] ∷ [] ∷ [] ∷ [] ∷ codes "\n" ∷ []
+
+-- and for what was read and gives no output
+unfoldable pub output_pieces : OutputFault → List (List ℕ)
+output_pieces output.NotJson = codes "bad requests: not a JSON array" ∷ [] ∷ [] ∷ [] ∷ [] ∷ codes "\n" ∷ []
+output_pieces (output.TooLarge limit) =
+    codes "too large: requests " ∷ limit_text limit ∷ [] ∷ [] ∷ [] ∷ codes "\n" ∷ []
+output_pieces (output.BadRequest request field) =
+    codes "bad requests: request " ∷ decimal request ∷ codes " " ∷ field_text field ∷ [] ∷ codes "\n" ∷ []
+output_pieces (output.BadProof line) =
+    codes "bad proof: line " ∷ decimal line ∷ [] ∷ [] ∷ [] ∷ codes "\n" ∷ []
+
+-- the pieces of the line that is written for a fault
+unfoldable pub fault_pieces : Fault → List (List ℕ)
+fault_pieces (fault.Words f) = words_pieces f
+fault_pieces (fault.File f) = file_pieces f.file f.cause
+fault_pieces (fault.Output f) = output_pieces f
 fault_pieces (fault.Refused reporter) =
     codes "reporter fault: " ∷ decimal reporter ∷ [] ∷ [] ∷ [] ∷ codes "\n" ∷ []
 fault_pieces fault.Memory = codes "no memory" ∷ [] ∷ [] ∷ [] ∷ [] ∷ codes "\n" ∷ []
@@ -66,15 +86,25 @@ fault_pieces fault.Memory = codes "no memory" ∷ [] ∷ [] ∷ [] ∷ [] ∷ co
 abbrev pub fault_text : Fault → List ℕ
 fault_text f = flat_map (λ piece. piece) (fault_pieces f)
 
+abbrev pub words_status : WordsFault → Status
+words_status words.Usage = status.Usage
+words_status words.BadOrigin = status.BadOrigin
+
+abbrev pub cause_status : Cause → Status
+cause_status cause.Read = status.ReadFault
+cause_status (cause.TooLarge limit) = status.TooLarge
+cause_status (cause.BadPolicy line) = status.BadPolicy
+cause_status cause.BadRequired = status.BadRequired
+
+abbrev pub output_status : OutputFault → Status
+output_status output.NotJson = status.BadRequests
+output_status (output.TooLarge limit) = status.TooLarge
+output_status (output.BadRequest request field) = status.BadRequests
+output_status (output.BadProof line) = status.BadProof
+
 abbrev pub status_of : Fault → Status
-status_of fault.Usage = status.Usage
-status_of fault.BadOrigin = status.BadOrigin
-status_of (fault.BadPolicy file line) = status.BadPolicy
-status_of (fault.TooLarge file limit) = status.TooLarge
-status_of fault.NotJson = status.BadRequests
-status_of (fault.BadRequest request field) = status.BadRequests
-status_of (fault.BadProof line) = status.BadProof
-status_of fault.BadRequired = status.BadRequired
-status_of (fault.Read file) = status.ReadFault
-status_of fault.Memory = status.NoMemory
+status_of (fault.Words f) = words_status f
+status_of (fault.File f) = cause_status f.cause
+status_of (fault.Output f) = output_status f
 status_of (fault.Refused reporter) = status.ReporterFault
+status_of fault.Memory = status.NoMemory

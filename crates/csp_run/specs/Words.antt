@@ -1,4 +1,4 @@
--- What the words ask for: the forms, and the files of each.
+-- What the words ask for: a command, and the files that it reads.
 use Rattle.std.specs.Prelude.{ℕ, Bool, ◌+◌, ◌==◌, ◌&&◌, not, nat_le, nat_lt, if◌then◌else◌}
 use Rattle.std.specs.Prelude.{List, [], ◌∷◌, length, slice_index, Option, Some, None, option_map, Result, Ok, Err, codes}
 use Rattle.std.specs.Str.{bytes_eq}
@@ -7,12 +7,44 @@ use Rattle.csp_model.specs.Grammar.{are_digits, decimal_value}
 use Rattle.csp_model.specs.declared.url.Origin.{Origin}
 use Rattle.csp_model.specs.declared.url.Origin.TheVariants.{Opaque}
 use Rattle.csp_url.specs.Origins.{origin_of}
-use Rattle.csp_run.specs.declared.fault.Fault.{Fault}
-use Rattle.csp_run.specs.declared.fault.Fault.TheVariants.{Usage, BadOrigin}
+use Rattle.csp_run.specs.Forms.{Form, Judge, Report, Compare, Check, Drill, Embed, Tidy, Learn, Order, Why, Differ, Read}
+use Rattle.csp_run.specs.declared.fault.WordsFault.{WordsFault}
+use Rattle.csp_run.specs.declared.fault.WordsFault.TheVariants.{Usage, BadOrigin}
 use Rattle.csp_run.specs.declared.fault.Role.{Role}
 use Rattle.csp_run.specs.declared.fault.Role.TheVariants as role
-use Rattle.csp_run.specs.declared.plan.Form.{Form}
-use Rattle.csp_run.specs.declared.plan.Form.TheVariants.{Judge, Report, Compare, Check, Drill, Embed, Tidy, Learn, Order, Why, Differ, Read}
+
+-- a file that a command reads, and what it is to the command
+pub record File : Type 0 where
+  pub role : Role
+  pub name : List ℕ
+
+-- a command with its files, in the order in which they are read
+pub record Command : Type 0 where
+  pub form : Form
+  pub files : List File
+
+-- files of these roles and names, where there are as many
+abbrev pub files_as : List Role → List (List ℕ) → Option (List File)
+files_as [] [] = Some []
+files_as (role ∷ roles) (name ∷ names) =
+    option_map (λ files. record { role = role; name = name } ∷ files) (files_as roles names)
+files_as roles names = None
+
+-- the command of this form on such files
+abbrev pub command_on : Form → List Role → List (List ℕ) → Option Command
+command_on form roles names = option_map (λ files. record { form = form; files = files }) (files_as roles names)
+
+-- files with a list each, of which the first has this number
+abbrev pub files_from : ℕ → List (List ℕ) → List File
+files_from number [] = []
+files_from number (name ∷ names) = record { role = role.List number; name = name } ∷ files_from (number + 1) names
+
+-- the command on 2 to 16 lists
+abbrev pub order_on : List (List ℕ) → Option Command
+order_on names =
+    if nat_le 2 (length names) && nat_le (length names) 16
+    then Some (record { form = Order; files = files_from 1 names })
+    else None
 
 -- how many pairs of sources a drill has: a decimal number from 1 to 200, without leading zeros
 unfoldable pub is_drill_number : List ℕ → Bool
@@ -24,20 +56,24 @@ is_drill_number word =
 abbrev pub drill_pairs : List ℕ → Option ℕ
 drill_pairs word = if is_drill_number word then Some (decimal_value word) else None
 
--- the form that a verb and the word behind it name
-abbrev pub form_of : List ℕ → List ℕ → Option Form
-form_of verb word =
-    if bytes_eq verb (codes "judge") then Some Judge
-    else if bytes_eq verb (codes "report") then Some Report
-    else if bytes_eq verb (codes "compare") then Some Compare
-    else if bytes_eq verb (codes "check") then Some Check
-    else if bytes_eq verb (codes "drill") then option_map (λ pairs. Drill pairs) (drill_pairs word)
-    else if bytes_eq verb (codes "tidy") then Some Tidy
-    else if bytes_eq verb (codes "learn") then Some Learn
-    else if bytes_eq verb (codes "order") then Some Order
-    else if bytes_eq verb (codes "why") then Some Why
-    else if bytes_eq verb (codes "differ") then Some Differ
-    else if bytes_eq verb (codes "read") then Some Read
+abbrev pub drill_on : Option ℕ → List (List ℕ) → Option Command
+drill_on (Some pairs) names = command_on (Drill pairs) [] names
+drill_on None names = None
+
+-- the command that a verb, the word behind it and names of files ask for
+abbrev pub command_of : List ℕ → List ℕ → List (List ℕ) → Option Command
+command_of verb word names =
+    if bytes_eq verb (codes "judge") then command_on Judge (role.Policy ∷ role.Requests ∷ []) names
+    else if bytes_eq verb (codes "report") then command_on Report (role.Policy ∷ role.Requests ∷ []) names
+    else if bytes_eq verb (codes "compare") then command_on Compare (role.First ∷ role.Second ∷ []) names
+    else if bytes_eq verb (codes "check") then command_on Check (role.First ∷ role.Second ∷ role.Proof ∷ []) names
+    else if bytes_eq verb (codes "drill") then drill_on (drill_pairs word) names
+    else if bytes_eq verb (codes "tidy") then command_on Tidy (role.Policy ∷ []) names
+    else if bytes_eq verb (codes "learn") then command_on Learn (role.Requests ∷ []) names
+    else if bytes_eq verb (codes "order") then order_on names
+    else if bytes_eq verb (codes "why") then command_on Why (role.Policy ∷ role.Requests ∷ []) names
+    else if bytes_eq verb (codes "differ") then command_on Differ (role.First ∷ role.Second ∷ []) names
+    else if bytes_eq verb (codes "read") then command_on Read (role.Block ∷ []) names
     else None
 
 -- the origin of the policies of a form's files, which that word is; a drill reads no file, and has another
@@ -46,93 +82,40 @@ unfoldable pub origin_for : Form → List ℕ → Option Origin
 origin_for (Drill pairs) word = Some Opaque
 origin_for form word = origin_of word
 
--- how many files it reads
-abbrev pub takes : Form → ℕ → Bool
-takes Judge files = files == 2
-takes Report files = files == 2
-takes Compare files = files == 2
-takes Check files = files == 3
-takes (Drill pairs) files = files == 0
-takes (Embed embedder) files = files == 2
-takes Tidy files = files == 1
-takes Learn files = files == 1
-takes Order files = nat_le 2 files && nat_le files 16
-takes Why files = files == 2
-takes Differ files = files == 2
-takes Read files = files == 1
-
--- what the file at a place, counted from 0, is where requests are judged
-abbrev pub judged_role : ℕ → Role
-judged_role place = if place == 0 then role.Policy else role.Requests
-
--- and where two lists are compared
-abbrev pub compared_role : ℕ → Role
-compared_role place = if place == 0 then role.First else if place == 1 then role.Second else role.Proof
-
--- and where a policy is required of a response
-abbrev pub embedded_role : ℕ → Role
-embedded_role place = if place == 0 then role.Required else role.Response
-
--- what the file at a place is to a command
-abbrev pub role_at : Form → ℕ → Role
-role_at Judge place = judged_role place
-role_at Report place = judged_role place
-role_at Compare place = compared_role place
-role_at Check place = compared_role place
-role_at (Drill pairs) place = compared_role place
-role_at (Embed embedder) place = embedded_role place
-role_at Tidy place = role.Policy
-role_at Learn place = role.Requests
-role_at Order place = role.List (place + 1)
-role_at Why place = judged_role place
-role_at Differ place = compared_role place
-role_at Read place = role.Block
-
--- a file that a command reads
-pub record File : Type 0 where
-  pub role : Role
-  pub name : List ℕ
-
--- files of these names, from a place on
-abbrev pub files_from : Form → ℕ → List (List ℕ) → List File
-files_from form place [] = []
-files_from form place (name ∷ names) =
-    record { role = role_at form place; name = name } ∷ files_from form (place + 1) names
-
 -- a command, the origin of the policies of its files, and these in the order in which they are read
 pub record Plan : Type 0 where
   pub form : Form
   pub origin : Origin
   pub files : List File
 
-abbrev pub with_origin : Form → Option Origin → List (List ℕ) → Result Plan Fault
-with_origin form None names = Err BadOrigin
-with_origin form (Some origin) names =
-    Ok (record { form = form; origin = origin; files = files_from form 0 names })
+abbrev pub with_origin : Command → Option Origin → Result Plan WordsFault
+with_origin command None = Err BadOrigin
+with_origin command (Some origin) = Ok (record { form = command.form; origin = origin; files = command.files })
 
-abbrev pub with_form : Option Form → List ℕ → List (List ℕ) → Result Plan Fault
-with_form None word names = Err Usage
-with_form (Some form) word names =
-    if takes form (length names) then with_origin form (origin_for form word) names else Err Usage
+-- what a command asks for by the word for its origin
+abbrev pub with_command : Option Command → List ℕ → Result Plan WordsFault
+with_command None word = Err Usage
+with_command (Some command) word = with_origin command (origin_for command.form word)
 
-abbrev pub with_embedder : Option Origin → List ℕ → List (List ℕ) → Result Plan Fault
-with_embedder None word names = Err BadOrigin
-with_embedder (Some embedder) word names =
-    with_origin (Embed embedder) (origin_for (Embed embedder) word) names
+-- what `embed` asks for by the origin of the embedder, the word for that of the response, and its files
+abbrev pub with_embedder : Option (List File) → Option Origin → List ℕ → Result Plan WordsFault
+with_embedder None embedder word = Err Usage
+with_embedder (Some files) None word = Err BadOrigin
+with_embedder (Some files) (Some embedder) word =
+    with_command (Some (record { form = Embed embedder; files = files })) word
 
--- what `embed` asks for by the words behind it: the origin of the embedder, that of the response, and two names
-abbrev pub embed_plan : List ℕ → List (List ℕ) → Result Plan Fault
+abbrev pub embed_plan : List ℕ → List (List ℕ) → Result Plan WordsFault
 embed_plan embedder (word ∷ names) =
-    if length names == 2 then with_embedder (origin_of embedder) word names else Err Usage
+    with_embedder (files_as (role.Required ∷ role.Response ∷ []) names) (origin_of embedder) word
 embed_plan embedder [] = Err Usage
 
 -- what these words ask for, or why it is nothing: a verb, an origin or a number, and the names of files
-abbrev pub plan_of : List (List ℕ) → Result Plan Fault
+abbrev pub plan_of : List (List ℕ) → Result Plan WordsFault
 plan_of (verb ∷ word ∷ names) =
-    if bytes_eq verb (codes "embed") then embed_plan word names else with_form (form_of verb word) word names
+    if bytes_eq verb (codes "embed") then embed_plan word names else with_command (command_of verb word names) word
 plan_of words = Err Usage
 
 -- the files that it reads
-abbrev pub files_asked : Result Plan Fault → List File
+abbrev pub files_asked : Result Plan WordsFault → List File
 files_asked (Err f) = []
 files_asked (Ok plan) = plan.files

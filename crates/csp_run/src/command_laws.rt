@@ -13,9 +13,9 @@ ghost use Rattle.csp_reasons.specs.Explanations.{explanation};
 ghost use Rattle.csp_run.specs.Commands.{AcceptsInclusion, AsksFor, Learns, NamesDirectives, Shows, Tidies, Wrote};
 ghost use Rattle.csp_run.specs.Desk.{Desk};
 ghost use Rattle.csp_run.specs.Files.{World};
+ghost use Rattle.csp_run.specs.Forms as form;
 ghost use Rattle.csp_run.specs.Laws.{AreLists, AreRequests};
 ghost use Rattle.csp_run.specs.Words.{Plan};
-ghost use Rattle.csp_run.specs.declared.plan.Form.TheVariants as form;
 
 use csp_compare::laws::each_directive_that_differs_is_named;
 use csp_differ::laws::differ_ends_as_compare;

@@ -1,4 +1,4 @@
-//! The faults that end a run, with the files and the limits that they name.
+//! The faults that end a run, by what finds them, with the files and the limits that they name.
 ghost use Rattle.std.specs.Prelude.{◌≡◌};
 ghost use Rattle.csp_run.specs.Texts as texts;
 
@@ -49,58 +49,61 @@ pub enum Limit {
     Hops,
 }
 
-/// Why a run has no output.
+/// Why words ask for nothing.
 #[derive(Clone, Copy, Debug, PartialEq, Eq)]
-pub enum Fault {
-    /// The words have none of the forms.
+pub enum WordsFault {
+    /// They have none of the forms.
     Usage,
     /// The word for the origin is none.
     BadOrigin,
-    /// The line of this number, counted from 1, is the first bad one of a policy file.
-    BadPolicy { file: Role, line: u32 },
-    /// A count of a file passes its limit.
-    TooLarge { file: Role, limit: Limit },
-    /// A request file isn't a JSON array.
+}
+
+/// Why nothing is read of a file.
+#[derive(Clone, Copy, Debug, PartialEq, Eq)]
+pub enum Cause {
+    /// It couldn't be read.
+    Read,
+    /// A count of it passes its limit.
+    TooLarge { limit: Limit },
+    /// The line of this number, counted from 1, is its first bad one.
+    BadPolicy { line: u32 },
+    /// The policies that are required aren't one enforced policy.
+    BadRequired,
+}
+
+/// The first file of which nothing is read, and why.
+#[derive(Clone, Copy, Debug, PartialEq, Eq)]
+pub struct FileFault {
+    pub file: Role,
+    pub cause: Cause,
+}
+
+/// Why a request file or a proof that was read gives no output.
+#[derive(Clone, Copy, Debug, PartialEq, Eq)]
+pub enum OutputFault {
+    /// The request file isn't a JSON array.
     NotJson,
+    /// A count of the request file passes its limit.
+    TooLarge { limit: Limit },
     /// A member of the description of this number, counted from 1, is missing or misused.
     BadRequest { request: u32, field: Field },
     /// The line of this number, counted from 1, is the first that can't stand in a proof.
     BadProof { line: u32 },
-    /// The policies that are required aren't one enforced policy.
-    BadRequired,
-    /// A file couldn't be read.
-    Read { file: Role },
+}
+
+/// Why a run has no output.
+#[derive(Clone, Copy, Debug, PartialEq, Eq)]
+pub enum Fault {
+    /// The words ask for nothing.
+    Words(WordsFault),
+    /// Nothing is read of a file.
+    File(FileFault),
+    /// What was read gives no output.
+    Output(OutputFault),
     /// The reporter of this number, counted from 1, refused a violation.
     Refused { reporter: u32 },
     /// There was no memory.
     Memory,
-}
-
-impl From<RequestError> for Fault {
-    ghost use Rattle.csp_run.specs.Outputs.{request_fault};
-
-    ghost from_gives = { λ error made. made ≡ request_fault error };
-
-    // The fault of what a request file is refused for.
-    fn from(error: RequestError) -> Fault {
-        let file = Role::Requests;
-        match error {
-            RequestError::NotJson => Fault::NotJson,
-            RequestError::TooManyRequests => Fault::TooLarge {
-                file,
-                limit: Limit::Requests,
-            },
-            RequestError::BadRequest { index, field } => Fault::BadRequest {
-                request: index,
-                field,
-            },
-            RequestError::TooManyHops { .. } => Fault::TooLarge {
-                file,
-                limit: Limit::Hops,
-            },
-            RequestError::Memory => Fault::Memory,
-        }
-    }
 }
 
 /// The status that a fault ends with.
@@ -108,16 +111,33 @@ pub fn status_of(fault: Fault) -> Status
     ensures { result ≡ texts.status_of fault }
 {
     match fault {
-        Fault::Usage => Status::Usage,
-        Fault::BadOrigin => Status::BadOrigin,
-        Fault::BadPolicy { .. } => Status::BadPolicy,
-        Fault::TooLarge { .. } => Status::TooLarge,
-        Fault::NotJson | Fault::BadRequest { .. } => Status::BadRequests,
-        Fault::BadProof { .. } => Status::BadProof,
-        Fault::BadRequired => Status::BadRequired,
-        Fault::Read { .. } => Status::ReadFault,
+        Fault::Words(WordsFault::Usage) => Status::Usage,
+        Fault::Words(WordsFault::BadOrigin) => Status::BadOrigin,
+        Fault::File(FileFault { cause, .. }) => cause_status(cause),
+        Fault::Output(fault) => output_status(fault),
         Fault::Refused { .. } => Status::ReporterFault,
         Fault::Memory => Status::NoMemory,
+    }
+}
+
+fn cause_status(cause: Cause) -> Status
+    ensures { result ≡ texts.cause_status cause }
+{
+    match cause {
+        Cause::Read => Status::ReadFault,
+        Cause::TooLarge { .. } => Status::TooLarge,
+        Cause::BadPolicy { .. } => Status::BadPolicy,
+        Cause::BadRequired => Status::BadRequired,
+    }
+}
+
+fn output_status(fault: OutputFault) -> Status
+    ensures { result ≡ texts.output_status fault }
+{
+    match fault {
+        OutputFault::NotJson | OutputFault::BadRequest { .. } => Status::BadRequests,
+        OutputFault::TooLarge { .. } => Status::TooLarge,
+        OutputFault::BadProof { .. } => Status::BadProof,
     }
 }
 
@@ -131,16 +151,39 @@ impl From<Memory> for Fault {
     }
 }
 
-impl From<DeskError> for Fault {
-    ghost use Rattle.csp_run.specs.Shown.{desk_fault};
+impl From<OriginError> for Fault {
+    ghost use Rattle.csp_run.specs.Shown.{origin_fault};
 
-    ghost from_gives = { λ error made. made ≡ desk_fault error };
+    ghost from_gives = { λ error made. made ≡ origin_fault error };
 
-    fn from(error: DeskError) -> Fault {
+    fn from(error: OriginError) -> Fault {
         match error {
-            DeskError::Refused { reporter } => Fault::Refused { reporter },
-            DeskError::Memory => Fault::Memory,
+            OriginError::BadOrigin => Fault::Words(WordsFault::BadOrigin),
+            OriginError::Memory => Fault::Memory,
         }
+    }
+}
+
+impl From<RequestError> for Fault {
+    ghost use Rattle.csp_run.specs.Outputs.{request_fault};
+    ghost use Rattle.csp_run.specs.Shown.{output_or_memory};
+
+    ghost from_gives = { λ error made. made ≡ output_or_memory (request_fault error) };
+
+    // The fault of what a request file is refused for.
+    fn from(error: RequestError) -> Fault {
+        Fault::Output(match error {
+            RequestError::NotJson => OutputFault::NotJson,
+            RequestError::TooManyRequests => OutputFault::TooLarge {
+                limit: Limit::Requests,
+            },
+            RequestError::BadRequest { index, field } => OutputFault::BadRequest {
+                request: index,
+                field,
+            },
+            RequestError::TooManyHops { .. } => OutputFault::TooLarge { limit: Limit::Hops },
+            RequestError::Memory => return Fault::Memory,
+        })
     }
 }
 
@@ -151,24 +194,23 @@ impl From<LearnError> for Fault {
 
     fn from(error: LearnError) -> Fault {
         match error {
-            LearnError::TooManySources => Fault::TooLarge {
-                file: Role::Requests,
+            LearnError::TooManySources => Fault::Output(OutputFault::TooLarge {
                 limit: Limit::Sources,
-            },
+            }),
             LearnError::Memory => Fault::Memory,
         }
     }
 }
 
-impl From<OriginError> for Fault {
-    ghost use Rattle.csp_run.specs.Shown.{origin_fault};
+impl From<DeskError> for Fault {
+    ghost use Rattle.csp_run.specs.Shown.{desk_fault};
 
-    ghost from_gives = { λ error made. made ≡ origin_fault error };
+    ghost from_gives = { λ error made. made ≡ desk_fault error };
 
-    fn from(error: OriginError) -> Fault {
+    fn from(error: DeskError) -> Fault {
         match error {
-            OriginError::BadOrigin => Fault::BadOrigin,
-            OriginError::Memory => Fault::Memory,
+            DeskError::Refused { reporter } => Fault::Refused { reporter },
+            DeskError::Memory => Fault::Memory,
         }
     }
 }

@@ -5,7 +5,7 @@ ghost use Rattle.csp_io.specs.Told.{Rose, GrewBy, GrewByPrefix};
 ghost use Rattle.csp_request.specs.Members as members;
 ghost use Rattle.csp_run.specs.Texts as texts;
 
-use crate::fault::{Fault, Limit, Role};
+use crate::fault::{Cause, Fault, FileFault, Limit, OutputFault, Role, WordsFault};
 use csp_io::{Failed, Sink, write_all};
 use csp_request::Field;
 use itoa::Buffer;
@@ -83,50 +83,9 @@ fn pieces<'a>(fault: Fault, list: &'a mut Buffer, digits: &'a mut Buffer) -> [&'
     ensures { map (λ piece. piece.now) result ≡ texts.fault_pieces fault }
 {
     match fault {
-        Fault::Usage => [
-            "usage: judge ORIGIN POLICY REQUESTS | report ORIGIN POLICY REQUESTS",
-            " | compare ORIGIN FIRST SECOND | check ORIGIN FIRST SECOND PROOF",
-            " | drill N | embed EMBEDDER ORIGIN REQUIRED RESPONSE",
-            " | tidy ORIGIN POLICY | learn ORIGIN REQUESTS | order ORIGIN LISTS",
-            " | why ORIGIN POLICY REQUESTS",
-            " | differ ORIGIN FIRST SECOND | read ORIGIN POLICY\n",
-        ],
-        Fault::BadOrigin => ["bad origin", "", "", "", "", "\n"],
-        Fault::BadPolicy { file, line } => [
-            "bad policy: ",
-            role_word(file),
-            role_number(file, list),
-            " line ",
-            digits.format(line),
-            "\n",
-        ],
-        Fault::TooLarge { file, limit } => [
-            "too large: ",
-            role_word(file),
-            role_number(file, list),
-            " ",
-            limit_text(limit),
-            "\n",
-        ],
-        Fault::NotJson => ["bad requests: not a JSON array", "", "", "", "", "\n"],
-        Fault::BadRequest { request, field } => [
-            "bad requests: request ",
-            digits.format(request),
-            " ",
-            field_text(field),
-            "",
-            "\n",
-        ],
-        Fault::BadProof { line } => ["bad proof: line ", digits.format(line), "", "", "", "\n"],
-        Fault::BadRequired => ["bad required policy", "", "", "", "", "\n"],
-        Fault::Read { file } => [
-            "read fault: ",
-            role_word(file),
-            role_number(file, list),
-            "",
-            "",
-            "\n",
-        ],
+        Fault::Words(fault) => words_pieces(fault),
+        Fault::File(FileFault { file, cause }) => file_pieces(file, cause, list, digits),
+        Fault::Output(fault) => output_pieces(fault, digits),
         Fault::Refused { reporter } => [
             "reporter fault: ",
             digits.format(reporter),
@@ -136,6 +95,89 @@ fn pieces<'a>(fault: Fault, list: &'a mut Buffer, digits: &'a mut Buffer) -> [&'
             "\n",
         ],
         Fault::Memory => ["no memory", "", "", "", "", "\n"],
+    }
+}
+
+#[tactic(auto, unfolding(crate::specs::Texts::words_pieces))]
+fn words_pieces<'a>(fault: WordsFault) -> [&'a str; 6]
+    ensures { map (λ piece. piece.now) result ≡ texts.words_pieces fault }
+{
+    match fault {
+        WordsFault::Usage => [
+            "usage: judge ORIGIN POLICY REQUESTS | report ORIGIN POLICY REQUESTS",
+            " | compare ORIGIN FIRST SECOND | check ORIGIN FIRST SECOND PROOF",
+            " | drill N | embed EMBEDDER ORIGIN REQUIRED RESPONSE",
+            " | tidy ORIGIN POLICY | learn ORIGIN REQUESTS | order ORIGIN LISTS",
+            " | why ORIGIN POLICY REQUESTS",
+            " | differ ORIGIN FIRST SECOND | read ORIGIN POLICY\n",
+        ],
+        WordsFault::BadOrigin => ["bad origin", "", "", "", "", "\n"],
+    }
+}
+
+#[tactic(auto, unfolding(crate::specs::Texts::file_pieces))]
+fn file_pieces<'a>(
+    file: Role,
+    cause: Cause,
+    list: &'a mut Buffer,
+    digits: &'a mut Buffer,
+) -> [&'a str; 6]
+    ensures { map (λ piece. piece.now) result ≡ texts.file_pieces file cause }
+{
+    match cause {
+        Cause::Read => [
+            "read fault: ",
+            role_word(file),
+            role_number(file, list),
+            "",
+            "",
+            "\n",
+        ],
+        Cause::TooLarge { limit } => [
+            "too large: ",
+            role_word(file),
+            role_number(file, list),
+            " ",
+            limit_text(limit),
+            "\n",
+        ],
+        Cause::BadPolicy { line } => [
+            "bad policy: ",
+            role_word(file),
+            role_number(file, list),
+            " line ",
+            digits.format(line),
+            "\n",
+        ],
+        Cause::BadRequired => ["bad required policy", "", "", "", "", "\n"],
+    }
+}
+
+#[tactic(auto, unfolding(crate::specs::Texts::output_pieces))]
+fn output_pieces<'a>(fault: OutputFault, digits: &'a mut Buffer) -> [&'a str; 6]
+    ensures { map (λ piece. piece.now) result ≡ texts.output_pieces fault }
+{
+    match fault {
+        OutputFault::NotJson => ["bad requests: not a JSON array", "", "", "", "", "\n"],
+        OutputFault::TooLarge { limit } => [
+            "too large: requests ",
+            limit_text(limit),
+            "",
+            "",
+            "",
+            "\n",
+        ],
+        OutputFault::BadRequest { request, field } => [
+            "bad requests: request ",
+            digits.format(request),
+            " ",
+            field_text(field),
+            "",
+            "\n",
+        ],
+        OutputFault::BadProof { line } => {
+            ["bad proof: line ", digits.format(line), "", "", "", "\n"]
+        }
     }
 }
 

@@ -2,7 +2,7 @@
 ghost use Rattle.std.specs.Prelude.{◌≡◌, ◌≢◌, if◌then◌else◌};
 ghost use Rattle.csp_model.specs.Policies.{IsReadable};
 ghost use Rattle.csp_request.specs.Requests.{requests_of};
-ghost use Rattle.csp_run.specs.Outputs.{judged};
+ghost use Rattle.csp_run.specs.Outputs.{EndsSo, IsJudged, IsOnRequests};
 
 use crate::fault::Fault;
 use csp_model::{Described, Memory, PolicyList};
@@ -52,7 +52,8 @@ impl<'a> Take for Judging<'a> {
 // The lines of the verdicts on the requests of a request file.
 pub(crate) fn judge(alloc: Global, list: &PolicyList, bytes: &[u8]) -> Result<Built, Fault>
     requires { IsReadable list.now }
-    ensures { result ≢ Err Fault.Memory → result ≡ judged list.now (requests_of bytes.now) }
+    ensures { result ≢ Err Fault.Memory
+        → EndsSo (IsOnRequests (IsJudged list.now) (requests_of bytes.now)) result }
 {
     let mut judging = Judging {
         list: CompiledList::new(alloc, list)?,

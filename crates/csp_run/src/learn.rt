@@ -1,7 +1,7 @@
 //! What `learn` prints: the policy that the fetches of a request file need.
 ghost use Rattle.std.specs.Prelude.{◌≡◌, ◌≢◌};
 ghost use Rattle.csp_request.specs.Requests.{requests_of};
-ghost use Rattle.csp_run.specs.Outputs.{learnt};
+ghost use Rattle.csp_run.specs.Outputs.{EndsSo, IsLearnt, IsOnRequests};
 
 use crate::fault::Fault;
 use csp_learn::Learning;
@@ -48,7 +48,8 @@ impl Take for Log {
 
 // The policy that the fetches of a request file need, and the fetches that no source can name.
 pub(crate) fn learn(alloc: Global, origin: &Origin, bytes: &[u8]) -> Result<Built, Fault>
-    ensures { result ≢ Err Fault.Memory → result ≡ learnt origin.now (requests_of bytes.now) }
+    ensures { result ≢ Err Fault.Memory
+        → EndsSo (IsOnRequests (IsLearnt origin.now) (requests_of bytes.now)) result }
 {
     let mut log = Log {
         learning: Learning::new(alloc),

@@ -10,7 +10,6 @@ mod gathered;
 mod judge;
 pub mod laws;
 mod learn;
-mod lists;
 mod output;
 mod plan;
 mod printed;

@@ -1,101 +1,98 @@
 //! What the words ask for.
-ghost use Rattle.std.specs.Prelude.{◌≡◌, ◌≢◌, ◌<◌, ◌^◌, length, ok_or, IfOk, IsTrue};
+ghost use Rattle.std.specs.Prelude.{◌≡◌, ◌≢◌, ◌∷◌, [], ok_or, option_map, IfOk, IfSome};
 ghost use Rattle.csp_model.specs.Answers.{Gives};
 ghost use Rattle.csp_model.specs.Validity.{IsValidOrigin};
-ghost use Rattle.csp_run.specs.Shown.{shown};
+ghost use Rattle.csp_run.specs.Forms as form;
+ghost use Rattle.csp_run.specs.Shown.{IsAsked, as_command, compared_form, form_of, judged_form, planned, words_end};
 ghost use Rattle.csp_run.specs.Words as spec;
+ghost use Rattle.csp_run.specs.declared.fault.Role.TheVariants as role;
 
-use crate::fault::{Fault, Role};
+use crate::fault::{Fault, WordsFault};
 use csp_model::{Origin, Text, are_digits, decimal_value};
 use csp_url::{OriginError, read_origin};
 use std::alloc::Global;
 
-/// What a command does.
-#[derive(Debug, PartialEq, Eq, Drop)]
-pub enum Form {
-    /// The verdicts of a policy file on the requests of a request file.
+/// What is done with a policy file and a request file.
+#[derive(Clone, Copy, Debug, PartialEq, Eq)]
+pub enum Judged {
+    /// The verdicts on the requests.
     Judge,
-    /// What reporters tell of the violations of a policy file by the requests of a request file.
+    /// What reporters tell of the violations.
     Report,
-    /// Whether the second of two policy files allows all that the first allows: a proof, or a check.
-    Compare,
-    /// Whether a proof of that is accepted.
-    Check,
-    /// The comparison of two lists that are made for it, with so many pairs of sources.
-    Drill { pairs: u8 },
-    /// What becomes of a response of which this embedder requires a policy.
-    Embed { embedder: Origin },
-    /// A list that allows what a policy file allows, without the tokens that change nothing.
-    Tidy,
-    /// The policy that the fetches of a request file need.
-    Learn,
-    /// Which of 2 to 16 policy files allow all that which others allow.
-    Order,
-    /// The verdicts of `Judge`, and for each policy which token decided or nearly did.
+    /// The verdicts, and for each policy which token decided or nearly did.
     Why,
-    /// Each directive under which the first of two policy files allows more than the second, with a check.
-    Differ,
-    /// How a policy file is read, piece by piece.
-    Read,
 }
 
-/// A command, the origin of the policies of its files, and the names of these in order.
+/// What is done with two policy files.
+#[derive(Clone, Copy, Debug, PartialEq, Eq)]
+pub enum Compared {
+    /// Whether the second allows all that the first allows: a proof, or a check.
+    Compare,
+    /// Each directive under which the first allows more than the second, with a check.
+    Differ,
+}
+
+/// A command, and the names of its files.
+#[derive(Drop)]
+pub enum Command<'a> {
+    /// What is said of the requests of a request file by a policy file.
+    Judged {
+        does: Judged,
+        policy: &'a Text,
+        requests: &'a Text,
+    },
+    /// How two policy files differ.
+    Compared {
+        does: Compared,
+        first: &'a Text,
+        second: &'a Text,
+    },
+    /// Whether a proof is accepted that the second of two policy files allows all that the first allows.
+    Checked {
+        first: &'a Text,
+        second: &'a Text,
+        proof: &'a Text,
+    },
+    /// The comparison of two lists that are made for it, with so many pairs of sources.
+    Drill {
+        pairs: u8,
+    },
+    /// What becomes of a response of which this embedder requires a policy.
+    Embedded {
+        embedder: Origin,
+        required: &'a Text,
+        response: &'a Text,
+    },
+    /// A list that allows what a policy file allows, without the tokens that change nothing.
+    Tidied {
+        policy: &'a Text,
+    },
+    /// The policy that the fetches of a request file need.
+    Learnt {
+        requests: &'a Text,
+    },
+    /// Which of 2 to 16 policy files allow all that which others allow.
+    Ordered {
+        lists: &'a [Text],
+    },
+    /// How a policy file is read, piece by piece.
+    Block {
+        block: &'a Text,
+    },
+}
+
+/// A command, and the origin of the policies of its files.
 #[derive(Drop)]
 pub struct Plan<'a> {
-    pub form: Form,
     pub origin: Origin,
-    pub names: &'a [Text],
-}
-
-// What a file at a place, counted from 0, is to a command.
-pub(crate) fn role_at(form: &Form, place: usize) -> Role
-    requires { place < 2 ^ 63 }
-    ensures { result ≡ spec.role_at form.now place }
-{
-    match form {
-        Form::Judge | Form::Report | Form::Why => judged_role(place),
-        Form::Compare | Form::Check | Form::Drill { .. } | Form::Differ => compared_role(place),
-        Form::Embed { .. } => embedded_role(place),
-        Form::Tidy => Role::Policy,
-        Form::Learn => Role::Requests,
-        Form::Order => Role::List { number: place + 1 },
-        Form::Read => Role::Block,
-    }
-}
-
-fn judged_role(place: usize) -> Role
-    ensures { result ≡ spec.judged_role place }
-{
-    match place {
-        0 => Role::Policy,
-        _ => Role::Requests,
-    }
-}
-
-fn compared_role(place: usize) -> Role
-    ensures { result ≡ spec.compared_role place }
-{
-    match place {
-        0 => Role::First,
-        1 => Role::Second,
-        _ => Role::Proof,
-    }
-}
-
-fn embedded_role(place: usize) -> Role
-    ensures { result ≡ spec.embedded_role place }
-{
-    match place {
-        0 => Role::Required,
-        _ => Role::Response,
-    }
+    pub command: Command<'a>,
 }
 
 // What these words ask for, or why it is nothing: `Usage` or `BadOrigin`, tested in this order, or `Memory`.
 pub(crate) fn plan_of(alloc: Global, words: &[Text]) -> Result<Plan<'_>, Fault>
-    ensures plan { result ≢ Err Fault.Memory → shown result ≡ spec.plan_of words.now }
-    ensures takes { IfOk result (λ plan. IsTrue (spec.takes plan.form (length plan.names.now))) }
+    ensures plan { result ≢ Err Fault.Memory → planned result ≡ words_end (spec.plan_of words.now) }
     ensures valid { IfOk result (λ plan. IsValidOrigin plan.origin) }
+    ensures asked { IfOk result (λ plan. IsAsked plan.command) }
 {
     match words {
         [verb, word, names @ ..] => {
@@ -104,75 +101,152 @@ pub(crate) fn plan_of(alloc: Global, words: &[Text]) -> Result<Plan<'_>, Fault>
             } else {
                 plan_with(
                     alloc,
-                    form_of(verb.as_str(), word.as_str()),
+                    command_of(verb.as_str(), word.as_str(), names),
                     word.as_str(),
-                    names,
                 )
             }
         }
-        _ => Err(Fault::Usage),
+        _ => Err(Fault::Words(WordsFault::Usage)),
     }
 }
 
 // What `embed` asks for by the words behind it.
 fn embed_plan<'a>(alloc: Global, embedder: &str, words: &'a [Text]) -> Result<Plan<'a>, Fault>
-    ensures plan { result ≢ Err Fault.Memory → shown result ≡ spec.embed_plan embedder.now words.now }
-    ensures takes { IfOk result (λ plan. IsTrue (spec.takes plan.form (length plan.names.now))) }
+    ensures plan { result ≢ Err Fault.Memory
+        → planned result ≡ words_end (spec.embed_plan embedder.now words.now) }
     ensures valid { IfOk result (λ plan. IsValidOrigin plan.origin) }
+    ensures asked { IfOk result (λ plan. IsAsked plan.command) }
 {
-    match words.split_first() {
-        Some((origin, names)) if names.len() == 2 => match read_origin(alloc, embedder) {
-            Ok(embedder) => plan_at(alloc, Form::Embed { embedder }, origin.as_str(), names),
+    match words {
+        [origin, required, response] => match read_origin(alloc, embedder) {
+            Ok(embedder) => plan_at(
+                alloc,
+                Command::Embedded {
+                    embedder,
+                    required,
+                    response,
+                },
+                origin.as_str(),
+            ),
             Err(error) => Err(Fault::from(error)),
         },
-        _ => Err(Fault::Usage),
+        _ => Err(Fault::Words(WordsFault::Usage)),
     }
 }
 
-// What a form asks for by the word behind its verb and by the names of its files.
-fn plan_with<'a>(
-    alloc: Global,
-    form: Option<Form>,
-    word: &str,
-    names: &'a [Text],
-) -> Result<Plan<'a>, Fault>
-    ensures plan { result ≢ Err Fault.Memory → shown result ≡ spec.with_form form word.now names.now }
-    ensures takes { IfOk result (λ plan. IsTrue (spec.takes plan.form (length plan.names.now))) }
-    ensures valid { IfOk result (λ plan. IsValidOrigin plan.origin) }
-{
-    match form {
-        Some(form) if takes(&form, names.len()) => plan_at(alloc, form, word, names),
-        _ => Err(Fault::Usage),
-    }
-}
-
-// What a form asks for by the word for its origin and by the names of its files, which are as many as it takes.
-fn plan_at<'a>(alloc: Global, form: Form, word: &str, names: &'a [Text]) -> Result<Plan<'a>, Fault>
-    requires { IsTrue (spec.takes form (length names.now)) }
+// What a command asks for by the word behind its verb.
+fn plan_with<'a>(alloc: Global, command: Option<Command<'a>>, word: &str) -> Result<Plan<'a>, Fault>
+    requires { IfSome command IsAsked }
     ensures plan { result ≢ Err Fault.Memory
-        → shown result ≡ spec.with_origin form (spec.origin_for form word.now) names.now }
-    ensures takes { IfOk result (λ plan. IsTrue (spec.takes plan.form (length plan.names.now))) }
+        → planned result ≡ words_end (spec.with_command (option_map as_command command.entry) word.now) }
     ensures valid { IfOk result (λ plan. IsValidOrigin plan.origin) }
+    ensures asked { IfOk result (λ plan. IsAsked plan.command) }
 {
-    let origin = origin_for(alloc, &form, word)?;
-    Ok(Plan {
-        form,
-        origin,
-        names,
-    })
+    match command {
+        Some(command) => plan_at(alloc, command, word),
+        None => Err(Fault::Words(WordsFault::Usage)),
+    }
 }
 
-// The origin of the policies of a form's files, which the word behind the verb is. A drill reads no file, and
+// What a command asks for by the word for its origin.
+fn plan_at<'a>(alloc: Global, command: Command<'a>, word: &str) -> Result<Plan<'a>, Fault>
+    requires { IsAsked command }
+    ensures plan { result ≢ Err Fault.Memory
+        → planned result ≡ words_end (spec.with_command (Some (as_command command.entry)) word.now) }
+    ensures valid { IfOk result (λ plan. IsValidOrigin plan.origin) }
+    ensures asked { IfOk result (λ plan. IsAsked plan.command) }
+{
+    let origin = origin_for(alloc, &command, word)?;
+    Ok(Plan { origin, command })
+}
+
+// The origin of the policies of a command's files, which the word behind the verb is. A drill reads no file, and
 // that word is no origin.
 #[tactic(auto, unfolding(crate::specs::Words::origin_for))]
-fn origin_for(alloc: Global, form: &Form, word: &str) -> Result<Origin, OriginError>
+fn origin_for(alloc: Global, command: &Command<'_>, word: &str) -> Result<Origin, OriginError>
     ensures origin { Gives OriginError.Memory result
-        (ok_or (spec.origin_for form.now word.now) OriginError.BadOrigin) }
+        (ok_or (spec.origin_for (form_of command.now) word.now) OriginError.BadOrigin) }
     ensures valid { IfOk result IsValidOrigin }
 {
-    match form {
-        Form::Drill { .. } => Ok(Origin::Opaque),
+    match command {
+        Command::Drill { .. } => Ok(Origin::Opaque),
         _ => read_origin(alloc, word),
+    }
+}
+
+// The command that a verb, the word behind it and the names of files ask for.
+fn command_of<'a>(verb: &str, word: &str, names: &'a [Text]) -> Option<Command<'a>>
+    ensures command { option_map as_command result ≡ spec.command_of verb.now word.now names.now }
+    ensures asked { IfSome result IsAsked }
+{
+    match verb {
+        "judge" => judging(Judged::Judge, names),
+        "report" => judging(Judged::Report, names),
+        "compare" => comparing(Compared::Compare, names),
+        "check" => checking(names),
+        "drill" => drilling(word, names),
+        "tidy" => tidying(names),
+        "learn" => learning(names),
+        "order" => ordering(names),
+        "why" => judging(Judged::Why, names),
+        "differ" => comparing(Compared::Differ, names),
+        "read" => telling(names),
+        _ => None,
+    }
+}
+
+fn judging<'a>(does: Judged, names: &'a [Text]) -> Option<Command<'a>>
+    ensures command { option_map as_command result
+        ≡ spec.command_on (judged_form does) (role.Policy ∷ role.Requests ∷ []) names.now }
+    ensures asked { IfSome result IsAsked }
+{
+    match names {
+        [policy, requests] => Some(Command::Judged {
+            does,
+            policy,
+            requests,
+        }),
+        _ => None,
+    }
+}
+
+fn comparing<'a>(does: Compared, names: &'a [Text]) -> Option<Command<'a>>
+    ensures command { option_map as_command result
+        ≡ spec.command_on (compared_form does) (role.First ∷ role.Second ∷ []) names.now }
+    ensures asked { IfSome result IsAsked }
+{
+    match names {
+        [first, second] => Some(Command::Compared {
+            does,
+            first,
+            second,
+        }),
+        _ => None,
+    }
+}
+
+fn checking<'a>(names: &'a [Text]) -> Option<Command<'a>>
+    ensures command { option_map as_command result
+        ≡ spec.command_on form.Check (role.First ∷ role.Second ∷ role.Proof ∷ []) names.now }
+    ensures asked { IfSome result IsAsked }
+{
+    match names {
+        [first, second, proof] => Some(Command::Checked {
+            first,
+            second,
+            proof,
+        }),
+        _ => None,
+    }
+}
+
+fn drilling<'a>(word: &str, names: &'a [Text]) -> Option<Command<'a>>
+    ensures command { option_map as_command result ≡ spec.drill_on (spec.drill_pairs word.now) names.now }
+    ensures asked { IfSome result IsAsked }
+{
+    match drill_pairs(word.as_bytes()) {
+        Some(pairs) if names.is_empty() => Some(Command::Drill { pairs }),
+        _ => None,
     }
 }
 
@@ -188,43 +262,44 @@ fn drill_pairs(word: &[u8]) -> Option<u8>
     }
 }
 
-// The form that a verb and the word behind it name.
-fn form_of(verb: &str, word: &str) -> Option<Form>
-    ensures { result ≡ spec.form_of verb.now word.now }
+fn tidying<'a>(names: &'a [Text]) -> Option<Command<'a>>
+    ensures command { option_map as_command result ≡ spec.command_on form.Tidy (role.Policy ∷ []) names.now }
+    ensures asked { IfSome result IsAsked }
 {
-    match verb {
-        "judge" => Some(Form::Judge),
-        "report" => Some(Form::Report),
-        "compare" => Some(Form::Compare),
-        "check" => Some(Form::Check),
-        "drill" => match drill_pairs(word.as_bytes()) {
-            Some(pairs) => Some(Form::Drill { pairs }),
-            None => None,
-        },
-        "tidy" => Some(Form::Tidy),
-        "learn" => Some(Form::Learn),
-        "order" => Some(Form::Order),
-        "why" => Some(Form::Why),
-        "differ" => Some(Form::Differ),
-        "read" => Some(Form::Read),
+    match names {
+        [policy] => Some(Command::Tidied { policy }),
         _ => None,
     }
 }
 
-// Whether it reads so many files.
-fn takes(form: &Form, files: usize) -> bool
-    ensures { result ≡ spec.takes form.now files }
+fn learning<'a>(names: &'a [Text]) -> Option<Command<'a>>
+    ensures command { option_map as_command result
+        ≡ spec.command_on form.Learn (role.Requests ∷ []) names.now }
+    ensures asked { IfSome result IsAsked }
 {
-    match form {
-        Form::Judge
-        | Form::Report
-        | Form::Compare
-        | Form::Embed { .. }
-        | Form::Why
-        | Form::Differ => files == 2,
-        Form::Check => files == 3,
-        Form::Drill { .. } => files == 0,
-        Form::Tidy | Form::Learn | Form::Read => files == 1,
-        Form::Order => 2 <= files && files <= 16,
+    match names {
+        [requests] => Some(Command::Learnt { requests }),
+        _ => None,
+    }
+}
+
+fn ordering<'a>(names: &'a [Text]) -> Option<Command<'a>>
+    ensures command { option_map as_command result ≡ spec.order_on names.now }
+    ensures asked { IfSome result IsAsked }
+{
+    if 2 <= names.len() && names.len() <= 16 {
+        Some(Command::Ordered { lists: names })
+    } else {
+        None
+    }
+}
+
+fn telling<'a>(names: &'a [Text]) -> Option<Command<'a>>
+    ensures command { option_map as_command result ≡ spec.command_on form.Read (role.Block ∷ []) names.now }
+    ensures asked { IfSome result IsAsked }
+{
+    match names {
+        [block] => Some(Command::Block { block }),
+        _ => None,
     }
 }

@@ -2,7 +2,7 @@
 ghost use Rattle.std.specs.Prelude.{◌≡◌, ◌≢◌};
 ghost use Rattle.csp_model.specs.Policies.{IsReadable};
 ghost use Rattle.csp_request.specs.Requests.{requests_of};
-ghost use Rattle.csp_run.specs.Outputs.{explained};
+ghost use Rattle.csp_run.specs.Outputs.{EndsSo, IsExplained, IsOnRequests};
 
 use crate::fault::Fault;
 use csp_model::{Described, Memory, PolicyList};
@@ -48,7 +48,8 @@ impl<'a> Take for Explaining<'a> {
 // The verdicts on the requests of a request file, and what decided each.
 pub(crate) fn explain(alloc: Global, list: &PolicyList, bytes: &[u8]) -> Result<Built, Fault>
     requires { IsReadable list.now }
-    ensures { result ≢ Err Fault.Memory → result ≡ explained list.now (requests_of bytes.now) }
+    ensures { result ≢ Err Fault.Memory
+        → EndsSo (IsOnRequests (IsExplained list.now) (requests_of bytes.now)) result }
 {
     let mut explaining = Explaining {
         explanation: Explanation::new(alloc, list)?,

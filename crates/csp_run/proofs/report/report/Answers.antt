@@ -1,13 +1,8 @@
-use Rattle.std.proofs.Common.{◌≡◌, ◌≢◌, List, Result, Err, refl, inr, ap, ◌∙◌}
+use Rattle.std.proofs.Common.{◌≡◌, List, Err, refl, inr, ap, ◌∙◌}
 use Rattle.csp_model.specs.declared.verdict.Described.{Described}
 use Rattle.csp_request.specs.Requests.{requests_of}
-use Rattle.csp_request.specs.declared.error.RequestError.TheVariants as request
-use Rattle.csp_output.specs.declared.built.Built.{Built}
-use Rattle.csp_run.specs.declared.fault.Fault.{Fault}
-use Rattle.csp_run.specs.declared.output.Outcome.{Outcome}
-use Rattle.csp_run.specs.Outputs.{request_fault}
 use Rattle.csp_run.specs.Reports.{all_violations, violations_in}
-use Rattle.csp_run.proofs.Holding.{held_violations}
+use Rattle.csp_run.proofs.Holding.{held_violations, refused_report}
 use Rattle.csp_run.proofs.report.report.Goals as goal
 
 pub returns-in-Ok-clause-end : goal.returns-in-Ok-clause-end
@@ -32,9 +27,5 @@ returns-in-Ok-clause-grown g c =
 
 pub returns-clause-end : goal.returns-clause-end
 returns-clause-end g c = λ real.
-    let refused : Fault → Result Outcome Fault = λ f. Err f in
-    let failed : Fault → Result Built Fault = λ f. Err f in
-    let other : c.in-Err.error ≢ request.Memory =
-    λ memory. real (ap refused (c.from.ensures ∙ ap request_fault memory)) in
-    let found = ap (violations_in c.args.list.now) (c.in-Err.ensures.refused other) in
-    rw found (ap failed c.from.ensures, refl)
+    refused_report c.args.list.now (requests_of c.args.bytes.now) c.in-Err.error _ c.from.result c.from.ensures
+    (λ other. c.in-Err.ensures.refused other) (λ same. real (ap (λ f. Err f) same)) refl
