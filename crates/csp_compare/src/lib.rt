@@ -17,7 +17,7 @@ mod task;
 mod trees;
 
 pub use comparing::{Answer, compare};
-pub use difference::{find_difference, find_difference_among};
+pub use difference::find_difference_among;
 pub use differences::{Difference, find_differences};
 pub use directives::effective_directives;
 pub use residuals::residual;

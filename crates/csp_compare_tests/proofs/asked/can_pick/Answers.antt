@@ -1,5 +1,5 @@
-use Rattle.csp_pick.proofs.AskedParts.{asked_of_parts}
-use Rattle.csp_pick.proofs.asked.can_pick.Goals as goal
+use Rattle.csp_compare_tests.proofs.AskedParts.{asked_of_parts}
+use Rattle.csp_compare_tests.proofs.asked.can_pick.Goals as goal
 
 pub returns : goal.returns
 returns c =
