@@ -1,4 +1,4 @@
-//! Tests of csp_formula and csp_answer, and of what is left of a formula.
+//! Tests of csp_formulas and csp_answer.
 ghost use Rattle.std.specs.Prelude.{IsTrue};
 ghost use Rattle.csp_shape.specs.Shapes.{is_shape};
 
@@ -7,8 +7,7 @@ use crate::values::{literals, policies};
 use csp_answer::answers_of;
 use csp_atom::{Atom, Literal, Vocabulary, holds, vocabulary_of};
 use csp_cell::Cell;
-use csp_compare::residual;
-use csp_formula::{Formula, compile, surely};
+use csp_formulas::{Formula, compile, residual, surely};
 use csp_model::{Check, Duplicate, List, Memory, PolicyList};
 use csp_pick::representative;
 use csp_shape::{Shape, shape_at};
