@@ -1,16 +1,8 @@
 pub mod Alone
 pub mod Covering
-pub mod FrontTexts
-pub mod Inserting
-pub mod Lengths
-pub mod LookupIs
-pub mod LookupLaws
-pub mod LookupPaths
 pub mod Making
 pub mod Once
 pub mod Parts
-pub mod Searching
 pub mod Splitting
 pub mod Taking
 pub mod Through
-pub mod Within

@@ -6,13 +6,8 @@ use Rattle.csp_shape.specs.declared.shape.Shape.{Shape}
 use Rattle.csp_cell.specs.Cells.{implies, needed_beside, Takes, IsCell, IsOf}
 use Rattle.csp_atom.specs.Follows.{decided}
 use Rattle.csp_cell.specs.Inside.{IsPlacing, IsOther, Adds}
-use Rattle.csp_cell.specs.Longest.{IsWithin, longest_with}
-use Rattle.csp_cell.specs.Lookup.{Rises}
-use Rattle.csp_cell.specs.declared.longest.Longest.{Longest}
-use Rattle.csp_cell.proofs.Inserting.{needed_rises}
 use Rattle.csp_cell.proofs.Parts.{takes_added}
 use Rattle.csp_cell.proofs.Splitting.{new_cell}
-use Rattle.csp_cell.proofs.Within.{within_taken}
 
 module _ (kind : Shape) (p o kept_p kept_o new_p new_o : List Literal) (l : Literal)
     (first : kept_p ≡ needed_beside l p) (second : kept_o ≡ needed_beside l o) (adds : Adds kept_p kept_o l new_p new_o)
@@ -28,9 +23,3 @@ module _ (kind : Shape) (p o kept_p kept_o new_p new_o : List Literal) (l : Lite
 
   pub made_others : All IsOther o → All IsOther new_o
   made_others all = adds.second (rw second (All-filter (λ other. not (implies l other)) IsOther o all))
-
-  pub made_rises : Rises o → Rises new_o
-  made_rises up = adds.rises (rw second (needed_rises l o up))
-
-  pub made_within : (longest : Longest) → All (IsWithin longest) (p ++ o) → All (IsWithin (longest_with longest l.atom)) (new_p ++ new_o)
-  made_within longest all = within_taken longest (p ++ o) (new_p ++ new_o) l takes all

@@ -1,13 +1,13 @@
 -- The two parts of a cell: what they decide together, and what a literal adds to one of them.
-use Rattle.std.proofs.Common.{◌≡◌, ◌∙◌, Bool, true, false, not, List, [], ◌∷◌, ◌++◌, filter, Option, Some, None, MatchOption, All, Any, refl, sym, ap, append_assoc, arith, suc}
-use Rattle.std.proofs.lemmas.List.{append-nil}
+use Rattle.std.proofs.Common.{◌≡◌, ◌∙◌, Bool, true, false, not, List, [], ◌∷◌, ◌++◌, filter, Option, Some, None, MatchOption, All, Any, refl, sym, ap, append_assoc, arith, ℕ, suc, take, drop, insert}
+use Rattle.std.proofs.lemmas.List.{append-nil, take-append-drop}
 use Rattle.std.proofs.lemmas.List.Elements.{All-head, All-tail, All-push, filter-append}
 use Rattle.csp_atom.specs.Follows.{follows, decided, or_else}
 use Rattle.csp_atom.specs.declared.atom.Atom.{Atom}
 use Rattle.csp_atom.specs.declared.atom.Literal.{Literal}
 use Rattle.csp_cell.specs.Cells.{implies, needed_beside, Takes, places}
 use Rattle.csp_cell.specs.Inside.{IsPlacing, IsOther, Adds}
-use Rattle.csp_cell.proofs.Taking.{all_none, both_none}
+use Rattle.csp_cell.proofs.Taking.{all_insert, all_none, both_none}
 
 pub decided_append : (xs ys : List Literal) (a : Atom) → decided (xs ++ ys) a ≡ or_else (decided xs a) (decided ys a)
 decided_append [] ys a = refl
@@ -39,7 +39,18 @@ adds_placing p o l e = record {
   list = (p, o, refl, append_assoc p (l ∷ []) o);
   first = λ all. All-push IsPlacing p l all e;
   second = λ all. all;
-  rises = λ up. up;
+}
+
+pub adds_inserted : (p o : List Literal) (l : Literal) (place : ℕ) → places l ≡ false → Adds p o l p (insert o place l)
+adds_inserted p o l place e = record {
+  list = (
+    p ++ take place o,
+    drop place o,
+    append_assoc p (take place o) (drop place o) ∙ ap (λ rest. p ++ rest) (take-append-drop place o),
+    sym (append_assoc p (take place o) (l ∷ drop place o)),
+  );
+  first = λ all. all;
+  second = λ all. all_insert IsOther (take place o) (drop place o) l (rw (take-append-drop place o) all) e;
 }
 
 pub takes_added : (l : Literal) (p o new_p new_o : List Literal) → Adds (needed_beside l p) (needed_beside l o) l new_p new_o

@@ -25,12 +25,6 @@ module _ {X : Type 0} where
       let (rest, here) = all_remove P front back x (All-tail P f (front ++ x ∷ back) all) in
       (All-cons P f (front ++ back) (All-head P f (front ++ x ∷ back) all) rest, here)
 
-  pub all_parts : (P : X → Type 0) (xs ys : List X) → All P (xs ++ ys) → All P xs × All P ys
-  all_parts P [] ys all = (All-nil P, all)
-  all_parts P (x ∷ xs) ys all =
-      let (first, rest) = all_parts P xs ys (All-tail P x (xs ++ ys) all) in
-      (All-cons P x xs (All-head P x (xs ++ ys) all) first, rest)
-
   pub pairs_head : (R : X → X → Type 0) (x : X) (xs : List X) → AllPairs R (x ∷ xs) → All (R x) xs
   pairs_head R x xs pairs k d h = pairs 0 (suc k) d (omega arith) (omega arith)
 

@@ -1,12 +1,11 @@
 -- Cells: what the literals of one decide, which checks meet it, and which lists of literals are one.
-use Rattle.std.specs.Prelude.{◌≡◌, Bool, true, false, not, ◌&&◌, nat_le, List, ◌∷◌, ◌++◌, length, Option, Some, None, All, AllPairs, IsTrue, filter}
+use Rattle.std.specs.Prelude.{◌≡◌, Bool, true, false, not, ◌&&◌, List, ◌∷◌, ◌++◌, Option, Some, None, All, AllPairs, IsTrue, filter}
 use Rattle.csp_atom.specs.Atoms.{BelongsTo, IsValidAtom}
 use Rattle.csp_atom.specs.Follows.{follows, Refutes}
 use Rattle.csp_atom.specs.Holding.{is_true_of}
 use Rattle.csp_atom.specs.declared.atom.Atom.{Atom}
 use Rattle.csp_atom.specs.declared.atom.Atom.TheVariants.{HostUnder, HostDomain, PathUnder, IntegrityHas, IntegrityOutside}
 use Rattle.csp_atom.specs.declared.atom.Literal.{Literal}
-use Rattle.csp_model.specs.Paths.{front_text}
 use Rattle.csp_model.specs.declared.check.Check.{Check}
 use Rattle.csp_model.specs.declared.source.Hash.{Hash}
 use Rattle.csp_shape.specs.Shapes.{looks_at}
@@ -59,22 +58,6 @@ implies literal other = is_answer other.positive (follows literal other.atom)
 -- the literals that this one doesn't make needless
 abbrev pub needed_beside : Literal → List Literal → List Literal
 needed_beside literal literals = filter (λ other. not (implies literal other)) literals
-
--- of two suffixes, or of the texts of two fronts, the first is no longer than the other
-abbrev pub is_no_longer : Atom → Atom → Bool
-is_no_longer (HostUnder inner) (HostUnder outer) = nat_le (length inner) (length outer)
-is_no_longer (PathUnder inner) (PathUnder outer) =
-    nat_le (length (front_text inner)) (length (front_text outer))
-is_no_longer inner outer = false
-
--- both are denied, and the other one is too short to lie below the literal's
-abbrev pub is_too_short : Literal → Literal → Bool
-is_too_short literal other =
-    (not literal.positive && not other.positive) && is_no_longer other.atom literal.atom
-
--- what the literal says makes the other true, which leaves it open
-abbrev pub makes_needless : Literal → Literal → Bool
-makes_needless literal other = not (is_too_short literal other) && implies literal other
 
 -- a literal of this atom and sign decides no atom but its own
 abbrev pub decides_alone : Atom → Bool → Bool

@@ -2,8 +2,6 @@
 use Rattle.std.specs.Prelude.{◌≡◌, true, false, List, ◌∷◌, ◌++◌, All}
 use Rattle.csp_atom.specs.declared.atom.Literal.{Literal}
 use Rattle.csp_cell.specs.Cells.{Region, IsCell, places}
-use Rattle.csp_cell.specs.Longest.{IsWithin}
-use Rattle.csp_cell.specs.Lookup.{Rises}
 use Rattle.csp_cell.specs.declared.cell.Cell.TheInside.{Inside}
 
 abbrev pub region_of : Inside → Region
@@ -19,8 +17,6 @@ pub record IsMade (a : Inside) : Type 0 where
   pub cell : IsCell (region_of a)
   pub placing : All IsPlacing a.placing.items
   pub others : All IsOther a.others.items
-  pub rises : Rises a.others.items
-  pub within : All (IsWithin a.longest) (a.placing.items ++ a.others.items)
 
 -- the literal stands somewhere among the old ones, in the part that is its own
 pub record Adds (placing others : List Literal) (literal : Literal)
@@ -29,4 +25,3 @@ pub record Adds (placing others : List Literal) (literal : Literal)
       × (new_placing ++ new_others ≡ front ++ literal ∷ back)
   pub first : All IsPlacing placing → All IsPlacing new_placing
   pub second : All IsOther others → All IsOther new_others
-  pub rises : Rises others → Rises new_others

@@ -1,4 +1,2 @@
 pub mod Cells
 pub mod Inside
-pub mod Longest
-pub mod Lookup

@@ -1,18 +1,16 @@
 //! A cell, what an atom narrows it to, and the two that the atom splits it into.
-ghost use Rattle.std.specs.Prelude.{◌≡◌, ◌↔◌, [], ◌∷◌, ◌++◌, All, Any, AllPairs, IfOk, OnOk, MatchOption, List as Items, None, Some, true, false, not, filter};
+ghost use Rattle.std.specs.Prelude.{◌≡◌, ◌↔◌, ◌≤◌, [], ◌∷◌, ◌++◌, length, All, Any, AllPairs, IfOk, OnOk, MatchOption, List as Items, None, Some, true, false, not, filter};
 ghost use Rattle.csp_atom.specs.Atoms.{BelongsTo, Holds, IsValidAtom};
 ghost use Rattle.csp_atom.specs.Follows.{follows, decided};
 ghost use Rattle.csp_atom.specs.declared.atom.Atom.{Atom as AtomValue};
 ghost use Rattle.csp_cell.specs.Cells.{IsCell, IsOf, Meets, StandTogether, Takes, places};
 ghost use Rattle.csp_cell.specs.Inside.{Adds};
-ghost use Rattle.csp_cell.specs.Lookup.{Rises};
 ghost use Rattle.csp_model.specs.declared.check.Check.{Check as CheckValue};
 ghost use Rattle.csp_model.specs.declared.source.Hash.{Hash as HashValue};
 ghost use Rattle.csp_shape.specs.Shapes.{looks_at};
 
 use crate::implies::{first_decided, keep_needed};
-use crate::longest::Longest;
-use crate::lookup::{look_up, place_for};
+use csp_atom::order::compare;
 use csp_atom::{Atom, Literal};
 use csp_model::{Duplicate, Memory};
 use csp_shape::Shape;
@@ -27,7 +25,6 @@ pub struct Cell {
     shape: Shape,
     placing: Vec<Literal>,
     others: Vec<Literal>,
-    longest: Longest,
 }
 
 impl Model for Cell {
@@ -51,7 +48,6 @@ impl Cell {
             shape,
             placing: Vec::new(alloc),
             others: Vec::new(alloc),
-            longest: Longest::new(),
         }
     }
 
@@ -89,7 +85,7 @@ impl Cell {
     {
         match first_decided(&self.placing, atom) {
             Some(value) => Some(value),
-            None => look_up(&self.others, atom),
+            None => first_decided(&self.others, atom),
         }
     }
 
@@ -116,9 +112,8 @@ impl Cell {
             atom: atom.copy(self.alloc)?,
             positive,
         };
-        keep_needed(&mut self.placing, self.longest, &literal);
-        keep_needed(&mut self.others, self.longest, &literal);
-        self.longest = self.longest.with(&literal.atom);
+        keep_needed(&mut self.placing, &literal);
+        keep_needed(&mut self.others, &literal);
         add(&mut self.placing, &mut self.others, literal)?;
         Ok(self)
     }
@@ -160,7 +155,6 @@ impl Cell {
             shape: self.shape,
             placing: copies(self.alloc, &self.placing)?,
             others: copies(self.alloc, &self.others)?,
-            longest: self.longest,
         })
     }
 }
@@ -182,7 +176,6 @@ fn add(
     others: &mut Vec<Literal>,
     literal: Literal,
 ) -> Result<(), Memory>
-    requires { Rises others.old.items }
     ensures { OnOk result
         (Adds placing.old.items others.old.items literal placing.new.items others.new.items) }
 {
@@ -193,6 +186,13 @@ fn add(
         others.insert(place, literal)?;
     }
     Ok(())
+}
+
+// Where the literals of lower atoms end. The hashes that a check is given stand in this order.
+fn place_for(literals: &[Literal], atom: &Atom) -> usize
+    ensures { result ≤ length literals.now }
+{
+    literals.partition_point(|literal| compare(&literal.atom, atom).is_lt())
 }
 
 // Whether the literal says what one part of a check is, or within what it lies.

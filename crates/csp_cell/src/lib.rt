@@ -4,8 +4,5 @@
 mod cell;
 mod implies;
 pub mod laws;
-mod longest;
-mod lookup;
-mod wanted;
 
 pub use cell::Cell;

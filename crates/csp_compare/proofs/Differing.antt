@@ -1,6 +1,6 @@
 -- Where no shape shows a difference, there is none.
 use Rattle.std.proofs.Common.{arith, ◌≡◌, ◌∙◌, sym, ap, subst, refl, ℕ, zero, suc, ◌+◌, ◌<◌, ◌≤◌, List, length, All, inl, inr}
-use Rattle.std.specs.Prelude.{Option, Some, None, Contains, ◌⊎◌}
+use Rattle.std.specs.Prelude.{Contains, ◌⊎◌}
 use Rattle.std.proofs.lemmas.List.Elements.{All-weaker}
 use Rattle.csp_atom.specs.declared.atom.Atom.{Atom}
 use Rattle.csp_model.specs.Names.{group_directive, inline_directive}
@@ -12,7 +12,6 @@ use Rattle.csp_model.specs.declared.check.Group.TheVariants as group
 use Rattle.csp_model.specs.declared.check.InlineKind.{InlineKind}
 use Rattle.csp_model.specs.declared.check.InlineKind.TheVariants as inline
 use Rattle.csp_model.specs.declared.name.Name.{Name}
-use Rattle.csp_model.specs.declared.policy.PolicyList.{PolicyList}
 use Rattle.csp_shape.specs.Numbers.{number, shape_count}
 use Rattle.csp_shape.specs.Shapes.{HasShape}
 use Rattle.csp_shape.specs.declared.shape.Shape.{Shape}
@@ -20,7 +19,7 @@ use Rattle.csp_shape.proofs.Apart.{one_shape}
 use Rattle.csp_shape.proofs.Checks.{shape_of, shaped, is_listed, is_only}
 use Rattle.csp_proof.proofs.ReadableSaid.{AllSaid, are_said}
 use Rattle.csp_proof.proofs.ShapesListed.{within_count}
-use Rattle.csp_compare.specs.Differences.{HasNodes, HasNoneAt, IsAmongAt, IsDifference, IsDifferenceAmong, IsIncludedAt, IsIncludedBelow, SubsumesAmong, effective_names, effective_of}
+use Rattle.csp_compare.specs.Differences.{HasNodes, HasNoneAt, IsAmongAt, IsIncludedAt, IsIncludedBelow, SubsumesAmong, effective_names, effective_of}
 use Rattle.csp_compare.specs.Tasks.{lists_of, IsTask}
 use Rattle.csp_compare.specs.declared.task.Task.{Task}
 use Rattle.csp_compare.proofs.OneShape.{HasCases, included_at}
@@ -115,11 +114,3 @@ pub below_one : (task : Task) (effective : List Name) (n : ℕ) (shape : Shape) 
     → IsIncludedBelow task effective n → IsIncludedBelow task effective (n + 1)
 below_one task effective n shape is included =
     below_more task effective n (λ kind at. subst (IsIncludedAt task) (one_shape shape kind is.listed at.listed (is.number ∙ sym at.number)) included)
-
--- Answers
-
-pub of_all : (first second : PolicyList) (effective : List Name) → effective ≡ effective_names → (found : Option Check)
-    → IsDifferenceAmong effective first second found → IsDifference first second found
-of_all first second effective are None none = λ asked valid allowed.
-    none asked valid (subst (λ (ns : List Name). Contains ns (effective_name asked)) (sym are) (has_effective asked)) allowed
-of_all first second effective are (Some asked) differs = differs.0

@@ -4,8 +4,6 @@ pub mod Ending
 pub mod EnforcedPolicies
 pub mod Entries
 pub mod Known
-pub mod LeftOver
-pub mod LeftParts
 pub mod NodesSame
 pub mod NoneDiffers
 pub mod OneShape

@@ -6,7 +6,6 @@ use Rattle.std.specs.BTreeSet.{BTreeSet, contains}
 use Rattle.std.specs.Cmp.Lexicographic.{slice_cmp}
 use Rattle.std.specs.Ordering.{nat_cmp}
 use Rattle.std.specs.declared.cmp.Ordering.TheVariants.{Less}
-use Rattle.csp_model.specs.Inclusion.{Subsumes}
 use Rattle.csp_model.specs.Names.{group_directive, inline_directive, name_text}
 use Rattle.csp_model.specs.Validity.{IsValidCheck}
 use Rattle.csp_model.specs.Verdict.{effective_name, list_allows}
@@ -46,10 +45,7 @@ abbrev pub DiffersAmong : List Name → PolicyList → PolicyList → Check → 
 DiffersAmong effective first second asked =
     IsCounterexample first second asked × Contains effective (effective_name asked)
 
--- a check that shows that the second list doesn't allow what the first allows; none exactly where it does
-abbrev pub IsDifference : PolicyList → PolicyList → Option Check → Type 0
-IsDifference first second found = MatchOption found (Subsumes first second) (IsCounterexample first second)
-
+-- such a check; none exactly where the second list allows what the first allows under these directives
 abbrev pub IsDifferenceAmong : List Name → PolicyList → PolicyList → Option Check → Type 0
 IsDifferenceAmong effective first second found =
     MatchOption found (SubsumesAmong effective first second) (DiffersAmong effective first second)

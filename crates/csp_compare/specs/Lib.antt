@@ -1,5 +1,4 @@
 pub mod Answers
 pub mod Differences
 pub mod Drafts
-pub mod Residuals
 pub mod Tasks

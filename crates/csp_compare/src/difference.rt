@@ -6,7 +6,7 @@ ghost use Rattle.csp_model.specs.Policies.{IsReadable};
 ghost use Rattle.csp_shape.specs.Shapes.{is_shape};
 
 use crate::comparing::SHAPE_COUNT;
-use crate::directives::{effective_directives, shape_among};
+use crate::directives::shape_among;
 use crate::probing::probe_shapes;
 use crate::task::Task;
 use csp_answer::{NamedAnswers, answers_of};
@@ -19,21 +19,9 @@ use csp_shape::Shape;
 use std::alloc::Global;
 use std::collections::BTreeSet;
 
-/// A valid check that the first of two lists allows and the second doesn't. None comes exactly where the
-/// second list allows every valid check that the first allows. No proof is made; `compare` makes one.
-pub fn find_difference(
-    alloc: Global,
-    first: &PolicyList,
-    second: &PolicyList,
-) -> Result<Option<Check>, Memory>
-    requires first { IsReadable first.now }
-    requires second { IsReadable second.now }
-    ensures { IfOk result (spec.IsDifference first.now second.now) }
-{
-    find_difference_among(alloc, first, second, effective_directives())
-}
-
-/// `find_difference` among the checks with one of these effective directives alone.
+/// A valid check with one of these effective directives that the first of two lists allows and the second
+/// doesn't. None comes exactly where the second list allows every such check that the first allows. No proof
+/// is made; `compare` makes one.
 pub fn find_difference_among(
     alloc: Global,
     first: &PolicyList,

@@ -1,5 +1,5 @@
 //! Whether one list of policies is at least as strict as another: a proof of it, or one check that shows that
-//! it isn't. And what is left of a formula where some of its atoms are known.
+//! it isn't.
 #![tactic(auto)]
 
 mod comparing;
@@ -12,12 +12,10 @@ pub mod laws;
 mod natural;
 mod numbers;
 mod probing;
-mod residuals;
 mod task;
 mod trees;
 
 pub use comparing::{Answer, compare};
-pub use difference::{find_difference, find_difference_among};
+pub use difference::find_difference_among;
 pub use differences::{Difference, find_differences};
 pub use directives::effective_directives;
-pub use residuals::residual;

@@ -1,11 +1,12 @@
 //! Tests of csp_cell and csp_pick.
 ghost use Rattle.std.specs.Prelude.{◌≡◌, IfOk};
 
+use crate::asked::{can_pick, looks_at};
 use crate::values::literals;
 use csp_atom::{Literal, Vocabulary, holds};
 use csp_cell::Cell;
 use csp_model::{Algorithm, Bytes, Hash, List, Memory, Text};
-use csp_pick::{can_pick, representative};
+use csp_pick::representative;
 use csp_print::check_json;
 use csp_shape::{Shape, shape_at};
 use std::alloc::Global;
@@ -18,7 +19,7 @@ fn narrowed(rt: &(impl Abort + AllocGlobal), cell: &Cell, literal: &Literal) -> 
 {
     let atom = &literal.atom;
     assert!(rt; atom.is_valid());
-    assert!(rt; cell.shape().looks_at(atom.part()));
+    assert!(rt; looks_at(cell.shape(), atom.part()));
     assert!(rt; cell.value(atom).is_none());
     let (with, without) = cell.split(atom)?;
     if literal.positive {

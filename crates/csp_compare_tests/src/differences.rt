@@ -1,6 +1,6 @@
 //! Tests of the search for a check by which two lists differ. Each check that comes out is judged by both lists.
 use crate::values::policies;
-use csp_compare::{find_difference, find_difference_among};
+use csp_compare::{effective_directives, find_difference_among};
 use csp_model::{Check, Name, PolicyList};
 use csp_verdict::list_allows;
 use std::process::Abort;
@@ -57,7 +57,7 @@ fn differences_of_lists(rt: HostRuntime) -> Result<(), Fail> {
     for &(first, second, differ, differ_on_images) in &PAIRS {
         let ours = policies(&rt, first)?;
         let theirs = policies(&rt, second)?;
-        match find_difference(rt.alloc(), &ours, &theirs)? {
+        match find_difference_among(rt.alloc(), &ours, &theirs, effective_directives())? {
             Some(check) => assert!(rt; differ && is_shown(&ours, &theirs, &check), "{second}"),
             None => assert!(rt; !differ, "{second}"),
         }

@@ -1,4 +1,4 @@
-//! Tests of csp_formula and csp_answer, and of what is left of a formula.
+//! Tests of csp_formulas and csp_answer.
 ghost use Rattle.std.specs.Prelude.{IsTrue};
 ghost use Rattle.csp_shape.specs.Shapes.{is_shape};
 
@@ -7,10 +7,9 @@ use crate::values::{literals, policies};
 use csp_answer::answers_of;
 use csp_atom::{Atom, Literal, Vocabulary, holds, vocabulary_of};
 use csp_cell::Cell;
-use csp_compare::residual;
-use csp_formula::{Formula, compile, surely};
+use csp_formulas::{Formula, compile, residual, surely};
 use csp_model::{Check, Duplicate, List, Memory, PolicyList};
-use csp_pick::{can_pick, representative};
+use csp_pick::representative;
 use csp_shape::{Shape, shape_at};
 use csp_verdict::allows;
 use std::alloc::Global;
@@ -157,16 +156,11 @@ const EVERY_KIND: &str = "Content-Security-Policy: \
     frame-ancestors https:; worker-src 'nonce-d' a.example; sandbox allow-forms allow-scripts";
 
 // A check of the shape.
-fn check_at(
-    rt: &(impl Abort + AllocGlobal),
-    vocabulary: &Vocabulary,
-    shape: Shape,
-) -> Result<Check, Memory>
+fn check_at(alloc: Global, vocabulary: &Vocabulary, shape: Shape) -> Result<Check, Memory>
     requires { IsTrue (is_shape shape) }
 {
-    let cell = Cell::new(rt.alloc(), shape);
-    assert!(rt; can_pick(&cell, vocabulary));
-    representative(rt.alloc(), &cell, shape, vocabulary)
+    let cell = Cell::new(alloc, shape);
+    representative(alloc, &cell, shape, vocabulary)
 }
 
 // Each of these atoms as it is for the check.
@@ -194,7 +188,7 @@ fn formulas_are_what_the_policy_allows(rt: HostRuntime) -> Result<(), Fail> {
     let policy = list.policies.get(0).ok_or("no policy")?;
     for number in 0..189 {
         let shape = shape_at(number).ok_or("no shape")?;
-        let check = check_at(&rt, &vocabulary, shape)?;
+        let check = check_at(rt.alloc(), &vocabulary, shape)?;
         let known = facts_of(rt.alloc(), named.names.atoms(), &vocabulary, &check)?;
         let formula = compile(rt.alloc(), policy, shape, &vocabulary)?;
         let value = surely(&formula, known.as_slice());

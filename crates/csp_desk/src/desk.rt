@@ -8,8 +8,8 @@ ghost use Rattle.csp_desk.specs.Tellings.{section_text, telling_text};
 ghost use Rattle.csp_desk.specs.Texts as spec;
 
 use crate::reporter::{AcceptError, Kind, Reporter};
-use crate::telling::{Section, Telling, joined_sections};
-use csp_model::{Bytes, List, Memory, Violation};
+use crate::telling::{Section, Telling};
+use csp_model::{List, Memory, Violation};
 use std::alloc::Global;
 use thiserror::Error;
 
@@ -149,13 +149,4 @@ pub fn sections_of(alloc: Global, desk: &[Box<dyn Reporter>]) -> Result<Vec<Sect
         sections.push(section_of(alloc, reporter)?)?;
     }
     Ok(sections)
-}
-
-/// The sections of the reporters as one text.
-pub fn texts_of(alloc: Global, desk: &[Box<dyn Reporter>]) -> Result<Bytes, Memory>
-    ensures { IfOk result
-        (λ text. text ≡ spec.desk_text (map (λ b. kind b) desk.now) (map (λ b. held b) desk.now)) }
-{
-    let sections = sections_of(alloc, desk)?;
-    joined_sections(alloc, sections.as_slice())
 }

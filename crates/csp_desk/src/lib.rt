@@ -15,7 +15,7 @@ mod telling;
 mod texts;
 mod weave;
 
-pub use desk::{DeskError, hand_out, sections_of, texts_of};
+pub use desk::{DeskError, hand_out, sections_of};
 pub use failing_lines::FailingLines;
 pub use lines::Lines;
 pub use recent::Recent;

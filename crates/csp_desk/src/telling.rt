@@ -1,7 +1,6 @@
 //! What reporters tell, in pieces that whoever writes them need not copy.
 ghost use Rattle.std.specs.Prelude.{◌≡◌, ◌++◌, OnOk, IfOk};
 ghost use Rattle.std.specs.List.{flat_map};
-ghost use Rattle.csp_desk.specs.Tellings as spec;
 
 use csp_model::{Bytes, Memory};
 use std::alloc::Global;
@@ -42,36 +41,5 @@ pub(crate) fn joined(alloc: Global, pieces: &[&[u8]]) -> Result<Bytes, Memory>
 {
     let mut text = Vec::new(alloc);
     push_pieces(&mut text, pieces)?;
-    Ok(Bytes::from_vec(text))
-}
-
-fn push_telling(text: &mut Vec<u8>, telling: &Telling<'_>) -> Result<(), Memory>
-    ensures { OnOk result (text.new.items ≡ text.old.items ++ spec.telling_text telling.now) }
-{
-    match telling {
-        Telling::Made(made) => {
-            text.extend_from_slice(made.as_slice())?;
-            Ok(())
-        }
-        Telling::Held(pieces) => push_pieces(text, pieces.as_slice()),
-    }
-}
-
-// Adds a section behind a text.
-pub(crate) fn push_section(text: &mut Vec<u8>, section: &Section<'_>) -> Result<(), Memory>
-    ensures { OnOk result (text.new.items ≡ text.old.items ++ spec.section_text section.now) }
-{
-    text.extend_from_slice(section.heading.as_bytes())?;
-    push_telling(text, &section.telling)
-}
-
-// The sections one after the other.
-pub(crate) fn joined_sections(alloc: Global, sections: &[Section<'_>]) -> Result<Bytes, Memory>
-    ensures { IfOk result (λ text. text ≡ flat_map spec.section_text sections.now) }
-{
-    let mut text = Vec::new(alloc);
-    for section in sections {
-        push_section(&mut text, section)?;
-    }
     Ok(Bytes::from_vec(text))
 }

@@ -9,7 +9,6 @@ pub mod MembersOf
 pub mod TokensSaid
 pub mod DigestsSaid
 pub mod DigestOf
-pub mod HashSources
 pub mod ReadSources
 pub mod Governs
 pub mod PolicySaid

@@ -6,4 +6,3 @@ pub mod Compiled
 pub mod Belonging
 pub mod Outlines
 pub mod Questions
-pub mod HashSets

@@ -11,4 +11,3 @@ pub mod Numbering
 pub mod PartOrder
 pub mod Prefixes
 pub mod Rows
-pub mod Saying

@@ -10,7 +10,6 @@ pub mod laws;
 mod names;
 mod order;
 mod ranges;
-mod said;
 mod sorting;
 
 pub use names::{Named, Names, name_atoms};

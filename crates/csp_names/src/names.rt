@@ -3,7 +3,6 @@ ghost use Rattle.std.specs.Prelude.{◌≡◌, ◌<◌, ◌≤◌, ◌&&◌, ℕ
 ghost use Rattle.std.specs.Prelude.{length, slice_get};
 ghost use Rattle.std.specs.List.{Contains, slice_index_or};
 ghost use Rattle.csp_atom.specs.Atoms.{IsValidAtom};
-ghost use Rattle.csp_atom.specs.Follows as table;
 ghost use Rattle.csp_atom.specs.declared.atom.Atom.{Atom as AtomValue};
 ghost use Rattle.csp_names.specs.Numbers.{AreInOrder, IsOuterOr, around_in};
 ghost use Rattle.csp_names.specs.Order.{number_of};
@@ -11,7 +10,6 @@ ghost use Rattle.csp_names.specs.Sorting.{StandAt, referred};
 
 use crate::order::{compare_names, part_number};
 use crate::ranges::Ranges;
-use crate::said::{are_exclusive, said_by};
 use crate::sorting::sort_atoms;
 use csp_atom::Atom;
 use csp_model::{List, Memory};
@@ -139,20 +137,5 @@ impl Names {
         ensures { IsOuterOr self.now name result }
     {
         self.outers[name]
-    }
-
-    /// What an atom, or its negation, says of an atom: both are given by their names. No text is looked at.
-    pub fn follows(&self, known: usize, positive: bool, asked: usize) -> Option<bool>
-        requires known { known < length self.now }
-        requires asked { asked < length self.now }
-        ensures { (d : AtomValue)
-            → result ≡ table.follows (record { atom = slice_index_or self.now known d; positive = positive })
-            (slice_index_or self.now asked d) }
-    {
-        let inner = self.is_around(asked, known);
-        let outer = self.is_around(known, asked);
-        let atoms = self.atoms();
-        let exclusive = are_exclusive(&atoms[known], &atoms[asked]);
-        said_by(positive, inner, outer, exclusive)
     }
 }

@@ -1,4 +1,3 @@
-pub mod AskedParts
 pub mod DigestsMet
 pub mod FreshPair
 pub mod Halves

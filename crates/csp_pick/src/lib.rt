@@ -2,7 +2,6 @@
 #![tactic(auto)]
 
 mod address;
-mod asked;
 mod digest;
 mod fresh;
 mod host;
@@ -18,5 +17,4 @@ mod port;
 mod scheme;
 mod url;
 
-pub use asked::can_pick;
 pub use pick::representative;

@@ -3,11 +3,11 @@ ghost use Rattle.std.specs.Prelude.{◌≡◌, ◌≤◌, ◌∷◌, ◌++◌, [
 ghost use Rattle.csp_desk.specs.declared.reporter.Kind.TheVariants as kinds;
 
 use csp_desk::{
-    AcceptError, DeskError, FailingLines, Kind, Lines, Recent, Reporter, Tally, hand_out, text_of,
-    texts_of,
+    AcceptError, DeskError, FailingLines, Kind, Lines, Recent, Reporter, Tally, Telling, hand_out,
+    sections_of, text_of,
 };
 use csp_model::{Bytes, Disposition, Duplicate, List, Memory, Name, Text, Violation};
-use csp_violation::{append_report, report_json};
+use csp_violation::{push_report, report_json};
 use std::alloc::Global;
 use std::test::Fail;
 
@@ -46,7 +46,8 @@ fn reports_are_json(rt: HostRuntime) -> Result<(), Fail> {
         let violation = violation(rt.alloc(), Name::ScriptSrcElem, sample, policy)?;
         let report = report_json(rt.alloc(), &violation)?;
         assert_eq!(rt; report.as_slice(), wanted.as_bytes());
-        let behind = append_report(Vec::from_slice(rt.alloc(), b"x")?, &violation)?;
+        let mut behind = Vec::from_slice(rt.alloc(), b"x")?;
+        push_report(rt.alloc(), &mut behind, &violation)?;
         assert_eq!(rt; &behind[1..], wanted.as_bytes());
     }
     Ok(())
@@ -68,12 +69,35 @@ const BASE: &str =
     r#"{"blocked-uri":"inline","disposition":"report","effective-directive":"base-uri","original-policy":"","script-sample":"","violated-directive":"base-uri"}
 "#;
 
+fn push_telling(text: &mut Vec<u8>, telling: &Telling<'_>) -> Result<(), Memory> {
+    match telling {
+        Telling::Made(made) => text.extend_from_slice(made.as_slice())?,
+        Telling::Held(pieces) => {
+            for piece in pieces {
+                text.extend_from_slice(piece)?;
+            }
+        }
+    }
+    Ok(())
+}
+
+// What the reporters tell, as one text.
+fn told(alloc: Global, desk: &[Box<dyn Reporter>]) -> Result<Bytes, Memory> {
+    let sections = sections_of(alloc, desk)?;
+    let mut text = Vec::new(alloc);
+    for section in &sections {
+        text.extend_from_slice(section.heading.as_bytes())?;
+        push_telling(&mut text, &section.telling)?;
+    }
+    Ok(Bytes::from_vec(text))
+}
+
 // What is handed out in goes is all told.
 #[test]
 fn a_desk_tells_what_it_took(rt: HostRuntime) -> Result<(), Fail> {
     let alloc = rt.alloc();
     let mut desk: Vec<Box<dyn Reporter>> = Vec::new(alloc);
-    assert!(rt; texts_of(alloc, &desk)?.as_slice().is_empty());
+    assert!(rt; told(alloc, &desk)?.as_slice().is_empty());
     desk.push(Box::new(alloc, Lines::new(alloc))?)?;
     desk.push(Box::new(alloc, Tally::new(alloc))?)?;
     desk.push(Box::new(alloc, Recent::new(alloc, 1))?)?;
@@ -84,14 +108,14 @@ fn a_desk_tells_what_it_took(rt: HostRuntime) -> Result<(), Fail> {
         "reporter lines\n{IMG}reporter tally\nimg-src 1\nreporter recent\n{IMG}\
         reporter recent\nearlier 1\n"
     )?;
-    assert_eq!(rt; texts_of(alloc, &desk)?.as_slice(), wanted.as_bytes());
+    assert_eq!(rt; told(alloc, &desk)?.as_slice(), wanted.as_bytes());
     let second = violations(alloc, &[Name::ImgSrc, Name::BaseUri])?;
     hand_out(alloc, &mut desk, &second)?;
     let wanted = format!(in alloc;
         "reporter lines\n{IMG}{IMG}{BASE}reporter tally\nbase-uri 1\nimg-src 2\n\
         reporter recent\nearlier 2\n{BASE}reporter recent\nearlier 3\n"
     )?;
-    assert_eq!(rt; texts_of(alloc, &desk)?.as_slice(), wanted.as_bytes());
+    assert_eq!(rt; told(alloc, &desk)?.as_slice(), wanted.as_bytes());
     Ok(())
 }
 
@@ -148,7 +172,7 @@ fn a_refusal_stops_a_desk(rt: HostRuntime) -> Result<(), Fail> {
     let wanted = format!(in alloc;
         "reporter tally\nbase-uri 1\nimg-src 1\nreporter lines\n{IMG}reporter tally\nimg-src 1\n"
     )?;
-    assert_eq!(rt; texts_of(alloc, &desk)?.as_slice(), wanted.as_bytes());
+    assert_eq!(rt; told(alloc, &desk)?.as_slice(), wanted.as_bytes());
     Ok(())
 }
 
@@ -167,7 +191,7 @@ fn a_refusal_of_the_first_violation(rt: HostRuntime) -> Result<(), Fail> {
         Err(DeskError::Refused { reporter: 1 })
     );
     assert_eq!(rt;
-        texts_of(alloc, &desk)?.as_slice(),
+        told(alloc, &desk)?.as_slice(),
         b"reporter lines\nreporter tally\n".as_slice()
     );
     Ok(())
@@ -191,6 +215,6 @@ fn a_reporter_may_be_a_callers_own(rt: HostRuntime) -> Result<(), Fail> {
         Err(DeskError::Refused { reporter: 1 })
     );
     let wanted = format!(in alloc; "reporter lines\n{IMG}reporter tally\nimg-src 1\n")?;
-    assert_eq!(rt; texts_of(alloc, &desk)?.as_slice(), wanted.as_bytes());
+    assert_eq!(rt; told(alloc, &desk)?.as_slice(), wanted.as_bytes());
     Ok(())
 }

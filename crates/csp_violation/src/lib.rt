@@ -6,4 +6,4 @@ pub mod laws;
 mod report;
 
 pub use front::push_front;
-pub use report::{append_report, push_report, report_ending, report_json};
+pub use report::{push_report, report_ending, report_json};

@@ -54,16 +54,6 @@ fn write_report(out: &mut Writer, violation: &Violation) -> Result<(), AllocErro
     write_ending(out, violation)
 }
 
-/// `text`, and behind it the report of a violation, as `report_json` gives it. The text isn't copied.
-#[tactic(auto, unfolding(crate::specs::Report::report_bytes))]
-pub fn append_report(text: Vec<u8>, violation: &Violation) -> Result<Vec<u8>, Memory>
-    ensures { IfOk result (λ made. made.items ≡ text.items ++ report_bytes violation.now) }
-{
-    let mut out = Writer::new(text);
-    write_report(&mut out, violation)?;
-    Ok(out.into_inner())
-}
-
 /// Adds the report of a violation, as `report_json` gives it, behind a text. The text isn't copied.
 ///
 /// Where there is no memory, it is as it was.
@@ -86,10 +76,13 @@ pub fn push_report(alloc: Global, text: &mut Vec<u8>, violation: &Violation) -> 
 /// The report of a violation: one JSON object (RFC 8259) with no space, whose members are texts, in this
 /// order: `blocked-uri`, `disposition`, `effective-directive`, `original-policy`, `script-sample`,
 /// `violated-directive`. The first and the last directive are one.
+#[tactic(auto, unfolding(crate::specs::Report::report_bytes))]
 pub fn report_json(alloc: Global, violation: &Violation) -> Result<Bytes, Memory>
     ensures { IfOk result (λ report. report ≡ report_bytes violation.now) }
 {
-    Ok(Bytes::from_vec(append_report(Vec::new(alloc), violation)?))
+    let mut out = Writer::new(Vec::new(alloc));
+    write_report(&mut out, violation)?;
+    Ok(Bytes::from_vec(out.into_inner()))
 }
 
 /// What a report says behind its front, as `push_front` adds it. It is the same for all violations of one

@@ -3,36 +3,18 @@ use Rattle.csp_atom.specs.declared.atom.Literal.{Literal}
 use Rattle.csp_cell.specs.Cells.{needed_beside, IsCell, IsOf, Takes}
 use Rattle.csp_atom.specs.Follows.{decided}
 use Rattle.csp_cell.specs.Inside.{Adds}
-use Rattle.csp_cell.specs.Longest.{IsWithin}
-use Rattle.csp_cell.proofs.Inserting.{needed_rises}
-use Rattle.csp_cell.proofs.Making.{made_cell, made_placing, made_others, made_rises, made_within}
+use Rattle.csp_cell.proofs.Making.{made_cell, made_placing, made_others}
 use Rattle.csp_cell.proofs.Parts.{both_open, takes_added}
 use Rattle.csp_cell.proofs.Splitting.{decides_with, meets_positive, meets_negative}
-use Rattle.csp_cell.proofs.Taking.{all_parts}
 use Rattle.csp_cell.proofs.cell.Cell.narrow.Goals as goal
 
-pub keep_needed-requires-clause-undecided : goal.keep_needed-requires-clause-undecided
-keep_needed-requires-clause-undecided c =
+pub keep_needed-requires : goal.keep_needed-requires
+keep_needed-requires c =
     rw c.in_ok-copy.ensures (both_open c.self.inside.placing.items c.self.inside.others.items c.args.atom.now (rw (← c.self.view_is) at c.requires.undecided)).0
 
-pub keep_needed-requires-clause-within : goal.keep_needed-requires-clause-within
-keep_needed-requires-clause-within c =
-    (all_parts (IsWithin c.self.inside.longest) c.self.inside.placing.items c.self.inside.others.items c.self.invariant.within).0
-
-pub keep_needed-requires-2-clause-undecided : goal.keep_needed-requires-2-clause-undecided
-keep_needed-requires-2-clause-undecided c =
+pub keep_needed-requires-2 : goal.keep_needed-requires-2
+keep_needed-requires-2 c =
     rw c.in_ok-copy.ensures (both_open c.self.inside.placing.items c.self.inside.others.items c.args.atom.now (rw (← c.self.view_is) at c.requires.undecided)).1
-
-pub keep_needed-requires-2-clause-within : goal.keep_needed-requires-2-clause-within
-keep_needed-requires-2-clause-within c =
-    (all_parts (IsWithin c.self.inside.longest) c.self.inside.placing.items c.self.inside.others.items c.self.invariant.within).1
-
-pub add-requires : goal.add-requires
-add-requires c =
-    let l : Literal = record { atom = c.args.atom.now; positive = c.args.positive } in
-    let o = c.self.inside.others.items in
-    let second : c.keep_needed-2.new.literals.items ≡ needed_beside l o = rw c.in_ok-copy.ensures at c.keep_needed-2.ensures in
-    rw second (needed_rises l o c.self.invariant.rises)
 
 pub invariant_of-self : goal.invariant_of-self
 invariant_of-self c =
@@ -53,8 +35,6 @@ invariant_of-self c =
       cell = made_cell c.self.inside.shape p o kept_p kept_o new_p new_o l first second adds undecided c.self.invariant.cell here;
       placing = made_placing c.self.inside.shape p o kept_p kept_o new_p new_o l first second adds undecided c.self.invariant.cell c.self.invariant.placing;
       others = made_others c.self.inside.shape p o kept_p kept_o new_p new_o l first second adds undecided c.self.invariant.cell c.self.invariant.others;
-      rises = made_rises c.self.inside.shape p o kept_p kept_o new_p new_o l first second adds undecided c.self.invariant.cell c.self.invariant.rises;
-      within = rw (c.with-self-inside.ensures, c.in_ok-copy.ensures) (made_within c.self.inside.shape p o kept_p kept_o new_p new_o l first second adds undecided c.self.invariant.cell c.self.inside.longest c.self.invariant.within);
     }
 
 pub returns-clause-takes : goal.returns-clause-takes

@@ -1,6 +1,5 @@
 use Rattle.std.proofs.Common.{◌∙◌, sym, ap, Some}
 use Rattle.csp_atom.specs.Follows.{decided, or_else}
-use Rattle.csp_cell.proofs.LookupIs.{looked_up_is}
 use Rattle.csp_cell.proofs.Parts.{decided_append, answer_says}
 use Rattle.csp_cell.proofs.cell.Cell.value.Goals as goal
 
@@ -21,9 +20,8 @@ returns-in-None-clause-first c =
     let others = c.self.inside.others.items in
     let atom = c.args.atom.now in
     let none = sym c.in-None.is ∙ rw c.deref.ensures.value at c.first_decided.ensures in
-    let later = rw c.deref-in-None.ensures.value at c.look_up.ensures in
-    let same = looked_up_is others atom c.self.invariant.others in
-    rw (← c.self.view_is) (later ∙ same ∙ ap (λ answer. or_else answer (decided others atom)) none ∙ sym (decided_append placing others atom))
+    let later = rw c.deref-in-None.ensures.value at c.first_decided-in-None.ensures in
+    rw (← c.self.view_is) (later ∙ ap (λ answer. or_else answer (decided others atom)) none ∙ sym (decided_append placing others atom))
 
 pub returns-in-None-clause-some : goal.returns-in-None-clause-some
-returns-in-None-clause-some c = answer_says c.args.self.now.literals c.args.atom.now c.look_up.result (returns-in-None-clause-first c)
+returns-in-None-clause-some c = answer_says c.args.self.now.literals c.args.atom.now c.first_decided-in-None.result (returns-in-None-clause-first c)

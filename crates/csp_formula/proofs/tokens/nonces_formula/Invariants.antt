@@ -1,9 +1,0 @@
-use Rattle.std.proofs.Common.{◌≡◌, ◌++◌, drop, map}
-use Rattle.std.specs.List.{filter_map}
-use Rattle.csp_formula.specs.Sentences.{sentence_of}
-use Rattle.csp_formula.specs.Compiled.{nonce_fact}
-use Rattle.csp_formula.proofs.tokens.nonces_formula.Given as goal
-
-abbrev pub invariant-loop-source : goal.invariant-loop-source
-invariant-loop-source l =
-    map sentence_of l.parts.items ++ filter_map nonce_fact (drop l.source-index l.sources) ≡ filter_map nonce_fact l.sources

@@ -1,0 +1,3 @@
+pub mod HashSources
+pub mod LeftOver
+pub mod LeftParts
