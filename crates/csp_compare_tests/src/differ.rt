@@ -1,9 +1,8 @@
 //! The directives under which one list allows more than another.
 use crate::values::policies;
 use csp_compare::{Difference, find_differences};
-use csp_differ::differ;
 use csp_model::{Memory, name_text};
-use csp_output::Status;
+use csp_output::{Status, differ};
 use std::alloc::Global;
 use std::test::Fail;
 

@@ -10,3 +10,9 @@ pub mod OrderWritten
 pub mod Shows
 pub mod TidiedLists
 pub mod Reasons
+pub mod OneDiffering
+pub mod DifferWritten
+pub mod ItemsExplained
+pub mod NamedDigests
+pub mod Refusing
+pub mod SameStatus

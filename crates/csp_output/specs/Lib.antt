@@ -7,3 +7,6 @@ pub mod Lines
 pub mod Orders
 pub mod Statuses
 pub mod Tidyings
+pub mod Differing
+pub mod Explanations
+pub mod WhyLaws

@@ -3,7 +3,7 @@ use Rattle.std.proofs.Common.{◌≡◌, ◌≢◌, ◌↔◌, ◌∙◌, sym, s
 use Rattle.std.specs.Prelude.{Contains}
 use Rattle.csp_compare.specs.Differences.{AreDifferences, DiffersAmong, directives_of}
 use Rattle.csp_compare.specs.declared.differences.Difference.{Difference}
-use Rattle.csp_differ.specs.Differing.{IsDiffering}
+use Rattle.csp_output.specs.Differing.{IsDiffering}
 use Rattle.csp_model.specs.Inclusion.{Subsumes}
 use Rattle.csp_model.specs.declared.check.Check.{Check}
 use Rattle.csp_model.specs.declared.name.Name.{Name}

@@ -5,7 +5,7 @@ use Rattle.csp_model.specs.declared.verdict.Described.{Described}
 use Rattle.csp_output.specs.Lines.{judgment}
 use Rattle.csp_output.specs.declared.status.Status.{Status}
 use Rattle.csp_output.specs.declared.status.Status.TheVariants.{Clean, Found, NoMemory}
-use Rattle.csp_reasons.specs.Explanations.{explanation}
+use Rattle.csp_output.specs.Explanations.{explanation}
 use Rattle.csp_run.specs.Commands.{AsksFor, Wrote}
 use Rattle.csp_run.specs.Desk.{Desk}
 use Rattle.csp_run.specs.Due.{end_status, end_text}

@@ -4,8 +4,8 @@ use Rattle.std.proofs.Common.{refl, ap, arith, sym, ◌∙◌, append-nil, appen
 use Rattle.std.specs.List.{list_any}
 use Rattle.csp_model.specs.declared.policy.PolicyList.{PolicyList}
 use Rattle.csp_model.specs.declared.verdict.Described.{Described}
-use Rattle.csp_reasons.specs.Explanations.{Explained, explained_from, is_blocked, request_text, with_request}
-use Rattle.csp_reasons.proofs.NamedDigests.{same_explained}
+use Rattle.csp_output.specs.Explanations.{Explained, explained_from, is_blocked, request_text, with_request}
+use Rattle.csp_output.proofs.NamedDigests.{same_explained}
 use Rattle.csp_request.proofs.Parts.{same_of_checks}
 use Rattle.csp_request.specs.Wanted.{IsPartOf}
 use Rattle.csp_request.specs.declared.texts.ReportTexts.TheVariants.{Empty}

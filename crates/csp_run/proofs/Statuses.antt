@@ -26,7 +26,7 @@ use Rattle.csp_run.specs.Forms.{Judge, Report, Compare, Check, Drill, Embed, Tid
 use Rattle.csp_output.specs.declared.status.Status.{Status}
 use Rattle.csp_output.specs.declared.status.Status.TheVariants.{Clean, Found}
 use Rattle.csp_compare.specs.declared.differences.Difference.{Difference}
-use Rattle.csp_differ.specs.Differing.{output_of}
+use Rattle.csp_output.specs.Differing.{output_of}
 use Rattle.csp_output.specs.Checks.{checked}
 use Rattle.csp_output.specs.Comparisons.{IsAnswerWith}
 use Rattle.csp_run.specs.Desk.{Desk}
@@ -36,7 +36,7 @@ use Rattle.csp_output.specs.Learnt.{learnt_output}
 use Rattle.csp_output.specs.Lines.{judgment}
 use Rattle.csp_run.specs.Outputs.{IsExplained, IsJudged, IsLearnt, IsOnRequests, IsOutput, IsOutputOf, IsPrinted, IsReportOn, IsReported, hands_out, learnt_or_fault}
 use Rattle.csp_run.specs.Reports.{violations_in}
-use Rattle.csp_reasons.specs.Explanations.{explanation}
+use Rattle.csp_output.specs.Explanations.{explanation}
 use Rattle.csp_run.specs.Words.{Plan}
 
 -- the statuses of outputs

@@ -2,7 +2,7 @@
 use Rattle.std.specs.Prelude.{◌≡◌, ◌↔◌, ℕ, List, [], ◌∷◌, Contains, Ok, codes}
 use Rattle.csp_compare.specs.Differences.{AreDifferences, DiffersAmong, directives_of}
 use Rattle.csp_compare.specs.declared.differences.Difference.{Difference}
-use Rattle.csp_differ.specs.Differing.{output_of}
+use Rattle.csp_output.specs.Differing.{output_of}
 use Rattle.csp_embed.specs.Decisions.{Upholds}
 use Rattle.csp_model.specs.Inclusion.{Subsumes}
 use Rattle.csp_model.specs.declared.check.Check.{Check}

@@ -19,7 +19,7 @@ use Rattle.csp_run.specs.declared.fault.Limit.TheVariants as limit
 use Rattle.csp_run.specs.declared.fault.OutputFault.{OutputFault}
 use Rattle.csp_run.specs.declared.fault.OutputFault.TheVariants as output
 use Rattle.csp_output.specs.declared.built.Built.{Built}
-use Rattle.csp_differ.specs.Differing.{IsDiffering}
+use Rattle.csp_output.specs.Differing.{IsDiffering}
 use Rattle.csp_output.specs.Checks.{IsChecked}
 use Rattle.csp_output.specs.Comparisons.{IsComparison}
 use Rattle.csp_run.specs.Desk.{Desk, IsUntouched}
@@ -29,7 +29,7 @@ use Rattle.csp_output.specs.Learnt.{learning}
 use Rattle.csp_output.specs.Lines.{judgment}
 use Rattle.csp_output.specs.Orders.{IsOrdering}
 use Rattle.csp_output.specs.Tidyings.{IsTidying}
-use Rattle.csp_reasons.specs.Explanations.{explanation}
+use Rattle.csp_output.specs.Explanations.{explanation}
 use Rattle.csp_run.specs.Readings.{told_output}
 use Rattle.csp_run.specs.Reports.{violations_in, IsReport}
 

@@ -6,7 +6,7 @@ use Rattle.csp_model.specs.declared.policy.PolicyList.{PolicyList}
 use Rattle.csp_model.specs.declared.verdict.Described.{Described}
 use Rattle.csp_model.specs.declared.verdict.Verdict.{Verdict}
 use Rattle.csp_output.specs.Lines.{lines_from}
-use Rattle.csp_reasons.specs.Explanations.{Explained, explained_from, is_blocked}
+use Rattle.csp_output.specs.Explanations.{Explained, explained_from, is_blocked}
 use Rattle.csp_request.specs.declared.texts.ReportTexts.TheVariants.{Empty}
 use Rattle.csp_request.specs.declared.wanted.Wanted.{Wanted}
 use Rattle.csp_run.specs.declared.judge.Judging.{Judging}

@@ -9,7 +9,7 @@ ghost use Rattle.csp_model.specs.declared.url.Origin.{Origin};
 ghost use Rattle.csp_model.specs.declared.verdict.Described.{Described};
 ghost use Rattle.csp_output.specs.declared.status.Status.{Status};
 ghost use Rattle.csp_output.specs.declared.status.Status.TheVariants as status;
-ghost use Rattle.csp_reasons.specs.Explanations.{explanation};
+ghost use Rattle.csp_output.specs.Explanations.{explanation};
 ghost use Rattle.csp_run.specs.Commands.{AcceptsInclusion, AsksFor, Learns, NamesDirectives, Shows, Tidies, Wrote};
 ghost use Rattle.csp_run.specs.Desk.{Desk};
 ghost use Rattle.csp_run.specs.Files.{World};
@@ -18,13 +18,13 @@ ghost use Rattle.csp_run.specs.Laws.{AreLists, AreRequests};
 ghost use Rattle.csp_run.specs.Words.{Plan};
 
 use csp_compare::laws::each_directive_that_differs_is_named;
-use csp_differ::laws::differ_ends_as_compare;
 use csp_model::laws::a_verdict_blocks_what_the_list_refuses;
+use csp_output::differ_laws::differ_ends_as_compare;
 use csp_output::laws::{
     a_tidied_list_reads_back, an_accepted_text_shows_inclusion,
     an_embedding_upholds_the_requirement, what_learn_prints_reads_back,
 };
-use csp_reasons::laws::why_ends_as_judge_does;
+use csp_output::why_laws::why_ends_as_judge_does;
 use csp_valid::laws::{
     described_urls_are_valid, what_is_read_is_a_valid_origin, what_is_read_is_readable,
 };

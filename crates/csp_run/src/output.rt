@@ -20,9 +20,8 @@ use crate::read::read;
 use crate::report::report;
 use crate::why::explain;
 use csp_desk::Reporter;
-use csp_differ::differ;
 use csp_model::{Origin, PolicyList};
-use csp_output::{Built, Response, check, compare, drill, embed, order, tidy};
+use csp_output::{Built, Response, check, compare, differ, drill, embed, order, tidy};
 use csp_proof::ProofError;
 use std::alloc::Global;
 

@@ -6,8 +6,7 @@ ghost use Rattle.csp_run.specs.Outputs.{EndsSo, IsExplained, IsOnRequests};
 
 use crate::fault::Fault;
 use csp_model::{Described, Memory, PolicyList};
-use csp_output::Built;
-use csp_reasons::Explanation;
+use csp_output::{Built, Explanation};
 use csp_request::{ReportTexts, Take, Wanted, each};
 use std::alloc::Global;
 

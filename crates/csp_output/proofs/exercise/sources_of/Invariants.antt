@@ -1,6 +1,0 @@
-use Rattle.std.proofs.Common.{◌≡◌, map, take}
-use Rattle.csp_model.specs.Reading.{source_of}
-use Rattle.csp_output.proofs.exercise.sources_of.Given as goal
-
-abbrev pub invariant-loop-token : goal.invariant-loop-token
-invariant-loop-token l = l.sources ≡ map source_of (take l.token-index l.tokens)

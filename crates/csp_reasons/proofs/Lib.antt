@@ -1,4 +1,0 @@
-pub mod ItemsExplained
-pub mod NamedDigests
-pub mod Refusing
-pub mod SameStatus

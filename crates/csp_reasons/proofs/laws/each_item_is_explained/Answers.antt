@@ -1,5 +1,0 @@
-use Rattle.csp_reasons.proofs.ItemsExplained.{items_explained}
-use Rattle.csp_reasons.proofs.laws.each_item_is_explained.Goals as goal
-
-pub returns : goal.returns
-returns c = items_explained

@@ -1,5 +1,0 @@
-use Rattle.csp_reasons.proofs.NamedDigests.{same_explained}
-use Rattle.csp_reasons.proofs.laws.only_named_algorithms_count.Goals as goal
-
-pub returns : goal.returns
-returns c = same_explained
