@@ -2,7 +2,7 @@
 use Rattle.std.proofs.Common.{◌≡◌, ◌∙◌, sym, ap, subst, refl, inl, inr, Bool, false, List, [], ◌∷◌, ◌++◌, zero, suc, get_or, All, Contains, arith}
 use Rattle.std.proofs.lemmas.List.{append_assoc}
 use Rattle.std.proofs.lemmas.List.Elements.{All-contains, All-head, All-tail, Contains-append_cases, Contains-append_left, Contains-append_right}
-use Rattle.csp_atom.specs.declared.atom.Atom.{Atom}
+use Rattle.csp_facts.specs.declared.atom.Atom.{Atom}
 use Rattle.csp_formula.specs.Sentences.{Sentence, Known, Either, any_of}
 use Rattle.csp_formula.specs.Values.{atoms_in}
 use Rattle.csp_answer.specs.Answers.{IsAmong, conjunction_in, disjunction_in}

@@ -3,7 +3,7 @@ use Rattle.std.proofs.Common.{◌≡◌, ◌∙◌, sym, ap, ap₂, subst, ℕ, 
 use Rattle.std.specs.Option.{option_map}
 use Rattle.csp_model.specs.declared.policy.Directive.{Directive}
 use Rattle.csp_model.specs.declared.source.Source.{Source}
-use Rattle.csp_atom.specs.declared.atom.Atom.{Atom}
+use Rattle.csp_facts.specs.declared.atom.Atom.{Atom}
 use Rattle.csp_formula.specs.Questions.{said_by_list}
 use Rattle.csp_formula.specs.Sentences.{Sentence, Known, Either, any_of}
 use Rattle.csp_formula.specs.Surely.{surely, maybe_or}

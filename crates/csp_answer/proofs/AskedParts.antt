@@ -14,11 +14,11 @@ use Rattle.csp_model.specs.declared.source.PortPart.{PortPart}
 use Rattle.csp_model.specs.declared.source.PortPart.TheVariants as port_part
 use Rattle.csp_model.specs.declared.url.Scheme.{Scheme}
 use Rattle.csp_model.specs.Validity.{is_domain, is_four_numbers}
-use Rattle.csp_atom.specs.declared.atom.Atom.{Atom}
-use Rattle.csp_atom.specs.declared.atom.Atom.TheVariants.{HostDomain, HostUnder, HostIs, PathIs, PathUnder, PortIs}
+use Rattle.csp_facts.specs.declared.atom.Atom.{Atom}
+use Rattle.csp_facts.specs.declared.atom.Atom.TheVariants.{HostDomain, HostUnder, HostIs, PathIs, PathUnder, PortIs}
 use Rattle.csp_model.specs.declared.url.Host.TheVariants.{Domain, Address}
 use Rattle.csp_branch.specs.Groups.{atom_in}
-use Rattle.csp_shape.specs.declared.shape.Shape.{Shape}
+use Rattle.csp_facts.specs.declared.shape.Shape.{Shape}
 use Rattle.csp_formula.specs.Outlines.{path_said, port_said}
 use Rattle.csp_formula.specs.Sentences.{Sentence, Known, Fact, all_of}
 use Rattle.csp_formula.specs.Sources.{after_redirect, has_dots, host_sentence, is_ancestor, own_port_sentence, path_fact, path_sentence, port_sentence}

@@ -15,10 +15,10 @@ use Rattle.csp_model.specs.declared.source.Source.TheVariants as source
 use Rattle.csp_model.specs.declared.url.Origin.{Origin}
 use Rattle.csp_model.specs.declared.url.Origin.TheVariants as origin
 use Rattle.csp_model.specs.declared.url.Scheme.TheVariants.{Http, Https, Ws, Wss, Ftp}
-use Rattle.csp_atom.specs.Atoms.{IsValidAtom}
-use Rattle.csp_atom.specs.declared.atom.Atom.{Atom}
-use Rattle.csp_atom.specs.declared.atom.Atom.TheVariants.{PortIs, IntegrityHas, IntegrityOutside}
-use Rattle.csp_names.specs.Sorting.{KeepsPlaces, StandsAt}
+use Rattle.csp_facts.specs.Atoms.{IsValidAtom}
+use Rattle.csp_facts.specs.declared.atom.Atom.{Atom}
+use Rattle.csp_facts.specs.declared.atom.Atom.TheVariants.{PortIs, IntegrityHas, IntegrityOutside}
+use Rattle.csp_branch.specs.Sorting.{KeepsPlaces, StandsAt}
 use Rattle.csp_answer.specs.Collecting.{Adds, HasDefaultPorts, Spots, spots_in, spots_of, ArePlaced, AreAllPlaced, IsPlaced, ArePoliciesPlaced}
 use Rattle.csp_answer.specs.Naming.{lead_atom, rest_atom, HasPort, HasOwnPort, ArePairs}
 use Rattle.csp_answer.specs.declared.naming.NamedPolicy.{NamedPolicy}

@@ -4,7 +4,7 @@ use Rattle.std.specs.Option.{option_map}
 use Rattle.csp_model.specs.declared.check.Digest.{Digest}
 use Rattle.csp_model.specs.declared.source.Source.{Source}
 use Rattle.csp_model.specs.declared.source.Source.TheVariants as source
-use Rattle.csp_atom.specs.declared.atom.Atom.TheVariants.{DigestIs}
+use Rattle.csp_facts.specs.declared.atom.Atom.TheVariants.{DigestIs}
 use Rattle.csp_formula.specs.Compiled.{digest_of, digest_fact}
 use Rattle.csp_formula.specs.Sentences.{Sentence, Fact}
 use Rattle.csp_answer.specs.Naming.{digest_atom}

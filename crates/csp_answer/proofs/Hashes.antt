@@ -12,8 +12,8 @@ use Rattle.csp_model.specs.declared.policy.PolicyList.{PolicyList}
 use Rattle.csp_model.specs.declared.source.Hash.{Hash}
 use Rattle.csp_model.specs.declared.source.Source.{Source}
 use Rattle.csp_model.specs.declared.source.Source.TheVariants as source
-use Rattle.csp_atom.specs.Vocabulary.{hash_of_source, hashes_of, vocabulary_hashes}
-use Rattle.csp_atom.proofs.VocabularyDistinct.{Contains-distinct}
+use Rattle.csp_facts.specs.Vocabulary.{hash_of_source, hashes_of, vocabulary_hashes}
+use Rattle.csp_facts.proofs.VocabularyDistinct.{Contains-distinct}
 use Rattle.csp_formula.specs.Belonging.{HasBase64Values}
 
 -- the hash-sources of a directive, and those of all directives of a policy

@@ -4,7 +4,7 @@ use Rattle.std.specs.List.{AllZip, slice_get}
 use Rattle.std.proofs.lemmas.List.{map_more}
 use Rattle.std.proofs.lemmas.Option.{slice_get_read}
 use Rattle.csp_model.specs.declared.source.Source.{Source}
-use Rattle.csp_atom.specs.declared.atom.Atom.{Atom}
+use Rattle.csp_facts.specs.declared.atom.Atom.{Atom}
 use Rattle.csp_formula.specs.Sentences.{Sentence, any_of}
 use Rattle.csp_answer.specs.Asking.{AmountTo}
 use Rattle.csp_answer.specs.declared.conjunction.Conjunction.{Conjunction}

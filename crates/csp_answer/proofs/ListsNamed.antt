@@ -7,8 +7,8 @@ use Rattle.std.proofs.lemmas.Option.{get_or_from_slice_get, slice_get-get_or, sl
 use Rattle.csp_model.specs.declared.policy.Directive.{Directive}
 use Rattle.csp_model.specs.declared.source.Source.{Source}
 use Rattle.csp_model.specs.declared.url.Origin.{Origin}
-use Rattle.csp_atom.specs.declared.atom.Atom.{Atom}
-use Rattle.csp_atom.specs.declared.atom.Atom.TheVariants.{HostDomain}
+use Rattle.csp_facts.specs.declared.atom.Atom.{Atom}
+use Rattle.csp_facts.specs.declared.atom.Atom.TheVariants.{HostDomain}
 use Rattle.csp_answer.specs.Asking.{HasPorts, IsNameOf, IsSourceNamed}
 use Rattle.csp_answer.specs.Naming.{AreNamesThere, HasPort, IsNamed, NamedAtoms, atoms_of, lead_atom, named_in, rest_atom}
 use Rattle.csp_answer.specs.declared.naming.NamedPolicy.{NamedPolicy}

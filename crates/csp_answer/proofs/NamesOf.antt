@@ -4,7 +4,7 @@ use Rattle.std.specs.List.{flat_map}
 use Rattle.std.specs.Option.{option_to_list}
 use Rattle.std.proofs.lemmas.List.{append-nil, map-append}
 use Rattle.std.proofs.lemmas.List.Elements.{All-append, All-cons, All-head, All-nil, All-tail}
-use Rattle.csp_atom.specs.declared.atom.Atom.{Atom}
+use Rattle.csp_facts.specs.declared.atom.Atom.{Atom}
 use Rattle.csp_branch.specs.Groups.{atom_in}
 use Rattle.csp_formula.specs.Sentences.{all_of, any_of}
 use Rattle.csp_formula.specs.Values.{atoms_in}

@@ -4,18 +4,18 @@ use Rattle.std.proofs.lemmas.Bool.Decides.{nat_tests}
 use Rattle.std.proofs.lemmas.List.{get_or-take, get_or_default, length-take-le}
 use Rattle.std.proofs.lemmas.List.Elements.{All-contains_itself, All-take}
 use Rattle.csp_model.specs.declared.check.CheckPart.{CheckPart}
-use Rattle.csp_atom.specs.Atoms.{part_of}
-use Rattle.csp_atom.specs.Follows.{decided}
-use Rattle.csp_atom.specs.declared.atom.Atom.{Atom}
-use Rattle.csp_atom.specs.declared.atom.Atom.TheVariants.{HostDomain}
+use Rattle.csp_facts.specs.Atoms.{part_of}
+use Rattle.csp_facts.specs.Follows.{decided}
+use Rattle.csp_facts.specs.declared.atom.Atom.{Atom}
+use Rattle.csp_facts.specs.declared.atom.Atom.TheVariants.{HostDomain}
 use Rattle.csp_branch.specs.Groups.{atom_in}
 use Rattle.csp_branch.specs.Paths.{Path}
 use Rattle.csp_branch.specs.Places.{IsPlace}
 use Rattle.csp_formula.specs.Surely.{maybe_or}
-use Rattle.csp_names.specs.Numbers.{AreInOrder, around_in}
-use Rattle.csp_names.specs.Order.{number_of}
-use Rattle.csp_names.proofs.Finding.{parts_ascend}
-use Rattle.csp_names.proofs.PartOrder.{same_part}
+use Rattle.csp_branch.specs.Numbers.{AreInOrder, around_in}
+use Rattle.csp_branch.specs.Order.{number_of}
+use Rattle.csp_branch.proofs.Finding.{parts_ascend}
+use Rattle.csp_branch.proofs.PartOrder.{same_part}
 use Rattle.csp_answer.specs.Answers.{AreThere, Rise, key_of, lead_key}
 use Rattle.csp_answer.specs.Deciding.{AddsNothing, Finds, said_of, said_of_some}
 use Rattle.csp_answer.specs.declared.conjunction.Conjunction.{Conjunction}

@@ -12,9 +12,9 @@ use Rattle.csp_model.specs.declared.policy.PolicyList.{PolicyList}
 use Rattle.csp_model.specs.declared.source.Hash.{Hash}
 use Rattle.csp_model.specs.declared.source.Source.{Source}
 use Rattle.csp_model.specs.declared.url.Origin.{Origin}
-use Rattle.csp_atom.specs.declared.atom.Atom.{Atom}
-use Rattle.csp_atom.specs.declared.atom.Atom.TheVariants.{PortIs, IntegrityHas, IntegrityOutside}
-use Rattle.csp_names.specs.Sorting.{StandAt}
+use Rattle.csp_facts.specs.declared.atom.Atom.{Atom}
+use Rattle.csp_facts.specs.declared.atom.Atom.TheVariants.{PortIs, IntegrityHas, IntegrityOutside}
+use Rattle.csp_branch.specs.Sorting.{StandAt}
 use Rattle.csp_answer.specs.Collecting.{Spots, spots_in, spots_of, IsPlaced, ArePoliciesPlaced, HasDefaultPorts, renamed, renamed_policy, ArePairsThere, AreRenamed}
 use Rattle.csp_answer.specs.Naming.{named_in, atoms_of, lead_atom, rest_atom, AreNamesThere, ArePairs, IsNamed, AreNamed}
 use Rattle.csp_answer.specs.declared.naming.NamedPolicy.{NamedPolicy}

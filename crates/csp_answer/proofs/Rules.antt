@@ -1,7 +1,7 @@
 -- What is decided of the rule on integrity metadata, of its three parts.
 use Rattle.std.proofs.Common.{◌≡◌, ◌∙◌, refl, sym, ap, ap₂, ℕ, zero, suc, ◌<◌, Bool, true, false, List, [], ◌∷◌, ◌++◌, map, length, get_or, Option, Some, None, Contains, arith}
 use Rattle.csp_branch.specs.Paths.{Path}
-use Rattle.csp_atom.specs.declared.atom.Literal.{Literal}
+use Rattle.csp_facts.specs.declared.atom.Literal.{Literal}
 use Rattle.csp_formula.specs.Sentences.{Sentence, all_of, any_of}
 use Rattle.csp_formula.specs.Surely.{maybe_and, maybe_or, surely}
 use Rattle.csp_formula.proofs.Maybe.{maybe_and_assoc}

@@ -7,7 +7,7 @@ use Rattle.std.specs.Prelude.{◌==◌}
 use Rattle.std.proofs.lemmas.Bool.{and_parts}
 use Rattle.std.proofs.lemmas.Bool.Decides.{Decides-and, Decides-eqb}
 use Rattle.std.proofs.lemmas.Slice.Eq.{slice_eq-Decides}
-use Rattle.csp_atom.specs.declared.atom.Atom.{Atom}
+use Rattle.csp_facts.specs.declared.atom.Atom.{Atom}
 use Rattle.csp_formula.specs.Sentences.{Sentence, Either}
 use Rattle.csp_answer.specs.Answers.{AreThere, IsAmong, IsIntegrityThere, Rise, answer_in, disjunction_in, integrity_in, sentence_in, SaysTheSame}
 use Rattle.csp_answer.specs.Policies.{IsSameAnswer, IsSameIntegrity}

@@ -7,9 +7,9 @@ use Rattle.std.proofs.lemmas.Option.{slice_get_within}
 use Rattle.csp_answer.specs.Policies.{place_at}
 use Rattle.csp_model.specs.declared.policy.Policy.{Policy}
 use Rattle.csp_model.specs.declared.source.Hash.{Hash}
-use Rattle.csp_atom.specs.declared.atom.Atom.{Atom}
-use Rattle.csp_shape.specs.Numbers.{number, shape_count}
-use Rattle.csp_shape.specs.declared.shape.Shape.{Shape}
+use Rattle.csp_facts.specs.declared.atom.Atom.{Atom}
+use Rattle.csp_facts.specs.Numbers.{number, shape_count}
+use Rattle.csp_facts.specs.declared.shape.Shape.{Shape}
 use Rattle.csp_answer.specs.Naming.{policies_of}
 use Rattle.csp_answer.specs.Tables.{AnswerTheSame, AreAnswers, AreKinds, IsAnswered, answer_at}
 use Rattle.csp_answer.specs.declared.answer.Answer.{Answer}

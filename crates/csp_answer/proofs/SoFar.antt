@@ -4,9 +4,9 @@ use Rattle.std.specs.Prelude.{IsTrue, MatchOption, is_some, slice_get}
 use Rattle.std.specs.Option.{option_and_then}
 use Rattle.std.proofs.lemmas.Bool.{false≢true}
 use Rattle.std.proofs.lemmas.Bool.Decides.{nat_tests}
-use Rattle.csp_shape.specs.Numbers.{number, shape_count}
-use Rattle.csp_shape.specs.Shapes.{is_shape}
-use Rattle.csp_shape.specs.declared.shape.Shape.{Shape}
+use Rattle.csp_facts.specs.Numbers.{number, shape_count}
+use Rattle.csp_facts.specs.Shapes.{is_shape}
+use Rattle.csp_facts.specs.declared.shape.Shape.{Shape}
 use Rattle.csp_answer.specs.Growing.{Extends, StandsAt}
 
 -- Places in lists that grow

@@ -15,9 +15,9 @@ use Rattle.csp_model.specs.declared.url.Host.{Host}
 use Rattle.csp_model.specs.declared.url.Origin.{Origin}
 use Rattle.csp_model.specs.declared.url.Origin.TheVariants as origin
 use Rattle.csp_model.specs.declared.url.Scheme.{Scheme}
-use Rattle.csp_atom.specs.declared.atom.Atom.{Atom}
-use Rattle.csp_atom.specs.declared.atom.Atom.TheVariants.{HostIs, SchemeIs}
-use Rattle.csp_shape.specs.declared.shape.Shape.{Shape}
+use Rattle.csp_facts.specs.declared.atom.Atom.{Atom}
+use Rattle.csp_facts.specs.declared.atom.Atom.TheVariants.{HostIs, SchemeIs}
+use Rattle.csp_facts.specs.declared.shape.Shape.{Shape}
 use Rattle.csp_formula.specs.Outlines.{outlined, own_said, path_said, port_said}
 use Rattle.csp_formula.specs.Sentences.{Sentence, Known, Fact, Both, all_of}
 use Rattle.csp_formula.specs.Sources.{host_sentence, host_source_sentence, own_port_sentence, path_sentence, port_sentence, scheme_sentence, self_sentence, shape_scheme, source_sentence, star_sentence}

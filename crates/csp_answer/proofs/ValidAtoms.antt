@@ -27,8 +27,8 @@ use Rattle.csp_model.specs.declared.url.Host.TheVariants.{Domain, Address}
 use Rattle.csp_model.specs.declared.url.Origin.{Origin}
 use Rattle.csp_model.specs.declared.url.Origin.TheVariants as origin
 use Rattle.csp_model.specs.declared.url.Scheme.{Scheme}
-use Rattle.csp_atom.specs.Atoms.{IsValidAtom, IsValidDigest}
-use Rattle.csp_atom.specs.declared.atom.Atom.TheVariants.{HostIs, HostUnder, PathIs, PathUnder, SchemeIs, DigestIs}
+use Rattle.csp_facts.specs.Atoms.{IsValidAtom, IsValidDigest}
+use Rattle.csp_facts.specs.declared.atom.Atom.TheVariants.{HostIs, HostUnder, PathIs, PathUnder, SchemeIs, DigestIs}
 use Rattle.csp_formula.specs.Compiled.{digest_of, digest_with, is_of_size}
 use Rattle.csp_formula.specs.Sources.{has_dots, is_dots}
 use Rattle.csp_formula.proofs.AtomsOfSources.{ReadsPath, ReadsSource}

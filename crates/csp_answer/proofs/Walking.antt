@@ -4,8 +4,8 @@ use Rattle.std.specs.Bool.{⊤}
 use Rattle.std.proofs.lemmas.Bool.Decides.{nat_tests}
 use Rattle.csp_branch.specs.Paths.{Path}
 use Rattle.csp_formula.specs.Surely.{maybe_or}
-use Rattle.csp_names.specs.Numbers.{AreInOrder, IsOuterOr, around_in}
-use Rattle.csp_names.proofs.Forest.{around_before, nothing_outside}
+use Rattle.csp_branch.specs.Numbers.{AreInOrder, IsOuterOr, around_in}
+use Rattle.csp_branch.proofs.Forest.{around_before, nothing_outside}
 use Rattle.csp_answer.specs.Deciding.{Finds}
 use Rattle.csp_answer.specs.declared.conjunction.Conjunction.{Conjunction}
 use Rattle.csp_answer.proofs.Finding.{finds_both, finds_none, finds_true}

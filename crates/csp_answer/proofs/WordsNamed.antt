@@ -14,12 +14,12 @@ use Rattle.csp_model.specs.declared.source.Source.{Source}
 use Rattle.csp_model.specs.declared.source.Source.TheVariants as source
 use Rattle.csp_model.specs.declared.url.Origin.{Origin}
 use Rattle.csp_model.proofs.EqualityDecided.{same_hash_decides}
-use Rattle.csp_atom.specs.Holding.{has_hash}
-use Rattle.csp_atom.specs.Vocabulary.{hash_of_source}
-use Rattle.csp_atom.specs.declared.atom.Atom.{Atom}
-use Rattle.csp_atom.specs.declared.atom.Atom.TheVariants.{DigestIs, IntegrityHas, IntegrityOutside, NonceIs}
-use Rattle.csp_names.specs.Numbers.{AreInOrder}
-use Rattle.csp_names.specs.Sorting.{StandAt}
+use Rattle.csp_facts.specs.Holding.{has_hash}
+use Rattle.csp_facts.specs.Vocabulary.{hash_of_source}
+use Rattle.csp_facts.specs.declared.atom.Atom.{Atom}
+use Rattle.csp_facts.specs.declared.atom.Atom.TheVariants.{DigestIs, IntegrityHas, IntegrityOutside, NonceIs}
+use Rattle.csp_branch.specs.Numbers.{AreInOrder}
+use Rattle.csp_branch.specs.Sorting.{StandAt}
 use Rattle.csp_formula.specs.Compiled.{digest_fact, digest_of, has_pair, integrity_sentence, nonce_fact, other_hashes, pairs_sentence}
 use Rattle.csp_formula.specs.Sentences.{Sentence, Fact, Not, all_of, any_of}
 use Rattle.csp_formula.specs.Surely.{surely}

@@ -2,8 +2,8 @@
 use Rattle.std.specs.Prelude.{◌≡◌, ℕ, ◌+◌, ◌<◌, ◌≤◌, true, false, List, [], ◌∷◌, ◌++◌, map, length, Option, Some, None, All, Contains, IfSome}
 use Rattle.std.specs.List.{flat_map, slice_index_or}
 use Rattle.std.specs.Option.{option_to_list}
-use Rattle.csp_atom.specs.declared.atom.Atom.{Atom}
-use Rattle.csp_atom.specs.declared.atom.Literal.{Literal}
+use Rattle.csp_facts.specs.declared.atom.Atom.{Atom}
+use Rattle.csp_facts.specs.declared.atom.Literal.{Literal}
 use Rattle.csp_branch.specs.Groups.{atom_in}
 use Rattle.csp_formula.specs.Sentences.{Sentence, Known, Fact, Not, Either, all_of, any_of}
 use Rattle.csp_formula.specs.Surely.{surely}

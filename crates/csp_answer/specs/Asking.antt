@@ -8,8 +8,8 @@ use Rattle.csp_model.specs.declared.source.Source.{Source}
 use Rattle.csp_model.specs.declared.source.Source.TheVariants as source
 use Rattle.csp_model.specs.declared.url.Origin.{Origin}
 use Rattle.csp_model.specs.declared.url.Scheme.{Scheme}
-use Rattle.csp_atom.specs.declared.atom.Atom.{Atom}
-use Rattle.csp_atom.specs.declared.atom.Atom.TheVariants.{PortIs}
+use Rattle.csp_facts.specs.declared.atom.Atom.{Atom}
+use Rattle.csp_facts.specs.declared.atom.Atom.TheVariants.{PortIs}
 use Rattle.csp_formula.specs.Compiled.{digests_sentence, nonces_sentence, pairs_sentence}
 use Rattle.csp_formula.specs.Sentences.{Sentence, Known}
 use Rattle.csp_formula.specs.declared.outline.PathOutline.{PathOutline}

@@ -8,10 +8,10 @@ use Rattle.csp_model.specs.declared.source.Hash.{Hash}
 use Rattle.csp_model.specs.declared.source.Source.{Source}
 use Rattle.csp_model.specs.declared.url.Origin.{Origin}
 use Rattle.csp_model.specs.declared.url.Scheme.{Scheme}
-use Rattle.csp_atom.specs.Atoms.{IsValidAtom}
-use Rattle.csp_atom.specs.declared.atom.Atom.{Atom}
-use Rattle.csp_atom.specs.declared.atom.Atom.TheVariants.{PortIs}
-use Rattle.csp_names.specs.Sorting.{KeepsPlaces}
+use Rattle.csp_facts.specs.Atoms.{IsValidAtom}
+use Rattle.csp_facts.specs.declared.atom.Atom.{Atom}
+use Rattle.csp_facts.specs.declared.atom.Atom.TheVariants.{PortIs}
+use Rattle.csp_branch.specs.Sorting.{KeepsPlaces}
 use Rattle.csp_answer.specs.Naming.{lead_atom, rest_atom, policies_of, HasPort, HasOwnPort, ArePairs}
 use Rattle.csp_answer.specs.declared.collecting.Collected.{Collected}
 use Rattle.csp_answer.specs.declared.naming.NamedPolicy.{NamedPolicy}

@@ -1,7 +1,7 @@
 -- What is decided of an answer by a look at some of it.
 use Rattle.std.specs.Prelude.{◌≡◌, ℕ, Bool, false, List, [], ◌∷◌, Option, Some, None, slice_get}
 use Rattle.std.specs.List.{Contains}
-use Rattle.csp_atom.specs.declared.atom.Atom.{Atom}
+use Rattle.csp_facts.specs.declared.atom.Atom.{Atom}
 use Rattle.csp_branch.specs.Paths.{Path}
 use Rattle.csp_formula.specs.Sentences.{Sentence, Known}
 use Rattle.csp_formula.specs.Surely.{maybe_or, surely}

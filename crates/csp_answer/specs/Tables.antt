@@ -3,10 +3,10 @@ use Rattle.std.specs.Prelude.{◌≡◌, ℕ, List, length, map, Option, Some, M
 use Rattle.std.specs.Option.{option_and_then}
 use Rattle.csp_model.specs.declared.policy.Policy.{Policy}
 use Rattle.csp_model.specs.declared.source.Hash.{Hash}
-use Rattle.csp_atom.specs.declared.atom.Atom.{Atom}
-use Rattle.csp_shape.specs.Numbers.{number}
-use Rattle.csp_shape.specs.Shapes.{is_shape}
-use Rattle.csp_shape.specs.declared.shape.Shape.{Shape}
+use Rattle.csp_facts.specs.declared.atom.Atom.{Atom}
+use Rattle.csp_facts.specs.Numbers.{number}
+use Rattle.csp_facts.specs.Shapes.{is_shape}
+use Rattle.csp_facts.specs.declared.shape.Shape.{Shape}
 use Rattle.csp_formula.specs.Compiled.{policy_sentence}
 use Rattle.csp_formula.specs.Sentences.{Sentence}
 use Rattle.csp_answer.specs.Answers.{IsAmong, IsAnswer, SaysTheSame, sentence_in}

@@ -1,7 +1,7 @@
 //! What a policy answers at a shape.
 ghost use Rattle.std.specs.Prelude.{◌≡◌, ◌++◌, ℕ, All, IfOk, IfSome, List as Items, OnOk, option_copied};
 ghost use Rattle.std.specs.Option.{option_to_list};
-ghost use Rattle.csp_atom.specs.declared.atom.Atom.{Atom as AtomValue};
+ghost use Rattle.csp_facts.specs.declared.atom.Atom.{Atom as AtomValue};
 ghost use Rattle.csp_answer.specs.Answers as spec;
 
 use crate::conjunction::Conjunction;

@@ -2,7 +2,7 @@
 ghost use Rattle.std.specs.Prelude.{◌≡◌, ◌++◌, IfOk, List as Items, length};
 ghost use Rattle.csp_model.specs.declared.check.FetchRule.TheVariants as rule;
 ghost use Rattle.csp_model.specs.declared.source.Hash.{Hash as HashValue};
-ghost use Rattle.csp_atom.specs.declared.atom.Atom.{Atom as AtomValue};
+ghost use Rattle.csp_facts.specs.declared.atom.Atom.{Atom as AtomValue};
 ghost use Rattle.csp_formula.specs.Compiled as compiled;
 ghost use Rattle.csp_formula.specs.Questions.{answer_of_list, question_sentence, shape_asked};
 ghost use Rattle.csp_formula.specs.Sentences.{Known};
@@ -16,10 +16,10 @@ use crate::conjunction::Conjunction;
 use crate::listed::{NamedList, list_at, listed};
 use crate::naming::{NamedPolicy, PairNames};
 use crate::words::{Word, integrity_of, word_conjunctions};
+use csp_branch::Names;
 use csp_formula::{ListQuestion, Question, is_dynamic};
-use csp_inline::{allows_all_inline, hash_counts, is_element_kind};
 use csp_model::{FetchRule, InlineKind, Memory};
-use csp_names::Names;
+use csp_rules::{allows_all_inline, hash_counts, is_element_kind};
 use std::alloc::Global;
 
 // What answers are given by.

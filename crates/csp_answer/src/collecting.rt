@@ -2,16 +2,16 @@
 //! for these.
 ghost use Rattle.std.specs.Prelude.{◌≡◌, All, IfOk, IfSome, OnOk, Some, slice_get};
 ghost use Rattle.std.specs.Option.{option_map};
-ghost use Rattle.csp_atom.specs.Atoms.{IsValidAtom};
+ghost use Rattle.csp_facts.specs.Atoms.{IsValidAtom};
 ghost use Rattle.csp_formula.specs.Belonging.{HasBase64Values};
 ghost use Rattle.csp_model.specs.Policies.{IsReadable, IsReadablePolicy};
-ghost use Rattle.csp_names.specs.Sorting.{StandsAt};
+ghost use Rattle.csp_branch.specs.Sorting.{StandsAt};
 ghost use Rattle.csp_answer.specs.Collecting as spec;
 ghost use Rattle.csp_answer.specs.Naming as naming;
 
 use crate::naming::{NamedPolicy, PairNames, SourceNames};
 use crate::source::{lead_atom, rest_atom};
-use csp_atom::{Atom, Vocabulary};
+use csp_facts::{Atom, Vocabulary};
 use csp_model::{
     Directive, Duplicate, Hash, List, Memory, Origin, Policy, PolicyList, PortPart, Scheme, Source,
 };

@@ -3,15 +3,14 @@ ghost use Rattle.std.specs.Prelude.{◌≡◌, ◌⊎◌, ◌+◌, ◌<◌, ◌�
 ghost use Rattle.std.specs.List.{slice_index_or};
 ghost use Rattle.csp_formula.specs.Sentences.{all_of as all_sentences, any_of as any_sentence};
 ghost use Rattle.csp_formula.specs.Surely.{maybe_and, maybe_not, maybe_or, surely};
-ghost use Rattle.csp_names.specs.Numbers.{around_in};
+ghost use Rattle.csp_branch.specs.Numbers.{around_in};
 ghost use Rattle.csp_answer.specs.Answers as spec;
 ghost use Rattle.csp_answer.specs.Deciding.{Finds, ground_in};
 ghost use Rattle.csp_answer.specs.declared.conjunction.Conjunction.{Conjunction as ConjunctionValue};
 
 use crate::answer::{Answer, Integrity};
 use crate::conjunction::Conjunction;
-use csp_branch::Branch;
-use csp_names::{Names, part_number};
+use csp_branch::{Branch, Names, part_number};
 
 /// What the literals of a branch decide of an answer. On a part where the branch has a place it looks only at
 /// the conjunctions led by a name around the place or under it.

@@ -1,6 +1,6 @@
 //! Laws of answers, each the contract of a function with no body.
 ghost use Rattle.std.specs.Prelude.{◌≡◌, ◌<◌, ℕ, All, List as Items, map};
-ghost use Rattle.csp_atom.specs.declared.atom.Atom.{Atom as AtomValue};
+ghost use Rattle.csp_facts.specs.declared.atom.Atom.{Atom as AtomValue};
 ghost use Rattle.csp_branch.specs.Groups.{atom_in};
 ghost use Rattle.csp_formula.specs.Values.{atoms_in};
 ghost use Rattle.csp_answer.specs.Answers.{IsAnswer, names_of, sentence_in};

@@ -1,7 +1,7 @@
 //! What a source list says of URLs, as conjunctions of names.
 ghost use Rattle.std.specs.Prelude.{◌≡◌, IfOk, List as Items, MatchOption, None, slice_get};
 ghost use Rattle.std.specs.Option.{option_to_list};
-ghost use Rattle.csp_atom.specs.declared.atom.Atom.{Atom as AtomValue};
+ghost use Rattle.csp_facts.specs.declared.atom.Atom.{Atom as AtomValue};
 ghost use Rattle.csp_formula.specs.Outlines.{port_said};
 ghost use Rattle.csp_formula.specs.Sources.{list_sentence, source_sentence};
 ghost use Rattle.csp_answer.specs.Asking as spec;
@@ -9,11 +9,10 @@ ghost use Rattle.csp_answer.specs.Naming.{IsNamed};
 
 use crate::conjunction::Conjunction;
 use crate::naming::{NamedPolicy, SourceNames};
-use csp_atom::Atom;
+use csp_branch::Names;
+use csp_facts::{Atom, Shape};
 use csp_formula::{Outline, PathOutline, PortOutline, source_outline, sources_at};
 use csp_model::{List, Memory, Origin, Source};
-use csp_names::Names;
-use csp_shape::Shape;
 use std::alloc::Global;
 
 // The sources of a directive of a policy of this origin, with their names.

@@ -1,17 +1,17 @@
 //! The names of all that two lists of policies speak of.
 ghost use Rattle.std.specs.Prelude.{◌≡◌, ◌++◌, ◌<◌, All, Contains, IfOk, Some, length, map, slice_get};
 ghost use Rattle.std.specs.Option.{option_and_then};
-ghost use Rattle.csp_atom.specs.Atoms.{IsValidAtom};
+ghost use Rattle.csp_facts.specs.Atoms.{IsValidAtom};
 ghost use Rattle.csp_formula.specs.Belonging.{HasBase64Values};
 ghost use Rattle.csp_model.specs.Policies.{IsReadable};
-ghost use Rattle.csp_names.specs.Sorting.{referred};
+ghost use Rattle.csp_branch.specs.Sorting.{referred};
 ghost use Rattle.csp_answer.specs.Collecting as collected;
 ghost use Rattle.csp_answer.specs.Naming as spec;
 
 use crate::collecting::collect;
-use csp_atom::{Atom, Vocabulary};
+use csp_branch::{Names, name_atoms};
+use csp_facts::{Atom, Vocabulary};
 use csp_model::{List, Memory, Policy, PolicyList};
-use csp_names::{Names, name_atoms};
 use std::alloc::Global;
 
 // The names of the atoms of a source, where it has them.

@@ -9,10 +9,10 @@ ghost use Rattle.csp_answer.specs.Tables as spec;
 use crate::answer::Answer;
 use crate::asking::{Naming, answer_to};
 use crate::naming::NamedPolicy;
+use csp_facts::shape_laws::each_number_is_one_shape;
+use csp_facts::{Shape, shape_at};
 use csp_formula::{Question, question_at};
 use csp_model::{List, Memory};
-use csp_shape::laws::each_number_is_one_shape;
-use csp_shape::{Shape, shape_at};
 use std::alloc::Global;
 
 /// The different answers of a policy, and for each shape, by its number, the place of its answer.

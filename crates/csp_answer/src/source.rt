@@ -2,11 +2,11 @@
 ghost use Rattle.std.specs.Prelude.{◌≡◌, IfOk};
 ghost use Rattle.csp_answer.specs.Naming as spec;
 
-use csp_atom::Atom;
+use csp_facts::Atom;
 use csp_formula::source_digest;
-use csp_grammar::{is_domain, is_four_numbers};
 use csp_model::{
-    Duplicate, Host, HostPart, Keyword, Memory, Origin, PathPart, Scheme, Source, Text,
+    Duplicate, Host, HostPart, Keyword, Memory, Origin, PathPart, Scheme, Source, Text, is_domain,
+    is_four_numbers,
 };
 use std::alloc::Global;
 

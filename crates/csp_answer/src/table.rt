@@ -1,22 +1,21 @@
 //! A table of the answers of two lists of policies at each shape.
 ghost use Rattle.std.specs.Prelude.{◌≡◌, All, Contains, IfOk, IfSome, IsTrue, List as Items, map};
 ghost use Rattle.csp_answer.specs.Policies.{place_at};
-ghost use Rattle.csp_atom.specs.Atoms.{IsValidAtom};
-ghost use Rattle.csp_atom.specs.Vocabulary.{vocabulary_hashes};
+ghost use Rattle.csp_facts.specs.Atoms.{IsValidAtom};
+ghost use Rattle.csp_facts.specs.Vocabulary.{vocabulary_hashes};
 ghost use Rattle.csp_model.specs.Policies.{IsReadable};
 ghost use Rattle.csp_model.specs.declared.source.Hash.{Hash as HashValue};
-ghost use Rattle.csp_names.specs.Sorting.{referred};
+ghost use Rattle.csp_branch.specs.Sorting.{referred};
 ghost use Rattle.csp_answer.specs.Naming.{ArePairs, IsNamed, policies_of};
 ghost use Rattle.csp_answer.specs.Tables as spec;
 
 use crate::asking::Naming;
 use crate::naming::{NamedPolicy, name_lists};
 use crate::policy::PolicyAnswers;
-use csp_atom::{Atom, Vocabulary};
+use csp_branch::Names;
+use csp_facts::shape_laws::each_number_is_one_shape;
+use csp_facts::{Atom, Vocabulary, shape_at};
 use csp_model::{List, Memory, PolicyList};
-use csp_names::Names;
-use csp_shape::laws::each_number_is_one_shape;
-use csp_shape::shape_at;
 use csp_source::laws::each_token_has_one_source;
 use std::alloc::Global;
 

@@ -3,7 +3,7 @@ ghost use Rattle.std.specs.Prelude.{◌≡◌, ◌==◌, ℕ, IfOk, List as Item
 ghost use Rattle.std.specs.BTreeSet.{contains_by};
 ghost use Rattle.std.specs.List.{list_any};
 ghost use Rattle.std.specs.Ordering.{nat_cmp};
-ghost use Rattle.csp_atom.specs.declared.atom.Atom.{Atom as AtomValue};
+ghost use Rattle.csp_facts.specs.declared.atom.Atom.{Atom as AtomValue};
 ghost use Rattle.csp_model.specs.declared.source.Hash.{Hash as HashValue};
 ghost use Rattle.csp_formula.specs.Compiled.{integrity_sentence};
 ghost use Rattle.csp_answer.specs.Answers.{IsIntegrityThere, integrity_in};
@@ -14,9 +14,9 @@ use crate::answer::Integrity;
 use crate::conjunction::Conjunction;
 use crate::listed::NamedList;
 use crate::naming::{PairNames, SourceNames};
+use csp_branch::Names;
+use csp_branch::name_laws::an_atom_has_one_name;
 use csp_model::{Memory, Source};
-use csp_names::Names;
-use csp_names::laws::an_atom_has_one_name;
 use std::alloc::Global;
 use std::collections::BTreeSet;
 

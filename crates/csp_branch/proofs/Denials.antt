@@ -2,10 +2,10 @@
 use Rattle.std.proofs.Common.{◌≡◌, ◌∙◌, refl, sym, subst, ℕ, zero, suc, ◌≤◌, ◌<◌, ◌⊎◌, inl, inr, Bool, true, false, ◌&&◌, ◌||◌, nat_lt, nat_eq, List, length, get_or, set, replicate, arith, Option, Some, None}
 use Rattle.std.proofs.lemmas.List.{get_or_past, get_or-replicate, get_or-set_same, get_or-set_other, length-replicate}
 use Rattle.std.proofs.lemmas.Bool.Decides.{nat_tests}
-use Rattle.csp_atom.specs.declared.atom.Atom.{Atom}
-use Rattle.csp_names.specs.Numbers.{AreInOrder, IsOuterOr, around_in}
-use Rattle.csp_names.proofs.Forest.{around_before, around_in_is, forest_in, nothing_outside}
-use Rattle.csp_names.proofs.NameOrder.{itself}
+use Rattle.csp_facts.specs.declared.atom.Atom.{Atom}
+use Rattle.csp_branch.specs.Numbers.{AreInOrder, IsOuterOr, around_in}
+use Rattle.csp_branch.proofs.Forest.{around_before, around_in_is, forest_in, nothing_outside}
+use Rattle.csp_branch.proofs.NameOrder.{itself}
 use Rattle.csp_branch.specs.Branching.{denied_too}
 use Rattle.csp_branch.specs.Marks.{is_denied_by_first, is_denied_in}
 

@@ -5,18 +5,18 @@ use Rattle.std.proofs.lemmas.List.{get_or_default}
 use Rattle.csp_model.specs.declared.check.CheckPart.{CheckPart}
 use Rattle.csp_model.specs.declared.check.CheckPart.TheVariants as part
 use Rattle.csp_model.specs.declared.source.Algorithm.TheVariants.{Sha256, Sha384, Sha512}
-use Rattle.csp_atom.specs.Atoms.{part_of}
-use Rattle.csp_atom.specs.Follows.{follows, follows_true, true_where, false_where, nested}
-use Rattle.csp_atom.specs.declared.atom.Atom.{Atom}
-use Rattle.csp_atom.specs.declared.atom.Atom.TheVariants.{HostDomain, IntegrityHas, IntegrityOutside}
-use Rattle.csp_names.specs.Around.{is_around}
-use Rattle.csp_names.specs.Numbers.{AreInOrder, around_in}
-use Rattle.csp_names.specs.Order.{part_number}
-use Rattle.csp_names.proofs.Forest.{around_in_there, nothing_inside, nothing_outside, one_name}
-use Rattle.csp_names.proofs.NameOrder.{itself, IsFlat, flat_alone}
-use Rattle.csp_names.proofs.Nesting.{around_same_part}
-use Rattle.csp_names.proofs.PartOrder.{same_part}
-use Rattle.csp_names.proofs.Rows.{rows, rows_of_pairs, rows_apart, row_of_denial}
+use Rattle.csp_facts.specs.Atoms.{part_of}
+use Rattle.csp_facts.specs.Follows.{follows, follows_true, true_where, false_where, nested}
+use Rattle.csp_facts.specs.declared.atom.Atom.{Atom}
+use Rattle.csp_facts.specs.declared.atom.Atom.TheVariants.{HostDomain, IntegrityHas, IntegrityOutside}
+use Rattle.csp_branch.specs.Around.{is_around}
+use Rattle.csp_branch.specs.Numbers.{AreInOrder, around_in}
+use Rattle.csp_branch.specs.Order.{part_number}
+use Rattle.csp_branch.proofs.Forest.{around_in_there, nothing_inside, nothing_outside, one_name}
+use Rattle.csp_branch.proofs.NameOrder.{itself, IsFlat, flat_alone}
+use Rattle.csp_branch.proofs.Nesting.{around_same_part}
+use Rattle.csp_branch.proofs.PartOrder.{same_part}
+use Rattle.csp_branch.proofs.Rows.{rows, rows_of_pairs, rows_apart, row_of_denial}
 use Rattle.csp_branch.specs.Branching.{says}
 use Rattle.csp_branch.specs.Groups.{atom_in, group_in, group_on, groups_in}
 use Rattle.csp_branch.specs.Paths.{literal_in}

@@ -5,12 +5,12 @@ use Rattle.std.proofs.lemmas.List.{get_or_default, map-append, take_at}
 use Rattle.std.proofs.lemmas.List.Elements.{All-contains, All-push, All-take, Contains-push}
 use Rattle.csp_model.specs.declared.check.CheckPart.{CheckPart}
 use Rattle.csp_model.specs.declared.check.CheckPart.TheVariants.{Integrity}
-use Rattle.csp_atom.specs.Follows.{decided}
-use Rattle.csp_atom.specs.declared.atom.Atom.{Atom}
-use Rattle.csp_atom.specs.declared.atom.Atom.TheVariants.{HostDomain}
-use Rattle.csp_atom.specs.declared.atom.Literal.{Literal}
-use Rattle.csp_names.specs.Numbers.{AreInOrder, around_in}
-use Rattle.csp_names.specs.Order.{part_number}
+use Rattle.csp_facts.specs.Follows.{decided}
+use Rattle.csp_facts.specs.declared.atom.Atom.{Atom}
+use Rattle.csp_facts.specs.declared.atom.Atom.TheVariants.{HostDomain}
+use Rattle.csp_facts.specs.declared.atom.Literal.{Literal}
+use Rattle.csp_branch.specs.Numbers.{AreInOrder, around_in}
+use Rattle.csp_branch.specs.Order.{part_number}
 use Rattle.csp_branch.specs.Changes.{IsLast}
 use Rattle.csp_branch.specs.Groups.{group_in, groups_in}
 use Rattle.csp_branch.specs.Marks.{AreMarks, Marks, after, blank, is_denied_in, known_by, known_in, mark_at, marked, marks_of, no_marks, with_mark}

@@ -10,3 +10,16 @@ pub mod Placing
 pub mod Taking
 pub mod Telling
 pub mod Walking
+pub mod Comparing
+pub mod Ending
+pub mod Finding
+pub mod Forest
+pub mod HostKeys
+pub mod HostOrder
+pub mod NameExact
+pub mod NameOrder
+pub mod Nesting
+pub mod Numbering
+pub mod PartOrder
+pub mod Prefixes
+pub mod Rows

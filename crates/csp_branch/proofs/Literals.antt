@@ -1,7 +1,7 @@
 -- One literal more in a group of names.
 use Rattle.std.proofs.Common.{◌≡◌, refl, subst, ℕ, ◌⊎◌, inl, inr, Bool, true, false, ◌||◌, not, Option, Some, None, if◌then◌else◌}
-use Rattle.csp_atom.specs.Follows.{nested, false_where, or_else}
-use Rattle.csp_names.specs.Numbers.{IsForest}
+use Rattle.csp_facts.specs.Follows.{nested, false_where, or_else}
+use Rattle.csp_branch.specs.Numbers.{IsForest}
 use Rattle.csp_branch.specs.Branching.{IsState, known_at, denied_too, with_literal, sealed}
 
 module _ (around : ℕ → ℕ → Bool) where

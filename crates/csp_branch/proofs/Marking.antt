@@ -2,10 +2,10 @@
 use Rattle.std.proofs.Common.{◌≡◌, ◌≢◌, ◌∙◌, refl, sym, ap, ap₂, ℕ, ◌≤◌, ◌<◌, inl, inr, Bool, true, false, nat_eq, nat_lt, List, length, get_or, replicate, Option, Some, None, if◌then◌else◌, arith}
 use Rattle.std.proofs.lemmas.Bool.Decides.{nat_tests}
 use Rattle.std.proofs.lemmas.List.{get_or_past, get_or-replicate, get_or-set_same, get_or-set_other, length-replicate, length-set, set-set, set-get_or}
-use Rattle.csp_atom.specs.Follows.{false_where, follows, or_else}
-use Rattle.csp_atom.specs.declared.atom.Atom.{Atom}
-use Rattle.csp_names.specs.Numbers.{AreInOrder, around_in}
-use Rattle.csp_names.proofs.Forest.{forest_in}
+use Rattle.csp_facts.specs.Follows.{false_where, follows, or_else}
+use Rattle.csp_facts.specs.declared.atom.Atom.{Atom}
+use Rattle.csp_branch.specs.Numbers.{AreInOrder, around_in}
+use Rattle.csp_branch.proofs.Forest.{forest_in}
 use Rattle.csp_branch.specs.Branching.{IsState, known_at}
 use Rattle.csp_branch.specs.Groups.{atom_in, group_in, groups_in}
 use Rattle.csp_branch.specs.Marks.{Marks, after, blank, is_denied_in, known_by, known_in, mark_at, marked, no_marks, seal_says, with_mark}

@@ -1,7 +1,7 @@
 -- The branches that wait along a path, as it grows and shrinks.
 use Rattle.std.proofs.Common.{◌≡◌, Bool, true, false, refl, sym, List, [], ◌∷◌, ◌++◌, append_assoc, append-nil}
-use Rattle.csp_atom.specs.declared.atom.Atom.{Atom}
-use Rattle.csp_atom.specs.declared.atom.Literal.{Literal}
+use Rattle.csp_facts.specs.declared.atom.Atom.{Atom}
+use Rattle.csp_facts.specs.declared.atom.Literal.{Literal}
 use Rattle.csp_branch.specs.Walks.{with, pending, waits}
 
 -- one literal more at the end of a path: its branch waits before all others

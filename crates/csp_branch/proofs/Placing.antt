@@ -2,12 +2,12 @@
 use Rattle.std.proofs.Common.{◌≡◌, ◌≢◌, ◌∙◌, sym, ap, ap₂, ℕ, ◌<◌, Bool, true, false, List, length, get_or, Option, Some, None, IfSome, if◌then◌else◌}
 use Rattle.csp_model.specs.declared.check.CheckPart.{CheckPart}
 use Rattle.csp_model.specs.declared.check.CheckPart.TheVariants as part
-use Rattle.csp_atom.specs.Atoms.{part_of}
-use Rattle.csp_atom.specs.Follows.{decided, false_where, or_else}
-use Rattle.csp_atom.specs.declared.atom.Atom.{Atom}
-use Rattle.csp_atom.specs.declared.atom.Literal.{Literal}
-use Rattle.csp_names.specs.Numbers.{AreInOrder, around_in}
-use Rattle.csp_names.specs.Order.{part_number}
+use Rattle.csp_facts.specs.Atoms.{part_of}
+use Rattle.csp_facts.specs.Follows.{decided, false_where, or_else}
+use Rattle.csp_facts.specs.declared.atom.Atom.{Atom}
+use Rattle.csp_facts.specs.declared.atom.Literal.{Literal}
+use Rattle.csp_branch.specs.Numbers.{AreInOrder, around_in}
+use Rattle.csp_branch.specs.Order.{part_number}
 use Rattle.csp_branch.specs.Branching.{known_at}
 use Rattle.csp_branch.specs.Groups.{atom_in, group_in, group_on}
 use Rattle.csp_branch.specs.Marks.{Marks, blank, is_denied_in, known_by, known_in, seal_says}

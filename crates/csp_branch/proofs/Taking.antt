@@ -1,9 +1,9 @@
 -- One literal more of a name, by what was known of its atom.
 use Rattle.std.proofs.Common.{◌≡◌, ◌∙◌, refl, sym, ap, ℕ, ◌<◌, ◌⊎◌, inl, inr, Bool, true, false, ◌||◌, List, length, get_or, set, Option, Some, None}
 use Rattle.std.proofs.lemmas.List.{set-get_or}
-use Rattle.csp_atom.specs.Follows.{or_else}
-use Rattle.csp_atom.specs.declared.atom.Atom.{Atom}
-use Rattle.csp_names.specs.Numbers.{IsForest, around_in}
+use Rattle.csp_facts.specs.Follows.{or_else}
+use Rattle.csp_facts.specs.declared.atom.Atom.{Atom}
+use Rattle.csp_branch.specs.Numbers.{IsForest, around_in}
 use Rattle.csp_branch.specs.Branching.{IsState, known_at, says, sealed, denied_too}
 use Rattle.csp_branch.specs.Marks.{after, is_denied_in, known_by}
 use Rattle.csp_branch.specs.declared.mark.Mark.{Mark}

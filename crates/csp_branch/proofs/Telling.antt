@@ -2,12 +2,12 @@
 use Rattle.std.proofs.Common.{◌≡◌, ◌∙◌, refl, sym, ap, ap₂, subst, ℕ, ◌<◌, Bool, List, [], ◌∷◌, ◌++◌, append-nil, append_assoc, map, length, get_or, Option, Some, None}
 use Rattle.std.proofs.lemmas.List.{get_or_default}
 use Rattle.std.proofs.lemmas.List.Elements.{All-head, All-tail}
-use Rattle.csp_atom.specs.Follows.{follows, decided, or_else}
-use Rattle.csp_atom.specs.declared.atom.Atom.{Atom}
-use Rattle.csp_atom.specs.declared.atom.Atom.TheVariants.{HostDomain}
-use Rattle.csp_atom.specs.declared.atom.Literal.{Literal}
-use Rattle.csp_names.specs.Numbers.{AreInOrder}
-use Rattle.csp_names.proofs.Forest.{one_name}
+use Rattle.csp_facts.specs.Follows.{follows, decided, or_else}
+use Rattle.csp_facts.specs.declared.atom.Atom.{Atom}
+use Rattle.csp_facts.specs.declared.atom.Atom.TheVariants.{HostDomain}
+use Rattle.csp_facts.specs.declared.atom.Literal.{Literal}
+use Rattle.csp_branch.specs.Numbers.{AreInOrder}
+use Rattle.csp_branch.proofs.Forest.{one_name}
 use Rattle.csp_branch.specs.Groups.{atom_in}
 use Rattle.csp_branch.specs.Marks.{Marks, known_in, mark_at, marked, marked_by, marks_of, no_marks, with_mark}
 use Rattle.csp_branch.specs.Paths.{AreNamed, literal_of, path_of}

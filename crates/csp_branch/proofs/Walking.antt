@@ -2,7 +2,7 @@
 use Rattle.std.proofs.Common.{◌≡◌, ◌∙◌, sym, ap, ℕ, ◌<◌, ◌≤◌, ◌+◌, false, List, [], ◌∷◌, ◌++◌, length, map, get_or, take, None, All, arith}
 use Rattle.std.proofs.lemmas.List.{get_or_push, get_or-map, get_or-take, length-map, length_push, length-take-le, map-append, same_lists}
 use Rattle.std.proofs.lemmas.List.Elements.{All-from_get_or}
-use Rattle.csp_atom.specs.declared.atom.Literal.{Literal}
+use Rattle.csp_facts.specs.declared.atom.Literal.{Literal}
 use Rattle.csp_branch.specs.Changes.{AreChanges, first_of}
 use Rattle.csp_branch.specs.Paths.{Path, literal_of}
 use Rattle.csp_branch.specs.declared.branch.Change.{Change}

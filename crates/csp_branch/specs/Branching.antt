@@ -1,6 +1,6 @@
 -- What literals say of the atoms of a group, told by one place and by denials. An atom is a number.
 use Rattle.std.specs.Prelude.{◌≡◌, ℕ, Bool, true, false, ◌||◌, ◌&&◌, Option, Some, None, if◌then◌else◌}
-use Rattle.csp_atom.specs.Follows.{nested, false_where, or_else}
+use Rattle.csp_facts.specs.Follows.{nested, false_where, or_else}
 
 -- what a literal says of an atom in the group of its own
 abbrev pub says : (ℕ → ℕ → Bool) → ℕ → Bool → ℕ → Option Bool

@@ -5,3 +5,9 @@ pub mod Marks
 pub mod Paths
 pub mod Places
 pub mod Walks
+pub mod Around
+pub mod Hosts
+pub mod Numbers
+pub mod Order
+pub mod Prefix
+pub mod Sorting

@@ -1,9 +1,9 @@
 -- What the literals of a path leave behind at names, and what is known by it.
 use Rattle.std.specs.Prelude.{◌≡◌, ℕ, zero, suc, ◌&&◌, ◌||◌, Bool, true, false, not, List, [], ◌∷◌, length, set, replicate, Option, Some, None, is_some, if◌then◌else◌}
 use Rattle.std.specs.List.{slice_index_or}
-use Rattle.csp_atom.specs.Follows.{or_else}
-use Rattle.csp_atom.specs.declared.atom.Atom.{Atom}
-use Rattle.csp_names.specs.Numbers.{around_in}
+use Rattle.csp_facts.specs.Follows.{or_else}
+use Rattle.csp_facts.specs.declared.atom.Atom.{Atom}
+use Rattle.csp_branch.specs.Numbers.{around_in}
 use Rattle.csp_branch.specs.Branching.{known_at, sealed}
 use Rattle.csp_branch.specs.Groups.{group_in, groups_in}
 use Rattle.csp_branch.specs.Paths.{AreNamed}

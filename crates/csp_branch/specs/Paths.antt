@@ -1,7 +1,7 @@
 -- The literals from the root of a tree to a node.
 use Rattle.std.specs.Prelude.{ℕ, ◌<◌, Bool, List, All, length, map}
-use Rattle.csp_atom.specs.declared.atom.Atom.{Atom}
-use Rattle.csp_atom.specs.declared.atom.Literal.{Literal}
+use Rattle.csp_facts.specs.declared.atom.Atom.{Atom}
+use Rattle.csp_facts.specs.declared.atom.Literal.{Literal}
 use Rattle.csp_branch.specs.Groups.{atom_in}
 use Rattle.csp_branch.specs.declared.step.Step.{Step}
 

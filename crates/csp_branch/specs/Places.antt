@@ -1,9 +1,9 @@
 -- Where a branch stands on a part of a check.
 use Rattle.std.specs.Prelude.{◌≡◌, ℕ, ◌<◌, true, false, Some, length}
 use Rattle.csp_model.specs.declared.check.CheckPart.{CheckPart}
-use Rattle.csp_atom.specs.Atoms.{part_of}
-use Rattle.csp_atom.specs.Follows.{decided}
-use Rattle.csp_names.specs.Numbers.{around_in}
+use Rattle.csp_facts.specs.Atoms.{part_of}
+use Rattle.csp_facts.specs.Follows.{decided}
+use Rattle.csp_branch.specs.Numbers.{around_in}
 use Rattle.csp_branch.specs.Groups.{atom_in}
 use Rattle.csp_branch.specs.Paths.{Path}
 

@@ -1,7 +1,7 @@
 -- A walk of a tree, from branch to branch.
 use Rattle.std.specs.Prelude.{ℕ, Bool, true, false, List, [], ◌∷◌, ◌++◌}
-use Rattle.csp_atom.specs.declared.atom.Atom.{Atom}
-use Rattle.csp_atom.specs.declared.atom.Literal.{Literal}
+use Rattle.csp_facts.specs.declared.atom.Atom.{Atom}
+use Rattle.csp_facts.specs.declared.atom.Literal.{Literal}
 
 -- where a walker stands: the atoms by whose names it takes literals, those that lead there, the root's first,
 -- and how many it may take

@@ -1,18 +1,19 @@
 //! What the literals from the root of a tree to a node decide.
 ghost use Rattle.std.specs.Prelude.{◌≡◌, ◌<◌, [], ◌∷◌, ◌++◌, IfOk, IfSome, length};
 ghost use Rattle.std.specs.List.{slice_index_or};
-ghost use Rattle.csp_atom.specs.Follows.{decided};
-ghost use Rattle.csp_atom.specs.declared.atom.Atom.{Atom as AtomValue};
+ghost use Rattle.csp_facts.specs.Follows.{decided};
+ghost use Rattle.csp_facts.specs.declared.atom.Atom.{Atom as AtomValue};
 ghost use Rattle.csp_branch.specs.Changes.{IsLast};
 ghost use Rattle.csp_branch.specs.Paths.{literal_in};
 ghost use Rattle.csp_branch.specs.Places.{IsPlace};
 
 use crate::group::{group_count, group_of};
 use crate::mark::{Group, Mark, known_of};
+use crate::names::Names;
+use crate::order::part_number;
 use crate::step::Step;
 use crate::steps::Steps;
 use csp_model::{CheckPart, Memory};
-use csp_names::{Names, part_number};
 use std::alloc::Global;
 use std::marker::Model;
 

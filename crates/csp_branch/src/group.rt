@@ -3,8 +3,9 @@
 ghost use Rattle.std.specs.Prelude.{◌≡◌, ◌<◌, length};
 ghost use Rattle.csp_branch.specs.Groups.{group_in, groups_in};
 
+use crate::names::Names;
+use crate::order::part_number;
 use csp_model::CheckPart;
-use csp_names::{Names, part_number};
 
 // The number of a name's group: its part's, but each pair of integrity metadata is in a group of its own,
 // since a check may have many pairs.

@@ -2,10 +2,10 @@
 ghost use Rattle.std.specs.Prelude.{◌≡◌, ◌≢◌, ◌<◌, [], ◌∷◌, ◌++◌, ℕ, List as Items, length, Bool};
 ghost use Rattle.std.specs.Prelude.{Option, Some, None, true, false, not};
 ghost use Rattle.std.specs.List.{slice_index_or};
-ghost use Rattle.csp_atom.specs.Follows.{decided, follows, or_else};
-ghost use Rattle.csp_atom.specs.declared.atom.Atom.{Atom as AtomValue};
-ghost use Rattle.csp_atom.specs.declared.atom.Literal.{Literal};
-ghost use Rattle.csp_names.specs.Numbers.{AreInOrder, IsForest, around_in};
+ghost use Rattle.csp_facts.specs.Follows.{decided, follows, or_else};
+ghost use Rattle.csp_facts.specs.declared.atom.Atom.{Atom as AtomValue};
+ghost use Rattle.csp_facts.specs.declared.atom.Literal.{Literal};
+ghost use Rattle.csp_branch.specs.Numbers.{AreInOrder, IsForest, around_in};
 ghost use Rattle.csp_branch.specs.Branching as spec;
 ghost use Rattle.csp_branch.specs.Changes.{AreChanges, IsLast};
 ghost use Rattle.csp_branch.specs.Groups.{group_in};

@@ -1,12 +1,12 @@
 //! What literals leave behind at names, and what is known of an atom by it.
 ghost use Rattle.std.specs.Prelude.{◌≡◌, ◌<◌, false, length};
 ghost use Rattle.std.specs.Option.{ForSome};
-ghost use Rattle.csp_atom.specs.Follows.{false_where, or_else};
-ghost use Rattle.csp_names.specs.Numbers.{around_in};
+ghost use Rattle.csp_facts.specs.Follows.{false_where, or_else};
+ghost use Rattle.csp_branch.specs.Numbers.{around_in};
 ghost use Rattle.csp_branch.specs.Marks as spec;
 
+use crate::names::Names;
 use crate::step::Step;
-use csp_names::Names;
 
 // What literals say of a group of names.
 #[derive(Clone, Copy, Debug)]

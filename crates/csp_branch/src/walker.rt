@@ -7,10 +7,10 @@ ghost use Rattle.csp_branch.specs.declared.branch.Change.{Change as ChangeValue}
 
 use crate::branch::{Branch, Change};
 use crate::laws::a_walk_keeps_the_changes_of_its_path;
+use crate::names::Names;
 use crate::step::Step;
-use csp_atom::Atom;
+use csp_facts::Atom;
 use csp_model::Memory;
-use csp_names::Names;
 use std::alloc::Global;
 use std::marker::Model;
 

@@ -6,12 +6,12 @@ use Rattle.std.proofs.lemmas.List.Elements.{All-weaker}
 use Rattle.std.proofs.lemmas.Slice.Eq.{bytes_eq-Decides}
 use Rattle.csp_model.proofs.EqualityDecided.{same_host_decides, same_hash_decides}
 use Rattle.csp_model.specs.declared.check.Digest.TheVariants.{Sha256, Sha384, Sha512}
-use Rattle.csp_atom.proofs.Own.{own}
-use Rattle.csp_atom.proofs.TableTests.{same_path_decides}
-use Rattle.csp_atom.specs.Follows.{true_where, false_where, follows_true, follows_false, follows, decided}
-use Rattle.csp_atom.specs.declared.atom.Atom.{Atom}
-use Rattle.csp_atom.specs.declared.atom.Atom.TheVariants.{HostIs, PortIs, PathIs, SchemeIs, NonceIs, IntegrityHas, IntegrityOutside, DigestIs}
-use Rattle.csp_atom.specs.declared.atom.Literal.{Literal}
+use Rattle.csp_facts.proofs.Own.{own}
+use Rattle.csp_facts.proofs.TableTests.{same_path_decides}
+use Rattle.csp_facts.specs.Follows.{true_where, false_where, follows_true, follows_false, follows, decided}
+use Rattle.csp_facts.specs.declared.atom.Atom.{Atom}
+use Rattle.csp_facts.specs.declared.atom.Atom.TheVariants.{HostIs, PortIs, PathIs, SchemeIs, NonceIs, IntegrityHas, IntegrityOutside, DigestIs}
+use Rattle.csp_facts.specs.declared.atom.Literal.{Literal}
 use Rattle.csp_cell.specs.Cells.{decides_alone, implies, needed_beside}
 use Rattle.csp_cell.proofs.Covering.{implied}
 use Rattle.csp_cell.proofs.Parts.{all_pass}

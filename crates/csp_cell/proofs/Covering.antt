@@ -1,8 +1,8 @@
 -- A literal covers what it makes true, and nothing else.
 use Rattle.std.proofs.Common.{◌≡◌, ◌∙◌, Bool, true, false, Option, Some, None, refl, ap}
-use Rattle.csp_atom.proofs.Own.{own}
-use Rattle.csp_atom.specs.Follows.{follows}
-use Rattle.csp_atom.specs.declared.atom.Literal.{Literal}
+use Rattle.csp_facts.proofs.Own.{own}
+use Rattle.csp_facts.specs.Follows.{follows}
+use Rattle.csp_facts.specs.declared.atom.Literal.{Literal}
 use Rattle.csp_cell.specs.Cells.{Covers, is_answer, implies}
 use Rattle.csp_cell.proofs.Through.{through}
 

@@ -1,10 +1,10 @@
 -- What a literal adds to the parts of a cell makes a cell again.
 use Rattle.std.proofs.Common.{◌≡◌, not, List, ◌++◌, None, All}
 use Rattle.std.proofs.lemmas.List.Elements.{All-filter}
-use Rattle.csp_atom.specs.declared.atom.Literal.{Literal}
-use Rattle.csp_shape.specs.declared.shape.Shape.{Shape}
+use Rattle.csp_facts.specs.declared.atom.Literal.{Literal}
+use Rattle.csp_facts.specs.declared.shape.Shape.{Shape}
 use Rattle.csp_cell.specs.Cells.{implies, needed_beside, Takes, IsCell, IsOf}
-use Rattle.csp_atom.specs.Follows.{decided}
+use Rattle.csp_facts.specs.Follows.{decided}
 use Rattle.csp_cell.specs.Inside.{IsPlacing, IsOther, Adds}
 use Rattle.csp_cell.proofs.Parts.{takes_added}
 use Rattle.csp_cell.proofs.Splitting.{new_cell}

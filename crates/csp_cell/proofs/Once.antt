@@ -5,12 +5,12 @@ use Rattle.csp_model.specs.DecideMatching.{is_domain_host}
 use Rattle.csp_model.specs.DecideEnds.{is_host_under, begins_with, goes_beyond}
 use Rattle.csp_model.specs.DecideEquality.{same_host}
 use Rattle.csp_model.specs.declared.check.Digest.TheVariants.{Sha256, Sha384, Sha512}
-use Rattle.csp_atom.proofs.Refutes.{refutes_back}
-use Rattle.csp_atom.specs.Atoms.{part_of}
-use Rattle.csp_atom.specs.Follows.{lies_within, same_path, nested, follows_true}
-use Rattle.csp_atom.specs.declared.atom.Atom.{Atom}
-use Rattle.csp_atom.specs.declared.atom.Atom.TheVariants.{HostIs, HostUnder, HostDomain, PortIs, PathIs, PathUnder, SchemeIs, NonceIs, DigestIs}
-use Rattle.csp_atom.specs.declared.atom.Literal.{Literal}
+use Rattle.csp_facts.proofs.Refutes.{refutes_back}
+use Rattle.csp_facts.specs.Atoms.{part_of}
+use Rattle.csp_facts.specs.Follows.{lies_within, same_path, nested, follows_true}
+use Rattle.csp_facts.specs.declared.atom.Atom.{Atom}
+use Rattle.csp_facts.specs.declared.atom.Atom.TheVariants.{HostIs, HostUnder, HostDomain, PortIs, PathIs, PathUnder, SchemeIs, NonceIs, DigestIs}
+use Rattle.csp_facts.specs.declared.atom.Literal.{Literal}
 use Rattle.csp_cell.specs.Cells.{StandTogether, is_integrity}
 use Rattle.csp_cell.specs.Inside.{IsPlacing}
 use Rattle.csp_cell.proofs.Covering.{covers_implied}

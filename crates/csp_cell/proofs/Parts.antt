@@ -2,9 +2,9 @@
 use Rattle.std.proofs.Common.{◌≡◌, ◌∙◌, Bool, true, false, not, List, [], ◌∷◌, ◌++◌, filter, Option, Some, None, MatchOption, All, Any, refl, sym, ap, append_assoc, arith, ℕ, suc, take, drop, insert}
 use Rattle.std.proofs.lemmas.List.{append-nil, take-append-drop}
 use Rattle.std.proofs.lemmas.List.Elements.{All-head, All-tail, All-push, filter-append}
-use Rattle.csp_atom.specs.Follows.{follows, decided, or_else}
-use Rattle.csp_atom.specs.declared.atom.Atom.{Atom}
-use Rattle.csp_atom.specs.declared.atom.Literal.{Literal}
+use Rattle.csp_facts.specs.Follows.{follows, decided, or_else}
+use Rattle.csp_facts.specs.declared.atom.Atom.{Atom}
+use Rattle.csp_facts.specs.declared.atom.Literal.{Literal}
 use Rattle.csp_cell.specs.Cells.{implies, needed_beside, Takes, places}
 use Rattle.csp_cell.specs.Inside.{IsPlacing, IsOther, Adds}
 use Rattle.csp_cell.proofs.Taking.{all_insert, all_none, both_none}

@@ -8,14 +8,14 @@ use Rattle.std.proofs.lemmas.List.Quantifiers.{all_pairs_push}
 use Rattle.std.specs.Bool.{Decides}
 use Rattle.csp_model.specs.declared.check.Check.{Check}
 use Rattle.csp_model.specs.declared.source.Hash.{Hash}
-use Rattle.csp_atom.proofs.HoldingDecided.{holds_decides}
-use Rattle.csp_atom.proofs.Refutes.{refutes_back}
-use Rattle.csp_atom.proofs.Sound.{sound}
-use Rattle.csp_atom.specs.Atoms.{Holds}
-use Rattle.csp_atom.specs.Follows.{follows, Refutes, decided}
-use Rattle.csp_atom.specs.Holding.{holds, is_true_of}
-use Rattle.csp_atom.specs.declared.atom.Atom.{Atom}
-use Rattle.csp_atom.specs.declared.atom.Literal.{Literal}
+use Rattle.csp_facts.proofs.HoldingDecided.{holds_decides}
+use Rattle.csp_facts.proofs.Refutes.{refutes_back}
+use Rattle.csp_facts.proofs.Sound.{sound}
+use Rattle.csp_facts.specs.Atoms.{Holds}
+use Rattle.csp_facts.specs.Follows.{follows, Refutes, decided}
+use Rattle.csp_facts.specs.Holding.{holds, is_true_of}
+use Rattle.csp_facts.specs.declared.atom.Atom.{Atom}
+use Rattle.csp_facts.specs.declared.atom.Literal.{Literal}
 use Rattle.csp_cell.specs.Cells.{Region, IsCell, IsOf, Meets, StandTogether, Covers, implies, Takes}
 use Rattle.csp_cell.proofs.Covering.{implied, implies_covered}
 use Rattle.csp_cell.proofs.Taking.{pairs_insert, all_taken, all_given, all_none, DontRefute, decides_same}

@@ -3,10 +3,10 @@ use Rattle.std.proofs.Common.{◌≡◌, ◌∙◌, suc, Bool, true, false, not,
 use Rattle.std.proofs.lemmas.List.{append-nil}
 use Rattle.std.proofs.lemmas.List.Elements.{All-cons, All-head, All-tail, All-nil, All-filter, All-push, All-weaker}
 use Rattle.std.proofs.lemmas.List.Kept.{AllPairs-cons}
-use Rattle.csp_atom.proofs.Refutes.{refutes_back}
-use Rattle.csp_atom.specs.Follows.{follows, Refutes, decided, or_else}
-use Rattle.csp_atom.specs.declared.atom.Atom.{Atom}
-use Rattle.csp_atom.specs.declared.atom.Literal.{Literal}
+use Rattle.csp_facts.proofs.Refutes.{refutes_back}
+use Rattle.csp_facts.specs.Follows.{follows, Refutes, decided, or_else}
+use Rattle.csp_facts.specs.declared.atom.Atom.{Atom}
+use Rattle.csp_facts.specs.declared.atom.Literal.{Literal}
 use Rattle.csp_cell.specs.Cells.{implies, Takes}
 use Rattle.csp_cell.proofs.Covering.{implied}
 use Rattle.csp_cell.proofs.Through.{through}

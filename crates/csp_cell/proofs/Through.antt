@@ -13,14 +13,14 @@ use Rattle.csp_model.specs.DecideEquality.{same_host}
 use Rattle.csp_model.specs.Matching.{IsDomainHost, IsHostUnder, PathMatches}
 use Rattle.csp_model.specs.declared.check.Digest.TheVariants.{Sha256, Sha384, Sha512}
 use Rattle.csp_model.specs.declared.source.PathPart.TheVariants.{Prefix}
-use Rattle.csp_atom.specs.Follows.{lies_within, same_path, true_where, false_where, nested, follows_true, follows}
-use Rattle.csp_atom.specs.declared.atom.Atom.{Atom}
-use Rattle.csp_atom.specs.declared.atom.Atom.TheVariants.{HostIs, HostUnder, HostDomain, PortIs, PathIs, PathUnder, SchemeIs, NonceIs, IntegrityHas, IntegrityOutside, DigestIs}
-use Rattle.csp_atom.specs.declared.atom.Literal.{Literal}
-use Rattle.csp_atom.proofs.Refutes.{refutes_back, false_false}
-use Rattle.csp_atom.proofs.SoundAnswers.{Agrees, value_of_Agrees, Agrees-nested, Agrees-unless}
-use Rattle.csp_atom.proofs.SoundNesting.{under_through, under_both, under_is_domain, beyond_through, beyond_both}
-use Rattle.csp_atom.proofs.TableTests.{IsWithin, lies_within_decides, same_path_decides}
+use Rattle.csp_facts.specs.Follows.{lies_within, same_path, true_where, false_where, nested, follows_true, follows}
+use Rattle.csp_facts.specs.declared.atom.Atom.{Atom}
+use Rattle.csp_facts.specs.declared.atom.Atom.TheVariants.{HostIs, HostUnder, HostDomain, PortIs, PathIs, PathUnder, SchemeIs, NonceIs, IntegrityHas, IntegrityOutside, DigestIs}
+use Rattle.csp_facts.specs.declared.atom.Literal.{Literal}
+use Rattle.csp_facts.proofs.Refutes.{refutes_back, false_false}
+use Rattle.csp_facts.proofs.SoundAnswers.{Agrees, value_of_Agrees, Agrees-nested, Agrees-unless}
+use Rattle.csp_facts.proofs.SoundNesting.{under_through, under_both, under_is_domain, beyond_through, beyond_both}
+use Rattle.csp_facts.proofs.TableTests.{IsWithin, lies_within_decides, same_path_decides}
 
 -- Answers
 

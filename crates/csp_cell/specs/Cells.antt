@@ -1,15 +1,15 @@
 -- Cells: what the literals of one decide, which checks meet it, and which lists of literals are one.
 use Rattle.std.specs.Prelude.{◌≡◌, Bool, true, false, not, ◌&&◌, List, ◌∷◌, ◌++◌, Option, Some, None, All, AllPairs, IsTrue, filter}
-use Rattle.csp_atom.specs.Atoms.{BelongsTo, IsValidAtom}
-use Rattle.csp_atom.specs.Follows.{follows, Refutes}
-use Rattle.csp_atom.specs.Holding.{is_true_of}
-use Rattle.csp_atom.specs.declared.atom.Atom.{Atom}
-use Rattle.csp_atom.specs.declared.atom.Atom.TheVariants.{HostUnder, HostDomain, PathUnder, IntegrityHas, IntegrityOutside}
-use Rattle.csp_atom.specs.declared.atom.Literal.{Literal}
+use Rattle.csp_facts.specs.Atoms.{BelongsTo, IsValidAtom}
+use Rattle.csp_facts.specs.Follows.{follows, Refutes}
+use Rattle.csp_facts.specs.Holding.{is_true_of}
+use Rattle.csp_facts.specs.declared.atom.Atom.{Atom}
+use Rattle.csp_facts.specs.declared.atom.Atom.TheVariants.{HostUnder, HostDomain, PathUnder, IntegrityHas, IntegrityOutside}
+use Rattle.csp_facts.specs.declared.atom.Literal.{Literal}
 use Rattle.csp_model.specs.declared.check.Check.{Check}
 use Rattle.csp_model.specs.declared.source.Hash.{Hash}
-use Rattle.csp_shape.specs.Shapes.{looks_at}
-use Rattle.csp_shape.specs.declared.shape.Shape.{Shape}
+use Rattle.csp_facts.specs.Shapes.{looks_at}
+use Rattle.csp_facts.specs.declared.shape.Shape.{Shape}
 
 -- the shape of the checks, and the literals that are true of those in the cell
 pub record Region : Type 0 where

@@ -1,6 +1,6 @@
 -- What holds of the parts of a cell.
 use Rattle.std.specs.Prelude.{◌≡◌, true, false, List, ◌∷◌, ◌++◌, All}
-use Rattle.csp_atom.specs.declared.atom.Literal.{Literal}
+use Rattle.csp_facts.specs.declared.atom.Literal.{Literal}
 use Rattle.csp_cell.specs.Cells.{Region, IsCell, places}
 use Rattle.csp_cell.specs.declared.cell.Cell.TheInside.{Inside}
 

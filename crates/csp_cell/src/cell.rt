@@ -1,19 +1,18 @@
 //! A cell, what an atom narrows it to, and the two that the atom splits it into.
 ghost use Rattle.std.specs.Prelude.{◌≡◌, ◌↔◌, ◌≤◌, [], ◌∷◌, ◌++◌, length, All, Any, AllPairs, IfOk, OnOk, MatchOption, List as Items, None, Some, true, false, not, filter};
-ghost use Rattle.csp_atom.specs.Atoms.{BelongsTo, Holds, IsValidAtom};
-ghost use Rattle.csp_atom.specs.Follows.{follows, decided};
-ghost use Rattle.csp_atom.specs.declared.atom.Atom.{Atom as AtomValue};
+ghost use Rattle.csp_facts.specs.Atoms.{BelongsTo, Holds, IsValidAtom};
+ghost use Rattle.csp_facts.specs.Follows.{follows, decided};
+ghost use Rattle.csp_facts.specs.declared.atom.Atom.{Atom as AtomValue};
 ghost use Rattle.csp_cell.specs.Cells.{IsCell, IsOf, Meets, StandTogether, Takes, places};
 ghost use Rattle.csp_cell.specs.Inside.{Adds};
 ghost use Rattle.csp_model.specs.declared.check.Check.{Check as CheckValue};
 ghost use Rattle.csp_model.specs.declared.source.Hash.{Hash as HashValue};
-ghost use Rattle.csp_shape.specs.Shapes.{looks_at};
+ghost use Rattle.csp_facts.specs.Shapes.{looks_at};
 
 use crate::implies::{first_decided, keep_needed};
-use csp_atom::order::compare;
-use csp_atom::{Atom, Literal};
+use csp_facts::order::compare;
+use csp_facts::{Atom, Literal, Shape};
 use csp_model::{Duplicate, Memory};
-use csp_shape::Shape;
 use std::alloc::Global;
 use std::marker::Model;
 

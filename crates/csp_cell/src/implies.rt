@@ -1,9 +1,9 @@
 //! Which literals another one makes needless.
 ghost use Rattle.std.specs.Prelude.{◌≡◌, None};
-ghost use Rattle.csp_atom.specs.Follows.{decided};
+ghost use Rattle.csp_facts.specs.Follows.{decided};
 ghost use Rattle.csp_cell.specs.Cells as spec;
 
-use csp_atom::{Atom, Literal, follows};
+use csp_facts::{Atom, Literal, follows};
 
 // Whether what the literal says makes the other true. Then it decides all that the other decides.
 fn implies(literal: &Literal, other: &Literal) -> bool

@@ -1,7 +1,7 @@
 //! Laws of literals, each the contract of a function with no body.
 ghost use Rattle.std.specs.Prelude.{◌≡◌, ◌≢◌, ◌↔◌, AllPairs, true};
-ghost use Rattle.csp_atom.specs.declared.atom.Literal.{Literal as LiteralValue};
-ghost use Rattle.csp_atom.specs.Atoms.{part_of};
+ghost use Rattle.csp_facts.specs.declared.atom.Literal.{Literal as LiteralValue};
+ghost use Rattle.csp_facts.specs.Atoms.{part_of};
 ghost use Rattle.csp_cell.specs.Cells.{Covers, IsCell, Region, implies};
 ghost use Rattle.csp_cell.specs.Inside.{IsPlacing};
 

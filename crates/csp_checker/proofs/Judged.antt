@@ -5,8 +5,8 @@ use Rattle.std.specs.Option.{option_map}
 use Rattle.std.proofs.lemmas.List.{length-map}
 use Rattle.std.proofs.lemmas.List.Elements.{All-weaker}
 use Rattle.std.proofs.lemmas.Option.{slice_get-map, slice_get-get_or, same_Some}
-use Rattle.csp_atom.specs.declared.atom.Atom.{Atom}
-use Rattle.csp_shape.specs.Shapes.{is_shape}
+use Rattle.csp_facts.specs.declared.atom.Atom.{Atom}
+use Rattle.csp_facts.specs.Shapes.{is_shape}
 use Rattle.csp_branch.specs.Paths.{Path}
 use Rattle.csp_answer.specs.Tables.{AreAnswers}
 use Rattle.csp_proof.specs.Accepts.{Lists, hashes_in, cases_in, bad_tree, at_line, bad_body, bad_shared, for_pair, first_bad_node}

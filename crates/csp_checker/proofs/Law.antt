@@ -1,7 +1,7 @@
 -- The walk over the nodes of a tree is the recursion on its cases.
 use Rattle.std.proofs.Common.{◌≡◌, ◌∙◌, sym, ap, ℕ, ◌+◌, Bool, true, false, refl, List, [], ◌∷◌, ◌++◌, length, Option, Some, None, arith, append_assoc, length-append, append-nil, All}
 use Rattle.std.proofs.lemmas.List.Elements.{All-head, All-tail}
-use Rattle.csp_atom.specs.declared.atom.Literal.{Literal}
+use Rattle.csp_facts.specs.declared.atom.Literal.{Literal}
 use Rattle.csp_proof.specs.Accepts.{Lists, blocks, is_met, unless, first_of, bad_case, bad_tree, cases_in}
 use Rattle.csp_proof.specs.Pairs.{Pair}
 use Rattle.csp_proof.specs.WellFormed.{Cases, Splits, IsBlocked, IsMet, preorder, IsPreorder}

@@ -1,7 +1,7 @@
 -- A walk that counts from another line finds the same node, and where policies say the same the same is found.
 use Rattle.std.proofs.Common.{◌≡◌, ◌∙◌, sym, ap, ℕ, ◌+◌, Bool, true, false, refl, List, [], ◌∷◌, ◌++◌, length, Option, Some, None, arith, All}
 use Rattle.std.specs.Option.{option_map}
-use Rattle.csp_atom.specs.declared.atom.Literal.{Literal}
+use Rattle.csp_facts.specs.declared.atom.Literal.{Literal}
 use Rattle.csp_proof.specs.Accepts.{Lists, blocks, is_met, literal, unless, first_of, bad_case, bad_tree, at_line, cases_in}
 use Rattle.csp_proof.specs.Pairs.{Pair}
 use Rattle.csp_proof.specs.WellFormed.{Cases, Splits, IsBlocked, IsMet, preorder, IsPreorder}

@@ -6,9 +6,9 @@ use Rattle.std.proofs.lemmas.Bool.{and_parts}
 use Rattle.std.proofs.lemmas.List.{map-append}
 use Rattle.std.proofs.lemmas.List.Elements.{All-nil, All-cons, All-append}
 use Rattle.csp_model.specs.declared.policy.PolicyList.{PolicyList}
-use Rattle.csp_shape.specs.Numbers.{number, shape_count}
-use Rattle.csp_shape.specs.Shapes.{is_shape}
-use Rattle.csp_shape.specs.declared.shape.Shape.{Shape}
+use Rattle.csp_facts.specs.Numbers.{number, shape_count}
+use Rattle.csp_facts.specs.Shapes.{is_shape}
+use Rattle.csp_facts.specs.declared.shape.Shape.{Shape}
 use Rattle.csp_proof.specs.Pairs.{Pair, shapes, enforced}
 use Rattle.csp_proof.proofs.ShapesListed.{numbered as numbers_of_shapes}
 use Rattle.csp_checker.specs.Asked.{due, numbered}

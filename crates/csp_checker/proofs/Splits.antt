@@ -3,8 +3,8 @@ use Rattle.std.proofs.Common.{◌≡◌, ◌∙◌, sym, ap, ℕ, ◌+◌, ◌<�
 use Rattle.std.specs.Prelude.{Contains}
 use Rattle.std.specs.List.{flat_map}
 use Rattle.std.proofs.lemmas.List.Elements.{All-nil, All-cons, All-head, All-tail, All-append}
-use Rattle.csp_atom.specs.Atoms.{IsValidAtom}
-use Rattle.csp_atom.specs.declared.atom.Atom.{Atom}
+use Rattle.csp_facts.specs.Atoms.{IsValidAtom}
+use Rattle.csp_facts.specs.declared.atom.Atom.{Atom}
 use Rattle.csp_proof.specs.WellFormed.{AreTrees, IsBody, IsValidNode}
 use Rattle.csp_proof.specs.declared.proof.Body.{Body}
 use Rattle.csp_proof.specs.declared.proof.Body.TheVariants as body

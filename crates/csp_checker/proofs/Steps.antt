@@ -1,7 +1,7 @@
 -- One step of the walk: at a split, at a leaf, and where a case turns.
 use Rattle.std.proofs.Common.{◌≡◌, ◌≢◌, ℕ, suc, ◌+◌, ◌<◌, Bool, true, false, refl, sym, ap, List, [], ◌∷◌, ◌++◌, length, None, get_or, drop, drop-cons, add-one, ◌∙◌, append_assoc, append-nil}
-use Rattle.csp_atom.specs.declared.atom.Atom.{Atom}
-use Rattle.csp_atom.specs.declared.atom.Literal.{Literal}
+use Rattle.csp_facts.specs.declared.atom.Atom.{Atom}
+use Rattle.csp_facts.specs.declared.atom.Literal.{Literal}
 use Rattle.csp_proof.specs.declared.proof.Node.{Node}
 use Rattle.csp_proof.specs.declared.proof.Node.TheVariants.{Split, Blocked, Met}
 use Rattle.csp_branch.specs.Walks.{with, pending}

@@ -4,8 +4,8 @@ use Rattle.std.specs.Prelude.{Option, Some, None, IsTrue, slice_get}
 use Rattle.std.proofs.Math.ListN.{drop_of_length-le}
 use Rattle.std.proofs.lemmas.Bool.{and_parts, eqb-true, eq-eqb, and_from}
 use Rattle.std.proofs.lemmas.Option.{same_Some}
-use Rattle.csp_shape.specs.Numbers.{number}
-use Rattle.csp_shape.specs.Shapes.{is_shape}
+use Rattle.csp_facts.specs.Numbers.{number}
+use Rattle.csp_facts.specs.Shapes.{is_shape}
 use Rattle.csp_proof.specs.Accepts.{Lists, cases_in, bad_tree, first_of, bad_body, is_for, for_pair, bad_from}
 use Rattle.csp_proof.specs.Pairs.{Pair}
 use Rattle.csp_proof.specs.declared.proof.Body.TheVariants as body

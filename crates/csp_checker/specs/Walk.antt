@@ -1,8 +1,8 @@
 -- The walk over the nodes of a tree, by the cases that are still to come.
 use Rattle.std.specs.List.{list_all}
 use Rattle.std.specs.Prelude.{ℕ, ◌+◌, ◌≤◌, Bool, true, false, List, [], ◌∷◌, ◌++◌, length, Option, Some, None, All, Contains}
-use Rattle.csp_atom.specs.declared.atom.Atom.{Atom}
-use Rattle.csp_atom.specs.declared.atom.Literal.{Literal}
+use Rattle.csp_facts.specs.declared.atom.Atom.{Atom}
+use Rattle.csp_facts.specs.declared.atom.Literal.{Literal}
 use Rattle.csp_branch.specs.Walks.{Position, with}
 use Rattle.csp_proof.specs.declared.proof.Body.{Body}
 use Rattle.csp_proof.specs.declared.proof.Body.TheVariants as body

@@ -1,6 +1,6 @@
 //! The walk over the nodes of a tree.
 ghost use Rattle.std.specs.Prelude.{◌≡◌, ◌<◌, [], ◌∷◌, IfSome, length};
-ghost use Rattle.csp_shape.specs.Numbers.{shape_count};
+ghost use Rattle.csp_facts.specs.Numbers.{shape_count};
 ghost use Rattle.csp_proof.specs.Accepts as accepts;
 ghost use Rattle.csp_proof.specs.Pairs.{Pair};
 ghost use Rattle.csp_proof.specs.WellFormed.{IsPreorder};

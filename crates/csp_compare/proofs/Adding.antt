@@ -7,8 +7,8 @@ use Rattle.std.proofs.lemmas.Bool.{and_from}
 use Rattle.std.proofs.lemmas.List.{length_push, length-map, length-take-le, map_push, take_all, take_more}
 use Rattle.std.proofs.lemmas.List.Elements.{AllZip-push, AllZip-get_or, length_all_zip}
 use Rattle.csp_model.specs.Policies.{policy_limit}
-use Rattle.csp_shape.specs.Numbers.{number}
-use Rattle.csp_shape.specs.declared.shape.Shape.{Shape}
+use Rattle.csp_facts.specs.Numbers.{number}
+use Rattle.csp_facts.specs.declared.shape.Shape.{Shape}
 use Rattle.csp_proof.specs.Accepts.{cases_in, Lists, bad_tree, at_line, bad_shared, bad_body, is_for, for_pair, first_of, bad_from}
 use Rattle.csp_proof.specs.Pairs.{Pair}
 use Rattle.csp_proof.specs.WellFormed.{has_nodes, body_at, IsBody}

@@ -2,7 +2,7 @@
 use Rattle.std.proofs.Common.{arith, ◌≡◌, ◌∙◌, sym, ap, subst, refl, ℕ, zero, suc, ◌+◌, ◌<◌, ◌≤◌, List, length, All, inl, inr}
 use Rattle.std.specs.Prelude.{Contains, ◌⊎◌}
 use Rattle.std.proofs.lemmas.List.Elements.{All-weaker}
-use Rattle.csp_atom.specs.declared.atom.Atom.{Atom}
+use Rattle.csp_facts.specs.declared.atom.Atom.{Atom}
 use Rattle.csp_model.specs.Names.{group_directive, inline_directive}
 use Rattle.csp_model.specs.Verdict.{effective_name}
 use Rattle.csp_model.specs.declared.check.Check.{Check}
@@ -12,11 +12,11 @@ use Rattle.csp_model.specs.declared.check.Group.TheVariants as group
 use Rattle.csp_model.specs.declared.check.InlineKind.{InlineKind}
 use Rattle.csp_model.specs.declared.check.InlineKind.TheVariants as inline
 use Rattle.csp_model.specs.declared.name.Name.{Name}
-use Rattle.csp_shape.specs.Numbers.{number, shape_count}
-use Rattle.csp_shape.specs.Shapes.{HasShape}
-use Rattle.csp_shape.specs.declared.shape.Shape.{Shape}
-use Rattle.csp_shape.proofs.Apart.{one_shape}
-use Rattle.csp_shape.proofs.Checks.{shape_of, shaped, is_listed, is_only}
+use Rattle.csp_facts.specs.Numbers.{number, shape_count}
+use Rattle.csp_facts.specs.Shapes.{HasShape}
+use Rattle.csp_facts.specs.declared.shape.Shape.{Shape}
+use Rattle.csp_facts.proofs.Apart.{one_shape}
+use Rattle.csp_facts.proofs.Checks.{shape_of, shaped, is_listed, is_only}
 use Rattle.csp_proof.proofs.ReadableSaid.{AllSaid, are_said}
 use Rattle.csp_proof.proofs.ShapesListed.{within_count}
 use Rattle.csp_compare.specs.Differences.{HasNodes, HasNoneAt, IsAmongAt, IsIncludedAt, IsIncludedBelow, SubsumesAmong, effective_names, effective_of}

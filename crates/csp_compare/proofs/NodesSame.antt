@@ -8,12 +8,12 @@ use Rattle.csp_model.specs.declared.url.Host.TheVariants.{Domain, Address}
 use Rattle.csp_model.specs.declared.source.Algorithm.{Algorithm}
 use Rattle.csp_model.specs.declared.source.Algorithm.TheVariants.{Sha256, Sha384, Sha512}
 use Rattle.csp_model.specs.declared.check.Digest.TheVariants as digest
-use Rattle.csp_atom.specs.declared.atom.Atom.{Atom}
-use Rattle.csp_atom.specs.declared.atom.Atom.TheVariants.{HostIs, HostUnder, HostDomain, PortIs, PathIs, PathUnder, SchemeIs, NonceIs, IntegrityHas, IntegrityOutside, DigestIs}
+use Rattle.csp_facts.specs.declared.atom.Atom.{Atom}
+use Rattle.csp_facts.specs.declared.atom.Atom.TheVariants.{HostIs, HostUnder, HostDomain, PortIs, PathIs, PathUnder, SchemeIs, NonceIs, IntegrityHas, IntegrityOutside, DigestIs}
 use Rattle.csp_proof.specs.declared.proof.Node.{Node}
 use Rattle.csp_proof.specs.declared.proof.Node.TheVariants as node
 use Rattle.csp_proof.specs.contracts.proof.NodePartialEq.TheImpl as node_eq
-use Rattle.csp_atom.specs.contracts.atom.AtomPartialEq.TheImpl as atom_eq
+use Rattle.csp_facts.specs.contracts.atom.AtomPartialEq.TheImpl as atom_eq
 
 abbrev pub same_node : Node → Node → Bool
 same_node = node_eq.eq-value.it

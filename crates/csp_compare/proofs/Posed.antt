@@ -2,9 +2,9 @@
 use Rattle.std.proofs.Common.{◌≡◌, sym, subst, ℕ, ◌<◌, get_or, List, length}
 use Rattle.std.specs.Prelude.{IsTrue}
 use Rattle.csp_model.specs.declared.check.Check.{Check}
-use Rattle.csp_atom.specs.declared.atom.Atom.{Atom}
-use Rattle.csp_shape.specs.Shapes.{is_shape}
-use Rattle.csp_shape.specs.declared.shape.Shape.{Shape}
+use Rattle.csp_facts.specs.declared.atom.Atom.{Atom}
+use Rattle.csp_facts.specs.Shapes.{is_shape}
+use Rattle.csp_facts.specs.declared.shape.Shape.{Shape}
 use Rattle.csp_proof.specs.declared.proof.Node.{Node}
 use Rattle.csp_search.specs.Answers.{ShowsInclusion, ShowsNone}
 use Rattle.csp_search.specs.Questions.{IsPosed, pair_of}

@@ -16,10 +16,10 @@ use Rattle.csp_model.specs.declared.policy.PolicyList.{PolicyList}
 use Rattle.csp_proof.specs.Accepts.{Lists}
 use Rattle.csp_proof.specs.declared.proof.Node.{Node}
 use Rattle.csp_search.specs.Answers.{ShowsInclusion}
-use Rattle.csp_shape.specs.Numbers.{number}
-use Rattle.csp_shape.specs.Shapes.{is_shape}
-use Rattle.csp_shape.specs.declared.shape.Shape.{Shape}
-use Rattle.csp_shape.specs.declared.shape.Shape.TheVariants as shape
+use Rattle.csp_facts.specs.Numbers.{number}
+use Rattle.csp_facts.specs.Shapes.{is_shape}
+use Rattle.csp_facts.specs.declared.shape.Shape.{Shape}
+use Rattle.csp_facts.specs.declared.shape.Shape.TheVariants as shape
 use Rattle.csp_compare.specs.Answers.{IsCounterexample}
 use Rattle.csp_compare.specs.Drafts.{at_shape}
 use Rattle.csp_compare.specs.Tasks.{IsOfKind, lists_of}

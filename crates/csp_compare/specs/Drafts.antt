@@ -12,7 +12,7 @@ use Rattle.csp_proof.specs.declared.proof.Body.TheVariants as body
 use Rattle.csp_proof.specs.declared.proof.Format.TheVariants.{Two}
 use Rattle.csp_proof.specs.declared.proof.Node.{Node}
 use Rattle.csp_proof.specs.declared.proof.Tree.{Tree}
-use Rattle.csp_shape.specs.declared.shape.Shape.{Shape}
+use Rattle.csp_facts.specs.declared.shape.Shape.{Shape}
 use Rattle.csp_compare.specs.Answers.{SharesNodes}
 use Rattle.csp_compare.specs.declared.draft.Draft.TheInside.{Inside}
 

@@ -7,16 +7,16 @@ use Rattle.std.specs.List.{AllZip}
 use Rattle.std.specs.Ordering.{nat_cmp}
 use Rattle.csp_model.specs.Policies.{IsReadable}
 use Rattle.csp_model.specs.declared.check.Check.{Check}
-use Rattle.csp_atom.specs.declared.atom.Atom.{Atom}
+use Rattle.csp_facts.specs.declared.atom.Atom.{Atom}
 use Rattle.csp_branch.specs.Walks.{Position}
 use Rattle.csp_answer.specs.Tables.{AreAnswers, AreKinds}
 use Rattle.csp_proof.specs.Accepts.{Lists, hashes_in}
 use Rattle.csp_proof.specs.Pairs.{enforced}
 use Rattle.csp_proof.specs.declared.proof.Tree.{Tree}
 use Rattle.csp_search.specs.declared.searching.Question.{Question}
-use Rattle.csp_shape.specs.Numbers.{number}
-use Rattle.csp_shape.specs.Shapes.{is_shape}
-use Rattle.csp_shape.specs.declared.shape.Shape.{Shape}
+use Rattle.csp_facts.specs.Numbers.{number}
+use Rattle.csp_facts.specs.Shapes.{is_shape}
+use Rattle.csp_facts.specs.declared.shape.Shape.{Shape}
 use Rattle.csp_compare.specs.Answers.{IsCounterexample}
 use Rattle.csp_compare.specs.Drafts.{Adds, IsShown, at_shape}
 use Rattle.csp_compare.specs.declared.task.Task.{Task}

@@ -10,12 +10,11 @@ use crate::kinds::show_shape;
 use crate::probing::probe_shapes;
 use crate::task::Task;
 use csp_answer::{NamedAnswers, answers_of};
-use csp_atom::vocabulary_of;
 use csp_branch::Walker;
+use csp_facts::{shape_at, vocabulary_of};
 use csp_model::{Check, Memory, PolicyList};
 use csp_proof::Proof;
 use csp_proof::laws::what_is_accepted_is_so;
-use csp_shape::shape_at;
 use std::alloc::Global;
 use std::collections::BTreeMap;
 

@@ -3,19 +3,18 @@ ghost use Rattle.std.specs.Prelude.{◌≡◌, IfOk, IsTrue, MatchOption, OnOk};
 ghost use Rattle.csp_compare.specs.Differences as spec;
 ghost use Rattle.csp_compare.specs.Tasks.{IsReady};
 ghost use Rattle.csp_model.specs.Policies.{IsReadable};
-ghost use Rattle.csp_shape.specs.Shapes.{is_shape};
+ghost use Rattle.csp_facts.specs.Shapes.{is_shape};
 
 use crate::comparing::SHAPE_COUNT;
 use crate::directives::shape_among;
 use crate::probing::probe_shapes;
 use crate::task::Task;
 use csp_answer::{NamedAnswers, answers_of};
-use csp_atom::vocabulary_of;
 use csp_branch::Walker;
+use csp_facts::{Shape, vocabulary_of};
 use csp_formula::laws::a_formula_is_what_the_policy_allows;
 use csp_model::{Check, Memory, Name, PolicyList};
 use csp_search::{Found, search};
-use csp_shape::Shape;
 use std::alloc::Global;
 use std::collections::BTreeSet;
 

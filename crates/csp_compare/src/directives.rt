@@ -2,8 +2,8 @@
 ghost use Rattle.std.specs.Prelude.{◌≡◌, ◌↔◌, Contains, IsTrue, MatchOption};
 ghost use Rattle.csp_compare.specs.Differences as spec;
 
+use csp_facts::{Shape, shape_at};
 use csp_model::Name;
-use csp_shape::{Shape, shape_at};
 
 /// The effective directives that checks have (Content Security Policy Level 3, sections 6.8.1 and 6.8.2),
 /// each once, in the order of their names.

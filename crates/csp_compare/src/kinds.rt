@@ -1,14 +1,14 @@
 //! The trees of the shapes, where those of one kind share their nodes.
 ghost use Rattle.std.specs.Prelude.{◌≡◌, ◌<◌, ◌+◌, ◌^◌, length, IfOk, IsTrue, OnOk};
 ghost use Rattle.csp_compare.specs.Tasks.{AreKnown, IsReady, IsStep};
-ghost use Rattle.csp_shape.specs.Shapes.{is_shape};
+ghost use Rattle.csp_facts.specs.Shapes.{is_shape};
 
 use crate::draft::Draft;
 use crate::task::Task;
 use crate::trees::{Outcome, search_shape, share_shape};
 use csp_branch::Walker;
+use csp_facts::Shape;
 use csp_model::{Check, Memory};
-use csp_shape::Shape;
 use std::alloc::Global;
 use std::collections::BTreeMap;
 

@@ -1,6 +1,6 @@
 //! Which shapes a person would think of first.
+use csp_facts::Shape;
 use csp_model::{Origin, PolicyList, Scheme};
-use csp_shape::Shape;
 
 // The strangeness of the strangest shapes.
 pub(crate) const STRANGEST: u8 = 7;

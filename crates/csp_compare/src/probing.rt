@@ -2,16 +2,16 @@
 ghost use Rattle.std.specs.Prelude.{◌≡◌, IfOk, IfSome, IsTrue, OnOk};
 ghost use Rattle.csp_compare.specs.Differences.{DiffersAmong, DiffersAt};
 ghost use Rattle.csp_compare.specs.Tasks.{IsReady};
-ghost use Rattle.csp_shape.specs.Shapes.{is_shape};
+ghost use Rattle.csp_facts.specs.Shapes.{is_shape};
 
 use crate::comparing::SHAPE_COUNT;
 use crate::directives::shape_among;
 use crate::natural::{STRANGEST, is_over_https, strangeness};
 use crate::task::Task;
 use csp_branch::Walker;
+use csp_facts::Shape;
 use csp_model::{Check, Memory, Name};
 use csp_search::probe;
-use csp_shape::Shape;
 use std::alloc::Global;
 use std::collections::BTreeSet;
 

@@ -2,14 +2,13 @@
 ghost use Rattle.std.specs.Prelude.{◌≡◌, IsTrue, Some, slice_get};
 ghost use Rattle.csp_answer.specs.Tables.{AreKinds};
 ghost use Rattle.csp_compare.specs.Tasks.{question_of};
-ghost use Rattle.csp_shape.specs.Numbers.{number};
-ghost use Rattle.csp_shape.specs.Shapes.{is_shape};
+ghost use Rattle.csp_facts.specs.Numbers.{number};
+ghost use Rattle.csp_facts.specs.Shapes.{is_shape};
 
 use csp_answer::AnswerTable;
-use csp_atom::Vocabulary;
+use csp_facts::{Shape, Vocabulary, shape_number};
 use csp_model::PolicyList;
 use csp_search::Question;
-use csp_shape::{Shape, shape_number};
 
 // Two lists, the vocabulary of both, what both answer, and the numbers of the second list's enforced
 // policies.

@@ -5,14 +5,14 @@ ghost use Rattle.csp_compare.specs.Drafts.{Adds, IsShown, at_shape};
 ghost use Rattle.csp_compare.specs.Tasks.{IsOutcome, IsReady, lists_of};
 ghost use Rattle.csp_model.specs.Policies.{IsReadable};
 ghost use Rattle.csp_proof.specs.Pairs.{enforced};
-ghost use Rattle.csp_shape.specs.Shapes.{is_shape};
+ghost use Rattle.csp_facts.specs.Shapes.{is_shape};
 
 use crate::draft::Draft;
 use crate::task::Task;
 use csp_branch::Walker;
+use csp_facts::{Shape, shape_number};
 use csp_model::{Check, Memory};
 use csp_search::{Found, search};
-use csp_shape::{Shape, shape_number};
 use std::alloc::Global;
 
 // What comes of the pairs of one shape with each of the enforced policies.

@@ -2,10 +2,10 @@
 use Rattle.std.proofs.Common.{◌≡◌, ◌↔◌, ◌≤◌, Bool, true, false, not, List, [], ◌∷◌, length, get_or, filter, All, refl, sym, ap, subst}
 use Rattle.std.proofs.lemmas.List.Elements.{All-filter}
 use Rattle.csp_model.specs.declared.source.Hash.{Hash}
-use Rattle.csp_atom.specs.Vocabulary.{IsOfVocabulary}
-use Rattle.csp_atom.specs.declared.atom.Atom.{Atom}
-use Rattle.csp_atom.specs.declared.atom.Atom.TheVariants.{PortIs, IntegrityHas, IntegrityOutside}
-use Rattle.csp_atom.specs.declared.atom.Literal.{Literal}
+use Rattle.csp_facts.specs.Vocabulary.{IsOfVocabulary}
+use Rattle.csp_facts.specs.declared.atom.Atom.{Atom}
+use Rattle.csp_facts.specs.declared.atom.Atom.TheVariants.{PortIs, IntegrityHas, IntegrityOutside}
+use Rattle.csp_facts.specs.declared.atom.Literal.{Literal}
 use Rattle.csp_cell.specs.Cells.{places}
 use Rattle.csp_pick.specs.Picks.{denies_port, port_limit, AreOfVocabulary, LeavesPorts}
 use Rattle.csp_pick.proofs.Placed.{of_filter}

@@ -1,13 +1,12 @@
 //! Whether a cell may take an atom, and whether a check of it may be asked for.
 ghost use Rattle.std.specs.Prelude.{◌≡◌, ◌↔◌, IsTrue, filter, length};
-ghost use Rattle.csp_atom.specs.Vocabulary.{IsOfVocabulary};
+ghost use Rattle.csp_facts.specs.Vocabulary.{IsOfVocabulary};
 ghost use Rattle.csp_pick.specs.Picks as spec;
-ghost use Rattle.csp_shape.specs.Shapes as shapes;
+ghost use Rattle.csp_facts.specs.Shapes as shapes;
 
-use csp_atom::{Atom, Literal, Vocabulary};
 use csp_cell::Cell;
+use csp_facts::{Atom, Literal, Shape, Vocabulary};
 use csp_model::{CheckPart, Scheme};
-use csp_shape::Shape;
 
 // As many ports as two lists of policies can name.
 const PORT_LIMIT: usize = 2048;

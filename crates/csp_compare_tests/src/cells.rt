@@ -3,12 +3,11 @@ ghost use Rattle.std.specs.Prelude.{◌≡◌, IfOk};
 
 use crate::asked::{can_pick, looks_at};
 use crate::values::literals;
-use csp_atom::{Literal, Vocabulary, holds};
 use csp_cell::Cell;
+use csp_facts::{Literal, Shape, Vocabulary, holds, shape_at};
 use csp_model::{Algorithm, Bytes, Hash, List, Memory, Text};
 use csp_pick::representative;
-use csp_print::check_json;
-use csp_shape::{Shape, shape_at};
+use csp_request::check_json;
 use std::alloc::Global;
 use std::process::Abort;
 use std::test::Fail;

@@ -1,16 +1,15 @@
 //! Tests of csp_formulas and csp_answer.
 ghost use Rattle.std.specs.Prelude.{IsTrue};
-ghost use Rattle.csp_shape.specs.Shapes.{is_shape};
+ghost use Rattle.csp_facts.specs.Shapes.{is_shape};
 
 use crate::cells::cell_of;
 use crate::values::{literals, policies};
 use csp_answer::answers_of;
-use csp_atom::{Atom, Literal, Vocabulary, holds, vocabulary_of};
 use csp_cell::Cell;
+use csp_facts::{Atom, Literal, Shape, Vocabulary, holds, shape_at, vocabulary_of};
 use csp_formulas::{Formula, compile, residual, surely};
 use csp_model::{Check, Duplicate, List, Memory, PolicyList};
 use csp_pick::representative;
-use csp_shape::{Shape, shape_at};
 use csp_verdict::allows;
 use std::alloc::Global;
 use std::process::Abort;

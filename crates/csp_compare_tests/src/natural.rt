@@ -1,8 +1,7 @@
 //! Migrations of a header, each with the request that a person would give where one of the two headers isn't
 //! at least as strict as the other. The requests were written down by the headers alone.
 use crate::comparing::compared_at;
-use csp_print::check_json;
-use csp_request::read_requests;
+use csp_request::{check_json, read_requests};
 use std::process::Abort;
 use std::test::Fail;
 

@@ -3,7 +3,7 @@ ghost use Rattle.std.specs.Prelude.{IfOk};
 ghost use Rattle.csp_model.specs.Policies.{IsReadable};
 ghost use Rattle.csp_proof.specs.WellFormed.{IsWellFormed};
 
-use csp_atom::{Atom, Literal};
+use csp_facts::{Atom, Literal};
 use csp_model::{Algorithm, Digest, Hash, Host, List, Memory, Path, PolicyList, Text};
 use csp_policy::{BlockError, read_block};
 use csp_proof::{Proof, ProofError, read_proof};

@@ -5,3 +5,5 @@ pub mod Latest
 pub mod Names
 pub mod Turns
 pub mod Weaving
+pub mod Parts
+pub mod Quoted

@@ -8,8 +8,8 @@ use Rattle.std.proofs.lemmas.List.Elements.{All-head, All-tail, All-weaker, All-
 use Rattle.std.specs.Prelude.{IfSome, slice_range}
 use Rattle.std.specs.List.{flat_map, All}
 use Rattle.csp_model.specs.declared.verdict.Violation.{Violation}
-use Rattle.csp_violation.specs.Report.{report_front}
-use Rattle.csp_violation.proofs.Parts.{report_parts}
+use Rattle.csp_desk.specs.Report.{report_front}
+use Rattle.csp_desk.proofs.Parts.{report_parts}
 use Rattle.csp_desk.specs.Texts.{report_line}
 use Rattle.csp_desk.specs.Weaves.{IsWithin, ending_at, ending_of, strand_text}
 use Rattle.csp_desk.specs.declared.weave.Strand.{Strand}

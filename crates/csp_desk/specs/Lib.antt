@@ -5,3 +5,5 @@ pub mod Recent
 pub mod Tellings
 pub mod Texts
 pub mod Weaves
+pub mod Plain
+pub mod Report

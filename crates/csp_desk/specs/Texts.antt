@@ -5,7 +5,7 @@ use Rattle.csp_model.specs.Ascii.{code}
 use Rattle.csp_model.specs.Names.{name_text}
 use Rattle.csp_model.specs.declared.name.Name.{Name}
 use Rattle.csp_model.specs.declared.verdict.Violation.{Violation}
-use Rattle.csp_violation.specs.Report.{report_bytes}
+use Rattle.csp_desk.specs.Report.{report_bytes}
 use Rattle.csp_desk.specs.NameOrder.{names_in_order, place_of, same_name}
 use Rattle.csp_desk.specs.declared.reporter.Kind.{Kind}
 use Rattle.csp_desk.specs.declared.reporter.Kind.TheVariants.{Lines, Tally, Recent}

@@ -4,7 +4,7 @@ use Rattle.csp_model.specs.Ascii.{code}
 use Rattle.csp_model.specs.declared.name.Name.{Name}
 use Rattle.csp_model.specs.declared.policy.Disposition.{Disposition}
 use Rattle.csp_model.specs.declared.verdict.Violation.{Violation}
-use Rattle.csp_violation.specs.Report.{report_ending}
+use Rattle.csp_desk.specs.Report.{report_ending}
 use Rattle.csp_desk.specs.declared.weave.Strand.{Strand}
 
 -- what the line of a violation says behind what is blocked

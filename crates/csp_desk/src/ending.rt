@@ -2,8 +2,8 @@
 ghost use Rattle.std.specs.Prelude.{◌≡◌, ◌<◌, ◌++◌, [], IsTrue, IfOk, IfSome, OnOk, length, get_or, take};
 ghost use Rattle.csp_desk.specs.Weaves.{ending_of};
 
+use crate::report::report_ending;
 use csp_model::{Disposition, Duplicate, Memory, Name, Text, Violation};
-use csp_violation::report_ending;
 use std::alloc::Global;
 use std::marker::Model;
 

@@ -3,9 +3,9 @@ ghost use Rattle.std.specs.Prelude.{◌≡◌, ◌++◌, IfOk, OnOk, OnErr, stri
 ghost use Rattle.csp_desk.specs.Texts as spec;
 
 use crate::counts::tally_text;
+use crate::report::push_report;
 use crate::reporter::Kind;
 use csp_model::{Bytes, Memory, Violation};
-use csp_violation::push_report;
 use std::alloc::Global;
 use std::collections::VecDeque;
 

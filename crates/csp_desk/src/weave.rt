@@ -6,9 +6,9 @@ ghost use Rattle.csp_desk.specs.Texts.{report_line};
 ghost use Rattle.csp_desk.specs.Weaves.{IsWithin, ending_at, strand_text};
 
 use crate::ending::{Ending, place_of};
+use crate::front::push_front;
 use crate::texts::push_line;
 use csp_model::{Memory, Violation};
-use csp_violation::push_front;
 use std::alloc::Global;
 use std::marker::Model;
 

@@ -15,7 +15,7 @@ use Rattle.csp_model.specs.Reading.{is_host_char, is_no_slash, authority, host_s
 use Rattle.csp_desk.specs.Texts.{lines_text, tally_text, recent_text}
 use Rattle.csp_token.specs.Integrity.{is_question_mark, is_hyphen}
 use Rattle.csp_url.specs.Reading.{found_path}
-use Rattle.csp_violation.specs.Report.{report_bytes}
+use Rattle.csp_desk.specs.Report.{report_bytes}
 use Rattle.csp_model.specs.Validity.{is_domain_byte, ends_in_number, is_domain, is_four_numbers, is_bracketed, is_address, is_piece, is_lower_scheme}
 
 -- to read a source expression

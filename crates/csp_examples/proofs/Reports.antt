@@ -7,7 +7,7 @@ use Rattle.csp_model.specs.declared.name.Name.{Name}
 use Rattle.csp_model.specs.declared.name.Name.TheVariants.{ImgSrc, WorkerSrc}
 use Rattle.csp_model.specs.declared.policy.Disposition.TheVariants.{Report}
 use Rattle.csp_model.specs.declared.verdict.Violation.{Violation}
-use Rattle.csp_violation.specs.Report.{report_bytes}
+use Rattle.csp_desk.specs.Report.{report_bytes}
 use Rattle.csp_desk.specs.Texts.{desk_text, report_text}
 use Rattle.csp_desk.specs.declared.reporter.Kind.TheVariants.{Lines, Tally, Recent}
 

@@ -13,7 +13,7 @@ use Rattle.serde_json.specs.Written.{compact_text}
 use Rattle.csp_token.specs.Digests.{digests_of}
 use Rattle.csp_request.specs.Described.{described, described_as}
 use Rattle.csp_json.specs.Json.{json_of}
-use Rattle.csp_print.specs.Printed.{printed}
+use Rattle.csp_request.specs.Printed.{printed}
 use Rattle.csp_request.specs.Requests.{requests_of, check_of}
 use Rattle.csp_request.specs.declared.error.CheckError.TheVariants as one
 use Rattle.csp_request.specs.declared.error.DescriptionError.{DescriptionError}

@@ -13,7 +13,7 @@ use Rattle.csp_model.specs.declared.source.Source.{Source}
 use Rattle.csp_model.specs.declared.source.Source.TheVariants as source
 use Rattle.csp_model.specs.declared.url.Origin.{Origin}
 use Rattle.csp_model.specs.declared.url.Scheme.{Scheme}
-use Rattle.csp_shape.specs.declared.shape.Shape.{Shape}
+use Rattle.csp_facts.specs.declared.shape.Shape.{Shape}
 use Rattle.csp_formula.specs.Compiled.{fetch_sentence, group_sentence, said_by}
 use Rattle.csp_formula.specs.Sentences.{Sentence, Either}
 use Rattle.csp_formula.specs.Sources.{path_sentence, source_sentence, list_sentence, shape_scheme, after_redirect, is_ancestor}

@@ -1,10 +1,10 @@
 -- Literals that decide each atom of a sentence decide the sentence.
 use Rattle.std.proofs.Common.{◌≢◌, ◌≡◌, Bool, true, false, Option, Some, None, List, [], ◌∷◌, ◌++◌, All, refl}
 use Rattle.std.proofs.lemmas.List.Elements.{All-nil, All-cons, All-head, All-tail}
-use Rattle.csp_atom.specs.declared.atom.Literal.{Literal}
+use Rattle.csp_facts.specs.declared.atom.Literal.{Literal}
 use Rattle.csp_formula.specs.Sentences.{Sentence, Known, Fact, Not, Both, Either}
 use Rattle.csp_formula.specs.Surely.{maybe_not, maybe_and, maybe_or, surely}
-use Rattle.csp_atom.specs.Follows.{decided}
+use Rattle.csp_facts.specs.Follows.{decided}
 use Rattle.csp_formula.specs.Values.{atoms_in}
 
 module _ {X : Type 0} (P : X → Type 0) where

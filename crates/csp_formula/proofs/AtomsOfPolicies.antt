@@ -38,13 +38,13 @@ use Rattle.csp_model.specs.declared.source.Keyword.TheVariants as keyword
 use Rattle.csp_model.specs.declared.source.Source.{Source}
 use Rattle.csp_model.specs.declared.source.Source.TheVariants as source
 use Rattle.csp_model.specs.declared.url.Scheme.{Scheme}
-use Rattle.csp_atom.specs.Atoms.{IsValidDigest}
-use Rattle.csp_atom.specs.Vocabulary.{hash_of_source}
-use Rattle.csp_atom.specs.declared.atom.Atom.{Atom}
-use Rattle.csp_atom.specs.declared.atom.Atom.TheVariants.{NonceIs, IntegrityHas, IntegrityOutside, DigestIs}
-use Rattle.csp_shape.specs.Shapes.{looks_at, checks_have, is_url_part}
-use Rattle.csp_shape.specs.declared.shape.Shape.{Shape}
-use Rattle.csp_shape.specs.declared.shape.Shape.TheVariants as shape
+use Rattle.csp_facts.specs.Atoms.{IsValidDigest}
+use Rattle.csp_facts.specs.Vocabulary.{hash_of_source}
+use Rattle.csp_facts.specs.declared.atom.Atom.{Atom}
+use Rattle.csp_facts.specs.declared.atom.Atom.TheVariants.{NonceIs, IntegrityHas, IntegrityOutside, DigestIs}
+use Rattle.csp_facts.specs.Shapes.{looks_at, checks_have, is_url_part}
+use Rattle.csp_facts.specs.declared.shape.Shape.{Shape}
+use Rattle.csp_facts.specs.declared.shape.Shape.TheVariants as shape
 use Rattle.csp_formula.specs.Belonging.{IsAtomAt}
 use Rattle.csp_formula.specs.Compiled.{nonces_sentence, has_pair, other_hashes, integrity_sentence, digest_with, is_of_size, digest_of, digest_fact, digests_sentence, fetch_sentence, only_where, inline_sentence, said_by, listed_sentence, policy_sentence, HasHashesOf}
 use Rattle.csp_formula.specs.Sentences.{Sentence, Known, Fact, Not, any_of}

@@ -28,10 +28,10 @@ use Rattle.csp_model.specs.declared.url.Origin.{Origin}
 use Rattle.csp_model.specs.declared.url.Origin.TheVariants as origin
 use Rattle.csp_model.specs.declared.url.Scheme.{Scheme}
 use Rattle.csp_model.specs.declared.url.Scheme.TheVariants.{Http, Https, Ws, Wss, Ftp}
-use Rattle.csp_atom.specs.declared.atom.Atom.{Atom}
-use Rattle.csp_atom.specs.declared.atom.Atom.TheVariants.{HostIs, HostUnder, HostDomain, PortIs, PathIs, PathUnder, SchemeIs}
-use Rattle.csp_shape.specs.Shapes.{looks_at, checks_have, compares_paths, is_url_part}
-use Rattle.csp_shape.specs.declared.shape.Shape.{Shape}
+use Rattle.csp_facts.specs.declared.atom.Atom.{Atom}
+use Rattle.csp_facts.specs.declared.atom.Atom.TheVariants.{HostIs, HostUnder, HostDomain, PortIs, PathIs, PathUnder, SchemeIs}
+use Rattle.csp_facts.specs.Shapes.{looks_at, checks_have, compares_paths, is_url_part}
+use Rattle.csp_facts.specs.declared.shape.Shape.{Shape}
 use Rattle.csp_formula.specs.Belonging.{IsAtomAt}
 use Rattle.csp_formula.specs.Sentences.{Known, Fact, all_of}
 use Rattle.csp_formula.specs.Sources.{host_sentence, port_sentence, path_sentence, path_fact, has_dots, star_sentence, scheme_sentence, host_source_sentence, own_port_sentence, self_sentence, source_sentence, list_sentence, shape_scheme, after_redirect, is_ancestor}

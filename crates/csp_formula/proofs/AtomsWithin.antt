@@ -3,7 +3,7 @@ use Rattle.std.proofs.Common.{◌≡◌, Bool, true, false, List, [], ◌∷◌,
 use Rattle.std.specs.Prelude.{if◌then◌else◌}
 use Rattle.std.proofs.lemmas.List.Elements.{All-nil, All-cons, All-head, All-tail, All-append}
 use Rattle.csp_model.specs.Governing.{Governor}
-use Rattle.csp_atom.specs.declared.atom.Atom.{Atom}
+use Rattle.csp_facts.specs.declared.atom.Atom.{Atom}
 use Rattle.csp_formula.specs.Sentences.{Sentence, Known, all_of, any_of}
 use Rattle.csp_formula.specs.Compiled.{only_where, said_by}
 use Rattle.csp_formula.specs.Values.{atoms_in}

@@ -27,8 +27,8 @@ use Rattle.csp_model.specs.declared.source.Source.{Source}
 use Rattle.csp_model.specs.declared.source.Source.TheVariants as source
 use Rattle.csp_token.proofs.Base64.{IsBytes-plain_value}
 use Rattle.csp_token.proofs.Sizes.{bytes_of_size}
-use Rattle.csp_atom.specs.Holding.{on_part, has_digest}
-use Rattle.csp_atom.specs.declared.atom.Atom.TheVariants.{DigestIs}
+use Rattle.csp_facts.specs.Holding.{on_part, has_digest}
+use Rattle.csp_facts.specs.declared.atom.Atom.TheVariants.{DigestIs}
 use Rattle.csp_formula.specs.Sentences.{Sentence, Fact, any_of}
 use Rattle.csp_formula.specs.Compiled.{is_of_size, digest_with, digest_fact, digests_sentence}
 use Rattle.csp_formula.specs.Values.{is_true_for}

@@ -13,11 +13,11 @@ use Rattle.csp_model.specs.declared.policy.Policy.{Policy}
 use Rattle.csp_model.specs.declared.url.Host.TheVariants.{Domain, Address}
 use Rattle.csp_model.specs.declared.url.Origin.TheVariants.{Tuple}
 use Rattle.csp_model.specs.declared.url.Scheme.TheVariants.{Http, Https}
-use Rattle.csp_atom.specs.declared.atom.Atom.{Atom}
-use Rattle.csp_atom.specs.declared.atom.Atom.TheVariants.{HostIs, PortIs}
-use Rattle.csp_atom.specs.declared.atom.Literal.{Literal}
-use Rattle.csp_shape.specs.declared.shape.Shape.{Shape}
-use Rattle.csp_shape.specs.declared.shape.Shape.TheVariants.{Fetch}
+use Rattle.csp_facts.specs.declared.atom.Atom.{Atom}
+use Rattle.csp_facts.specs.declared.atom.Atom.TheVariants.{HostIs, PortIs}
+use Rattle.csp_facts.specs.declared.atom.Literal.{Literal}
+use Rattle.csp_facts.specs.declared.shape.Shape.{Shape}
+use Rattle.csp_facts.specs.declared.shape.Shape.TheVariants.{Fetch}
 use Rattle.csp_formula.specs.Surely.{surely}
 use Rattle.csp_formula.specs.Compiled.{policy_sentence}
 

@@ -18,10 +18,10 @@ use Rattle.csp_model.specs.declared.url.Host.TheVariants.{Domain}
 use Rattle.csp_model.specs.declared.url.Origin.{Origin}
 use Rattle.csp_model.specs.declared.url.Origin.TheVariants.{Opaque, Tuple}
 use Rattle.csp_model.specs.declared.url.Scheme.TheVariants.{Http, Https, Ws}
-use Rattle.csp_atom.specs.declared.atom.Atom.TheVariants.{HostIs, PortIs, PathIs, SchemeIs, NonceIs, IntegrityHas, IntegrityOutside}
-use Rattle.csp_atom.specs.declared.atom.Literal.{Literal}
-use Rattle.csp_shape.specs.declared.shape.Shape.{Shape}
-use Rattle.csp_shape.specs.declared.shape.Shape.TheVariants.{Fetch, Ancestor, Inline}
+use Rattle.csp_facts.specs.declared.atom.Atom.TheVariants.{HostIs, PortIs, PathIs, SchemeIs, NonceIs, IntegrityHas, IntegrityOutside}
+use Rattle.csp_facts.specs.declared.atom.Literal.{Literal}
+use Rattle.csp_facts.specs.declared.shape.Shape.{Shape}
+use Rattle.csp_facts.specs.declared.shape.Shape.TheVariants.{Fetch, Ancestor, Inline}
 use Rattle.csp_formula.specs.Surely.{surely}
 use Rattle.csp_formula.specs.Compiled.{policy_sentence}
 use Rattle.csp_formula.proofs.Examples.{is, is_not}

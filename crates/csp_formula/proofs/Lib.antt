@@ -19,3 +19,5 @@ pub mod ReadParts
 pub mod Alike
 pub mod NormalQuestions
 mod ExamplesOfShapes
+pub mod AlikeChecks
+pub mod Strangers

@@ -8,8 +8,8 @@ use Rattle.csp_model.specs.DecideTokens.{is_hash}
 use Rattle.csp_model.specs.declared.source.Hash.{Hash}
 use Rattle.csp_model.specs.declared.source.Source.{Source}
 use Rattle.csp_model.specs.declared.source.Source.TheVariants as source
-use Rattle.csp_atom.specs.Holding.{has_hash}
-use Rattle.csp_atom.specs.Vocabulary.{hash_of_source}
+use Rattle.csp_facts.specs.Holding.{has_hash}
+use Rattle.csp_facts.specs.Vocabulary.{hash_of_source}
 
 -- the hash-sources of a list
 pub own_has : (sources : List Source) (h : Hash) → list_any (is_hash h) sources ≡ has_hash (filter_map hash_of_source sources) h

@@ -19,7 +19,7 @@ use Rattle.csp_model.specs.declared.source.Source.{Source}
 use Rattle.csp_model.specs.declared.source.Source.TheVariants as source
 use Rattle.csp_model.specs.declared.url.Origin.{Origin}
 use Rattle.csp_model.specs.declared.url.Scheme.{Scheme}
-use Rattle.csp_shape.specs.declared.shape.Shape.TheVariants as shape
+use Rattle.csp_facts.specs.declared.shape.Shape.TheVariants as shape
 use Rattle.csp_formula.specs.Compiled.{nonces_sentence, integrity_sentence, fetch_sentence, group_sentence, said_by}
 use Rattle.csp_formula.specs.Questions.{has_path, is_dynamic, list_question, answer_of_list, list_answer, matches_nothing, of_list, question_sentence, said_by_list, shape_asked}
 use Rattle.csp_formula.specs.Sentences.{Sentence, Known, Either, any_of}

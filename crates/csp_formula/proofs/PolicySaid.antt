@@ -36,13 +36,13 @@ use Rattle.csp_model.specs.declared.source.Keyword.TheVariants as keyword
 use Rattle.csp_model.specs.declared.source.Source.{Source}
 use Rattle.csp_model.specs.declared.url.Url.{Url}
 use Rattle.csp_model.specs.declared.url.Url.TheVariants as url
-use Rattle.csp_atom.proofs.HoldingDecided.{has_hash_decides}
-use Rattle.csp_atom.specs.Holding.{has_hash}
-use Rattle.csp_atom.specs.Vocabulary.{hash_of_source}
-use Rattle.csp_shape.specs.Shapes.{HasShape, hosted_scheme, tells_parser}
-use Rattle.csp_shape.specs.declared.shape.Shape.{Shape}
-use Rattle.csp_shape.specs.declared.shape.Shape.TheVariants as shape
-use Rattle.csp_shape.proofs.Checks.{shape_of, is_only}
+use Rattle.csp_facts.proofs.HoldingDecided.{has_hash_decides}
+use Rattle.csp_facts.specs.Holding.{has_hash}
+use Rattle.csp_facts.specs.Vocabulary.{hash_of_source}
+use Rattle.csp_facts.specs.Shapes.{HasShape, hosted_scheme, tells_parser}
+use Rattle.csp_facts.specs.declared.shape.Shape.{Shape}
+use Rattle.csp_facts.specs.declared.shape.Shape.TheVariants as shape
+use Rattle.csp_facts.proofs.Checks.{shape_of, is_only}
 use Rattle.csp_formula.specs.Sentences.{Sentence, Known, any_of}
 use Rattle.csp_formula.specs.Sources.{list_sentence, shape_scheme, after_redirect, is_ancestor}
 use Rattle.csp_formula.specs.Compiled.{nonces_sentence, integrity_sentence, digests_sentence, fetch_sentence, only_where, inline_sentence, said_by, listed_sentence, policy_sentence, HasHashesOf}

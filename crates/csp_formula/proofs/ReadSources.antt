@@ -20,8 +20,8 @@ use Rattle.csp_model.specs.declared.source.PathPart.TheVariants as path
 use Rattle.csp_model.specs.declared.source.Source.{Source}
 use Rattle.csp_model.specs.declared.source.Source.TheVariants as source
 use Rattle.csp_token.proofs.Sizes.{bytes_of_size}
-use Rattle.csp_atom.specs.Spelling.{is_visible}
-use Rattle.csp_atom.proofs.SpelledWords.{base64_word}
+use Rattle.csp_facts.specs.Spelling.{is_visible}
+use Rattle.csp_facts.proofs.SpelledWords.{base64_word}
 use Rattle.csp_formula.proofs.SuffixDomain.{some_part}
 use Rattle.csp_formula.proofs.SourcesSaid.{IsReadSource}
 use Rattle.csp_formula.proofs.UrlPartsSaid.{IsReadHost, IsReadPath}

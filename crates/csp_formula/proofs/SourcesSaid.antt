@@ -30,10 +30,10 @@ use Rattle.csp_model.specs.declared.url.Scheme.{Scheme}
 use Rattle.csp_model.specs.declared.url.Scheme.TheVariants.{Http, Https, Ws, Wss, Ftp}
 use Rattle.csp_model.specs.declared.url.Url.{Url}
 use Rattle.csp_model.specs.declared.url.Url.TheVariants as url
-use Rattle.csp_atom.specs.Holding.{on_plain}
-use Rattle.csp_atom.specs.declared.atom.Atom.TheVariants.{HostIs, SchemeIs}
-use Rattle.csp_shape.specs.Shapes.{hosted_scheme}
-use Rattle.csp_shape.specs.declared.shape.Shape.{Shape}
+use Rattle.csp_facts.specs.Holding.{on_plain}
+use Rattle.csp_facts.specs.declared.atom.Atom.TheVariants.{HostIs, SchemeIs}
+use Rattle.csp_facts.specs.Shapes.{hosted_scheme}
+use Rattle.csp_facts.specs.declared.shape.Shape.{Shape}
 use Rattle.csp_formula.specs.Sentences.{Known, Fact, all_of}
 use Rattle.csp_formula.specs.Sources.{host_sentence, port_sentence, path_sentence, star_sentence, scheme_sentence, host_source_sentence, own_port_sentence, self_sentence, source_sentence, list_sentence, shape_scheme, after_redirect, is_ancestor}
 use Rattle.csp_formula.specs.Values.{is_true_for}

@@ -1,11 +1,11 @@
 -- A decided value is the value on each check of which the literals are true.
 use Rattle.std.proofs.Common.{◌≡◌, Bool, true, false, not, ◌&&◌, ◌||◌, Option, Some, None, List, [], ◌∷◌, IfSome, IsTrue, refl, ap}
 use Rattle.std.proofs.lemmas.List.Elements.{All-head, All-tail}
-use Rattle.csp_atom.specs.Follows.{follows, decided, or_else}
-use Rattle.csp_atom.specs.Holding.{holds, is_true_of}
-use Rattle.csp_atom.specs.declared.atom.Atom.{Atom}
-use Rattle.csp_atom.specs.declared.atom.Literal.{Literal}
-use Rattle.csp_atom.proofs.Sound.{sound}
+use Rattle.csp_facts.specs.Follows.{follows, decided, or_else}
+use Rattle.csp_facts.specs.Holding.{holds, is_true_of}
+use Rattle.csp_facts.specs.declared.atom.Atom.{Atom}
+use Rattle.csp_facts.specs.declared.atom.Literal.{Literal}
+use Rattle.csp_facts.proofs.Sound.{sound}
 use Rattle.csp_model.specs.declared.check.Check.{Check}
 use Rattle.csp_model.specs.declared.source.Hash.{Hash}
 use Rattle.csp_formula.specs.Sentences.{Sentence, Known, Fact, Not, Both, Either}

@@ -16,8 +16,8 @@ use Rattle.csp_model.specs.declared.check.Check.{Check}
 use Rattle.csp_model.specs.declared.source.Hash.{Hash}
 use Rattle.csp_model.specs.declared.source.Source.{Source}
 use Rattle.csp_model.specs.declared.source.Source.TheVariants as source
-use Rattle.csp_atom.specs.Holding.{on_part, has_hash, has_other}
-use Rattle.csp_atom.specs.Vocabulary.{hash_of_source}
+use Rattle.csp_facts.specs.Holding.{on_part, has_hash, has_other}
+use Rattle.csp_facts.specs.Vocabulary.{hash_of_source}
 use Rattle.csp_formula.specs.Sentences.{Sentence, Not, all_of, any_of}
 use Rattle.csp_formula.specs.Compiled.{nonces_sentence, has_pair, other_hashes, integrity_sentence}
 use Rattle.csp_formula.specs.Values.{is_true_for}

@@ -31,11 +31,11 @@ use Rattle.csp_model.specs.declared.url.Host.{Host}
 use Rattle.csp_model.specs.declared.url.Host.TheVariants.{Domain, Address}
 use Rattle.csp_model.specs.declared.url.Scheme.{Scheme}
 use Rattle.csp_model.specs.declared.url.Url.TheVariants as url
-use Rattle.csp_atom.proofs.SpelledHosts.{host_told}
-use Rattle.csp_atom.specs.Holding.{on_hosted, holds}
-use Rattle.csp_atom.specs.declared.atom.Atom.{Atom}
-use Rattle.csp_atom.specs.declared.atom.Atom.TheVariants.{HostIs, HostUnder, PortIs, PathIs, PathUnder}
-use Rattle.csp_shape.specs.declared.shape.Shape.{Shape}
+use Rattle.csp_facts.proofs.SpelledHosts.{host_told}
+use Rattle.csp_facts.specs.Holding.{on_hosted, holds}
+use Rattle.csp_facts.specs.declared.atom.Atom.{Atom}
+use Rattle.csp_facts.specs.declared.atom.Atom.TheVariants.{HostIs, HostUnder, PortIs, PathIs, PathUnder}
+use Rattle.csp_facts.specs.declared.shape.Shape.{Shape}
 use Rattle.csp_formula.specs.Sentences.{Known, Fact}
 use Rattle.csp_formula.specs.Sources.{host_sentence, port_sentence, is_dots, has_dots, path_fact, path_sentence, after_redirect, is_ancestor, own_port_sentence}
 use Rattle.csp_formula.specs.Values.{is_true_for}

@@ -2,11 +2,11 @@
 use Rattle.std.specs.Prelude.{List, All, IsTrue}
 use Rattle.csp_model.specs.Grammar.{is_base64_value}
 use Rattle.csp_model.specs.declared.source.Hash.{Hash}
-use Rattle.csp_atom.specs.Atoms.{BelongsTo, IsValidAtom}
-use Rattle.csp_atom.specs.Vocabulary.{IsOfVocabulary}
-use Rattle.csp_atom.specs.declared.atom.Atom.{Atom}
-use Rattle.csp_shape.specs.Shapes.{looks_at}
-use Rattle.csp_shape.specs.declared.shape.Shape.{Shape}
+use Rattle.csp_facts.specs.Atoms.{BelongsTo, IsValidAtom}
+use Rattle.csp_facts.specs.Vocabulary.{IsOfVocabulary}
+use Rattle.csp_facts.specs.declared.atom.Atom.{Atom}
+use Rattle.csp_facts.specs.Shapes.{looks_at}
+use Rattle.csp_facts.specs.declared.shape.Shape.{Shape}
 
 -- each value of the vocabulary is a base64-value
 abbrev pub HasBase64Values : List Hash → Type 0

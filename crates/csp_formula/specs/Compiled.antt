@@ -30,10 +30,10 @@ use Rattle.csp_model.specs.declared.source.Hash.{Hash}
 use Rattle.csp_model.specs.declared.source.Keyword.TheVariants as keyword
 use Rattle.csp_model.specs.declared.source.Source.{Source}
 use Rattle.csp_model.specs.declared.source.Source.TheVariants as source
-use Rattle.csp_atom.specs.Vocabulary.{hash_of_source}
-use Rattle.csp_atom.specs.declared.atom.Atom.TheVariants.{NonceIs, IntegrityHas, IntegrityOutside, DigestIs}
-use Rattle.csp_shape.specs.declared.shape.Shape.{Shape}
-use Rattle.csp_shape.specs.declared.shape.Shape.TheVariants as shape
+use Rattle.csp_facts.specs.Vocabulary.{hash_of_source}
+use Rattle.csp_facts.specs.declared.atom.Atom.TheVariants.{NonceIs, IntegrityHas, IntegrityOutside, DigestIs}
+use Rattle.csp_facts.specs.declared.shape.Shape.{Shape}
+use Rattle.csp_facts.specs.declared.shape.Shape.TheVariants as shape
 use Rattle.csp_formula.specs.Sentences.{Sentence, Known, Fact, Not, all_of, any_of}
 use Rattle.csp_formula.specs.Sources.{list_sentence}
 

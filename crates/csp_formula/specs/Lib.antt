@@ -6,3 +6,4 @@ pub mod Compiled
 pub mod Belonging
 pub mod Outlines
 pub mod Questions
+pub mod Strangers

@@ -6,7 +6,7 @@ use Rattle.csp_model.specs.declared.source.Source.{Source}
 use Rattle.csp_model.specs.declared.source.Source.TheVariants as source
 use Rattle.csp_model.specs.declared.url.Origin.{Origin}
 use Rattle.csp_model.specs.declared.url.Origin.TheVariants as origin
-use Rattle.csp_atom.specs.declared.atom.Atom.TheVariants.{HostIs, PortIs, PathIs, PathUnder, SchemeIs}
+use Rattle.csp_facts.specs.declared.atom.Atom.TheVariants.{HostIs, PortIs, PathIs, PathUnder, SchemeIs}
 use Rattle.csp_formula.specs.Sentences.{Sentence, Known, Fact, all_of}
 use Rattle.csp_formula.specs.Sources.{host_sentence}
 use Rattle.csp_formula.specs.declared.outline.Outline.{Outline}

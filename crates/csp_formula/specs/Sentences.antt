@@ -1,6 +1,6 @@
 -- Sentences over atoms.
 use Rattle.std.specs.Prelude.{Bool, true, false, List, [], ◌∷◌}
-use Rattle.csp_atom.specs.declared.atom.Atom.{Atom}
+use Rattle.csp_facts.specs.declared.atom.Atom.{Atom}
 
 pub data Sentence : Type 0 where
   Known : Bool → Sentence

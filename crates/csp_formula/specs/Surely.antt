@@ -1,7 +1,7 @@
 -- What literals decide of an atom and of a sentence.
 use Rattle.std.specs.Prelude.{Bool, true, false, not, List, Option, Some, None}
-use Rattle.csp_atom.specs.Follows.{decided}
-use Rattle.csp_atom.specs.declared.atom.Literal.{Literal}
+use Rattle.csp_facts.specs.Follows.{decided}
+use Rattle.csp_facts.specs.declared.atom.Literal.{Literal}
 use Rattle.csp_formula.specs.Sentences.{Sentence, Known, Fact, Not, Both, Either}
 
 abbrev pub maybe_not : Option Bool → Option Bool

@@ -1,8 +1,8 @@
 -- The atoms that stand in a sentence, and its value on a check.
 use Rattle.std.specs.Prelude.{Bool, not, ◌&&◌, ◌||◌, List, [], ◌∷◌, ◌++◌, All, IsTrue}
-use Rattle.csp_atom.specs.Holding.{holds, is_true_of}
-use Rattle.csp_atom.specs.declared.atom.Atom.{Atom}
-use Rattle.csp_atom.specs.declared.atom.Literal.{Literal}
+use Rattle.csp_facts.specs.Holding.{holds, is_true_of}
+use Rattle.csp_facts.specs.declared.atom.Atom.{Atom}
+use Rattle.csp_facts.specs.declared.atom.Literal.{Literal}
 use Rattle.csp_model.specs.declared.check.Check.{Check}
 use Rattle.csp_model.specs.declared.source.Hash.{Hash}
 use Rattle.csp_formula.specs.Sentences.{Sentence, Known, Fact, Not, Both, Either}

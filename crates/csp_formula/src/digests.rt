@@ -5,7 +5,7 @@ ghost use Rattle.base64.specs.GeneralPurpose.{IsBytes};
 ghost use Rattle.csp_formula.specs.Sentences.{Fact};
 ghost use Rattle.csp_formula.specs.Compiled as spec;
 
-use csp_atom::Atom;
+use csp_facts::Atom;
 use csp_model::{Digest, Hash, Source};
 use csp_token::hash_of;
 

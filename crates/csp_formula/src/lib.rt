@@ -1,4 +1,5 @@
-//! Sentences over atoms: what a policy says of every check of a shape.
+//! Sentences over atoms: what a policy says of every check of a shape, and what a list of policies doesn't tell
+//! apart.
 #![tactic(auto)]
 
 mod digests;
@@ -7,6 +8,7 @@ mod outline;
 mod question;
 mod schemes;
 mod shapes;
+pub mod stranger_laws;
 
 pub use digests::source_digest;
 pub use outline::{Outline, PathOutline, PortOutline, source_outline};

@@ -9,8 +9,8 @@ ghost use Rattle.csp_formula.specs.Sources as sentences;
 
 use crate::schemes::{is_network_scheme, own_scheme_matches, scheme_matches, self_scheme_matches};
 use crate::shapes::{after_redirect, is_ancestor, shape_scheme};
+use csp_facts::Shape;
 use csp_model::{Keyword, Origin, Path, PathPart, PortPart, Scheme, Source, Text};
-use csp_shape::Shape;
 
 /// What a source says of a port.
 #[derive(Clone, Copy)]

@@ -7,14 +7,16 @@ ghost use Rattle.csp_model.specs.declared.source.Hash.{Hash as HashValue};
 ghost use Rattle.csp_formula.specs.Compiled as compiled;
 ghost use Rattle.csp_formula.specs.Questions as spec;
 
-use csp_inline::{allows_all_inline, eval_allows, wasm_allows};
+use csp_facts::Shape;
 use csp_match::{governing, governor};
 use csp_model::laws::what_governs_stands_at_its_place;
 use csp_model::{
     FetchRule, Group, InlineKind, Keyword, List, Name, PathPart, Policy, Scheme, Source,
 };
-use csp_nav::{capability_allows, opaque_ancestor_allows, worker_start_allows};
-use csp_shape::Shape;
+use csp_rules::{
+    allows_all_inline, capability_allows, eval_allows, opaque_ancestor_allows, wasm_allows,
+    worker_start_allows,
+};
 use csp_token::has_keyword;
 
 /// What a policy is asked at a shape of checks: all that its formula there depends on. Shapes at which a

@@ -2,8 +2,8 @@
 ghost use Rattle.std.specs.Prelude.{◌≡◌};
 ghost use Rattle.csp_formula.specs.Sources as spec;
 
+use csp_facts::Shape;
 use csp_model::Scheme;
-use csp_shape::Shape;
 
 // Their scheme, if it is one of the five.
 pub(crate) fn shape_scheme(shape: Shape) -> Option<Scheme>

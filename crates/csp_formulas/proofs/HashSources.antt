@@ -9,9 +9,9 @@ use Rattle.csp_model.specs.DecideTokens.{is_hash}
 use Rattle.csp_model.specs.declared.source.Hash.{Hash}
 use Rattle.csp_model.specs.declared.source.Source.{Source}
 use Rattle.csp_model.specs.declared.source.Source.TheVariants as source
-use Rattle.csp_atom.specs.Vocabulary.{hash_of_source}
-use Rattle.csp_atom.specs.declared.atom.Atom.TheVariants.{IntegrityOutside}
-use Rattle.csp_atom.proofs.VocabularySeen.{Knows, Gains, knows_more}
+use Rattle.csp_facts.specs.Vocabulary.{hash_of_source}
+use Rattle.csp_facts.specs.declared.atom.Atom.TheVariants.{IntegrityOutside}
+use Rattle.csp_facts.proofs.VocabularySeen.{Knows, Gains, knows_more}
 use Rattle.csp_formula.specs.Sentences.{Sentence, Not, Fact, all_of}
 use Rattle.csp_formulas.specs.Formulas.{sentence_of, sentence_step}
 use Rattle.csp_formula.specs.Compiled.{has_pair, pairs_sentence, other_hashes, integrity_sentence}

@@ -7,9 +7,9 @@ use Rattle.std.proofs.lemmas.List.{map_push, drop_more}
 use mathlib.Core.Bool.{beq}
 use Rattle.std.proofs.lemmas.List.Concat.{flat_map-append}
 use Rattle.std.proofs.lemmas.List.Elements.{All-nil, All-push, All-head, All-tail, All-append, Contains-append_left, Contains-append_right, Contains-append_cases}
-use Rattle.csp_atom.specs.Follows.{decided}
-use Rattle.csp_atom.specs.declared.atom.Atom.{Atom}
-use Rattle.csp_atom.specs.declared.atom.Literal.{Literal}
+use Rattle.csp_facts.specs.Follows.{decided}
+use Rattle.csp_facts.specs.declared.atom.Atom.{Atom}
+use Rattle.csp_facts.specs.declared.atom.Literal.{Literal}
 use Rattle.csp_formula.specs.Sentences.{Sentence}
 use Rattle.csp_formulas.specs.Formulas.{sentence_of}
 use Rattle.csp_formula.specs.Surely.{maybe_and, maybe_or, surely}

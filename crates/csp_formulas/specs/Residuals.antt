@@ -1,9 +1,9 @@
 -- What is left of a formula where literals decide some of its atoms.
 use Rattle.std.specs.Prelude.{◌≡◌, Bool, true, false, not, List, [], ◌∷◌, Option, Some, None, Contains, IsSome, IsTrue, All, ◌⊎◌}
 use Rattle.std.specs.List.{list_all}
-use Rattle.csp_atom.specs.Follows.{decided}
-use Rattle.csp_atom.specs.declared.atom.Atom.{Atom}
-use Rattle.csp_atom.specs.declared.atom.Literal.{Literal}
+use Rattle.csp_facts.specs.Follows.{decided}
+use Rattle.csp_facts.specs.declared.atom.Atom.{Atom}
+use Rattle.csp_facts.specs.declared.atom.Literal.{Literal}
 use Rattle.csp_formula.specs.Sentences.{Sentence, Known, Fact, Not, Both, Either, all_of, any_of}
 use Rattle.csp_formulas.specs.Formulas.{sentence_of}
 use Rattle.csp_formula.specs.Surely.{maybe_not, maybe_and, maybe_or, surely}

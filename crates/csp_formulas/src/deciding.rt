@@ -2,13 +2,13 @@
 ghost use Rattle.std.specs.Prelude.{◌≡◌, IfSome, List as Items};
 ghost use Rattle.csp_model.specs.declared.check.Check.{Check as CheckValue};
 ghost use Rattle.csp_model.specs.declared.source.Hash.{Hash as HashValue};
-ghost use Rattle.csp_atom.specs.Follows as literals_say;
+ghost use Rattle.csp_facts.specs.Follows as literals_say;
 ghost use Rattle.csp_formulas.specs.Formulas.{sentence_of};
 ghost use Rattle.csp_formula.specs.Surely as spec;
 ghost use Rattle.csp_formula.specs.Values.{AreTrueOf, is_true_for};
 
 use crate::formula::Formula;
-use csp_atom::{Atom, Literal, follows};
+use csp_facts::{Atom, Literal, follows};
 
 /// The value of a formula where the literals decide it, which is its value on each check of which all of them
 /// are true. A fact is decided by the first literal that says something of it. An and is surely false where a

@@ -1,5 +1,5 @@
 //! Formulas.
-use csp_atom::Atom;
+use csp_facts::Atom;
 
 /// A formula over atoms.
 #[derive(Debug, Drop)]

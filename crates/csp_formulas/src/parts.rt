@@ -5,10 +5,9 @@ ghost use Rattle.csp_formulas.specs.Formulas.{sentence_of};
 ghost use Rattle.csp_formula.specs.Sources as spec;
 
 use crate::formula::Formula;
-use csp_atom::Atom;
+use csp_facts::Atom;
 use csp_formula::{PathOutline, PortOutline};
-use csp_grammar::{is_domain, is_four_numbers};
-use csp_model::{Duplicate, Host, HostPart, Memory, PathPart, Text};
+use csp_model::{Duplicate, Host, HostPart, Memory, PathPart, Text, is_domain, is_four_numbers};
 use std::alloc::Global;
 
 // The formula of a host. It is false where no URL can have the host.

@@ -1,9 +1,9 @@
 //! What is left of a formula in a cell.
 ghost use Rattle.std.specs.Prelude.{◌≡◌, ◌↔◌, [], All, Bool, Contains, IfOk, IsTrue, List as Items, None, Some, map};
 ghost use Rattle.std.specs.List.{list_all};
-ghost use Rattle.csp_atom.specs.Follows.{decided};
-ghost use Rattle.csp_atom.specs.declared.atom.Atom.{Atom as AtomValue};
-ghost use Rattle.csp_atom.specs.declared.atom.Literal.{Literal as LiteralValue};
+ghost use Rattle.csp_facts.specs.Follows.{decided};
+ghost use Rattle.csp_facts.specs.declared.atom.Atom.{Atom as AtomValue};
+ghost use Rattle.csp_facts.specs.declared.atom.Literal.{Literal as LiteralValue};
 ghost use Rattle.csp_cell.specs.Cells.{Meets};
 ghost use Rattle.csp_formulas.specs.Residuals.{IsDenied, IsLeft, KeepsValues, has_no_constant, joined_by};
 ghost use Rattle.csp_formulas.specs.Formulas.{sentence_of};

@@ -6,10 +6,9 @@ ghost use Rattle.csp_formula.specs.Sources as spec;
 
 use crate::formula::Formula;
 use crate::parts::{host_formula, path_formula, port_formula};
-use csp_atom::Atom;
+use csp_facts::{Atom, Shape};
 use csp_formula::{Outline, PathOutline, PortOutline, source_outline};
 use csp_model::{Duplicate, Memory, Origin, Source};
-use csp_shape::Shape;
 use std::alloc::Global;
 
 // The formula of a list: one of its sources matches.

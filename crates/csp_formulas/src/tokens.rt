@@ -6,7 +6,7 @@ ghost use Rattle.csp_formula.specs.Compiled as spec;
 ghost use Rattle.csp_formulas.specs.HashSets.{IsSetOf};
 
 use crate::formula::Formula;
-use csp_atom::Atom;
+use csp_facts::Atom;
 use csp_formula::source_digest;
 use csp_model::{Duplicate, Hash, Memory, Source};
 use std::alloc::Global;

@@ -11,10 +11,10 @@ use Rattle.csp_model.specs.declared.policy.Disposition.{Disposition}
 use Rattle.csp_model.specs.declared.policy.Policy.{Policy}
 use Rattle.csp_model.specs.declared.policy.PolicyList.{PolicyList}
 use Rattle.csp_model.specs.declared.source.Hash.{Hash}
-use Rattle.csp_atom.specs.Vocabulary.{vocabulary_hashes}
-use Rattle.csp_atom.specs.declared.atom.Literal.{Literal}
-use Rattle.csp_shape.specs.Shapes.{is_shape}
-use Rattle.csp_shape.specs.declared.shape.Shape.{Shape}
+use Rattle.csp_facts.specs.Vocabulary.{vocabulary_hashes}
+use Rattle.csp_facts.specs.declared.atom.Literal.{Literal}
+use Rattle.csp_facts.specs.Shapes.{is_shape}
+use Rattle.csp_facts.specs.declared.shape.Shape.{Shape}
 use Rattle.csp_formula.specs.Compiled.{policy_sentence}
 use Rattle.csp_formula.specs.Surely.{surely}
 use Rattle.csp_proof.specs.Accepts.{cases_in, is_surely, policy_is, Lists, hashes_in, blocks, is_met, unless, first_of, literal, bad_case, bad_tree, at_line, bad_shared, bad_body, is_for, for_pair, bad_from, IsAccepted}

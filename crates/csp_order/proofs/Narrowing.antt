@@ -19,10 +19,10 @@ use Rattle.csp_model.specs.declared.policy.Policy.{Policy}
 use Rattle.csp_model.specs.declared.source.Hash.{Hash}
 use Rattle.csp_model.specs.declared.source.Source.{Source}
 use Rattle.csp_model.specs.declared.url.Origin.{Origin}
-use Rattle.csp_shape.specs.Numbers.{number}
-use Rattle.csp_shape.specs.Shapes.{is_shape}
-use Rattle.csp_shape.specs.declared.shape.Shape.{Shape}
-use Rattle.csp_shape.proofs.Apart.{one_shape}
+use Rattle.csp_facts.specs.Numbers.{number}
+use Rattle.csp_facts.specs.Shapes.{is_shape}
+use Rattle.csp_facts.specs.declared.shape.Shape.{Shape}
+use Rattle.csp_facts.proofs.Apart.{one_shape}
 use Rattle.csp_order.specs.Within.{Narrows, AreBoth, HasPartOf, HasTokensOf, AreParts}
 
 -- Values

@@ -1,6 +1,6 @@
 //! Proofs of earlier pairs that are proofs of others.
 ghost use Rattle.std.specs.Prelude.{◌≡◌, ◌≤◌, All, IfOk, IfSome, IsTrue, length};
-ghost use Rattle.csp_atom.specs.Vocabulary.{vocabulary_hashes};
+ghost use Rattle.csp_facts.specs.Vocabulary.{vocabulary_hashes};
 ghost use Rattle.csp_compare.specs.Answers.{IsAnswer, IsPrinted};
 ghost use Rattle.csp_model.specs.Policies.{IsReadable};
 ghost use Rattle.csp_order.specs.Pairs.{IsPair};
@@ -11,8 +11,8 @@ use crate::copies::copy_proof;
 use crate::pair::Pair;
 use crate::relation::{Because, Relation};
 use crate::within::is_within;
-use csp_atom::{Vocabulary, vocabulary_of};
 use csp_compare::{Answer, compare};
+use csp_facts::{Vocabulary, vocabulary_of};
 use csp_model::{Hash, List, Memory, PolicyList};
 use csp_proof::Proof;
 use csp_proof::laws::what_is_accepted_is_so;

@@ -6,13 +6,13 @@ ghost use Rattle.csp_formula.specs.Compiled.{policy_sentence};
 ghost use Rattle.csp_formula.specs.Questions.{question_sentence};
 ghost use Rattle.csp_model.specs.Policies.{IsReadable, IsReadablePolicy};
 ghost use Rattle.csp_model.specs.declared.source.Hash.{Hash as HashValue};
-ghost use Rattle.csp_shape.specs.Shapes.{is_shape};
-ghost use Rattle.csp_shape.specs.declared.shape.Shape.{Shape as ShapeValue};
+ghost use Rattle.csp_facts.specs.Shapes.{is_shape};
+ghost use Rattle.csp_facts.specs.declared.shape.Shape.{Shape as ShapeValue};
 
+use csp_facts::shape_laws::each_number_is_one_shape;
+use csp_facts::{Shape, shape_at};
 use csp_formula::{Question, question_at};
 use csp_model::{Directive, FetchRule, Policy, PolicyList, Text};
-use csp_shape::laws::each_number_is_one_shape;
-use csp_shape::{Shape, shape_at};
 
 // Whether the first list is found to be within the other: it has the same policies, but that directives which
 // decide by their lists alone may lack tokens. No formula is made for it, and a no tells nothing.

@@ -10,7 +10,7 @@ use Rattle.csp_model.specs.Verdict.{verdict_of}
 use Rattle.csp_model.specs.declared.check.Check.{Check}
 use Rattle.csp_model.specs.declared.policy.PolicyList.{PolicyList}
 use Rattle.csp_model.specs.declared.url.Url.{Url}
-use Rattle.csp_print.specs.Printed.{printed}
+use Rattle.csp_request.specs.Printed.{printed}
 use Rattle.csp_proof.specs.Texts.{IsTextOf}
 use Rattle.csp_proof.specs.declared.proof.Proof.{Proof}
 use Rattle.csp_request.specs.Requests.{check_of}

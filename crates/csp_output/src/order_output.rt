@@ -15,8 +15,8 @@ use crate::lines::push_all;
 use crate::status::Status;
 use csp_model::{Bytes, Check, List, Memory, PolicyList};
 use csp_order::{Because, Relation, order as relations_of};
-use csp_print::check_json;
 use csp_proof::{Proof, proof_text};
+use csp_request::check_json;
 use itoa::Buffer;
 use std::alloc::Global;
 

@@ -13,12 +13,12 @@ use Rattle.csp_model.specs.declared.check.CheckPart.TheVariants as part
 use Rattle.csp_model.specs.declared.check.Digest.TheVariants as one
 use Rattle.csp_model.specs.declared.source.Algorithm.{Algorithm}
 use Rattle.csp_model.specs.declared.source.Algorithm.TheVariants.{Sha256, Sha384, Sha512}
-use Rattle.csp_atom.specs.Atoms.{part_of, IsValidAtom}
-use Rattle.csp_atom.specs.Follows.{follows_true}
-use Rattle.csp_atom.specs.Holding.{on_part}
-use Rattle.csp_atom.specs.declared.atom.Atom.{Atom}
-use Rattle.csp_atom.specs.declared.atom.Atom.TheVariants.{DigestIs}
-use Rattle.csp_atom.specs.declared.atom.Literal.{Literal}
+use Rattle.csp_facts.specs.Atoms.{part_of, IsValidAtom}
+use Rattle.csp_facts.specs.Follows.{follows_true}
+use Rattle.csp_facts.specs.Holding.{on_part}
+use Rattle.csp_facts.specs.declared.atom.Atom.{Atom}
+use Rattle.csp_facts.specs.declared.atom.Atom.TheVariants.{DigestIs}
+use Rattle.csp_facts.specs.declared.atom.Literal.{Literal}
 use Rattle.csp_cell.specs.Cells.{StandTogether, places}
 use Rattle.csp_pick.specs.Leads.{digest_of, lead, is_within, leads_within, count_within, bytes_hold}
 use Rattle.csp_pick.specs.Parts.{MeetPart}

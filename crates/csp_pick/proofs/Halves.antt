@@ -3,8 +3,8 @@ use Rattle.std.proofs.Common.{◌≡◌, refl, ℕ, ◌+◌, ◌-◌, ◌≤◌,
 use Rattle.std.proofs.lemmas.Bool.Decides.{nat_tests}
 use Rattle.std.proofs.lemmas.List.Sums.{sum_by-cons}
 use Rattle.csp_model.specs.declared.source.Algorithm.{Algorithm}
-use Rattle.csp_atom.specs.Holding.{on_part}
-use Rattle.csp_atom.specs.declared.atom.Literal.{Literal}
+use Rattle.csp_facts.specs.Holding.{on_part}
+use Rattle.csp_facts.specs.declared.atom.Literal.{Literal}
 use Rattle.csp_pick.specs.Leads.{digest_of, lead, is_within, leads_within, count_within}
 
 abbrev flag : Bool → ℕ

@@ -17,8 +17,8 @@ use Rattle.csp_model.specs.Grammar.{are_digits}
 use Rattle.csp_model.specs.Validity.{is_domain_byte, is_domain, ends_in_number, is_hex_number, last_label, IsValidHost}
 use Rattle.csp_model.specs.declared.url.Host.{Host}
 use Rattle.csp_model.specs.declared.url.Host.TheVariants.{Domain, Address}
-use Rattle.csp_atom.proofs.TableTests.{lies_within_decides}
-use Rattle.csp_atom.specs.Follows.{lies_within}
+use Rattle.csp_facts.proofs.TableTests.{lies_within_decides}
+use Rattle.csp_facts.specs.Follows.{lies_within}
 use Rattle.csp_pick.specs.Hosts.{is_letter, are_letters, HasTail}
 
 -- Letters

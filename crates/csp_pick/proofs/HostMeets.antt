@@ -10,13 +10,13 @@ use Rattle.csp_model.specs.Validity.{IsValidHost}
 use Rattle.csp_model.specs.declared.check.CheckPart.TheVariants as part
 use Rattle.csp_model.specs.declared.url.Host.{Host}
 use Rattle.csp_model.specs.declared.url.Host.TheVariants.{Domain, Address}
-use Rattle.csp_atom.specs.Atoms.{part_of, IsValidAtom}
-use Rattle.csp_atom.specs.Follows.{follows_true, Refutes}
-use Rattle.csp_atom.specs.declared.atom.Atom.{Atom}
-use Rattle.csp_atom.specs.declared.atom.Atom.TheVariants.{HostIs, HostUnder, HostDomain}
-use Rattle.csp_atom.specs.declared.atom.Literal.{Literal}
+use Rattle.csp_facts.specs.Atoms.{part_of, IsValidAtom}
+use Rattle.csp_facts.specs.Follows.{follows_true, Refutes}
+use Rattle.csp_facts.specs.declared.atom.Atom.{Atom}
+use Rattle.csp_facts.specs.declared.atom.Atom.TheVariants.{HostIs, HostUnder, HostDomain}
+use Rattle.csp_facts.specs.declared.atom.Literal.{Literal}
 use Rattle.csp_cell.specs.Cells.{IsOf, StandTogether, is_integrity, places}
-use Rattle.csp_shape.specs.declared.shape.Shape.{Shape}
+use Rattle.csp_facts.specs.declared.shape.Shape.{Shape}
 use Rattle.csp_pick.specs.Hosts.{is_on_host, first_on_host, is_on_domains, has_domains, names, HasTail, IsAddress, IsFresh, IsHostFor}
 use Rattle.csp_pick.specs.Parts.{agrees, MeetPart, host_holds}
 use Rattle.csp_pick.proofs.HostDomains.{label_valid, below_valid, label_under, below_under, below_suffix}

@@ -8,9 +8,9 @@ use Rattle.csp_model.proofs.EqualityDecided.{same_host_decides}
 use Rattle.csp_model.specs.DecideEquality.{same_host}
 use Rattle.csp_model.specs.Paths.{host_text}
 use Rattle.csp_model.specs.declared.url.Host.{Host}
-use Rattle.csp_atom.specs.declared.atom.Atom.{Atom}
-use Rattle.csp_atom.specs.declared.atom.Atom.TheVariants.{HostIs}
-use Rattle.csp_atom.specs.declared.atom.Literal.{Literal}
+use Rattle.csp_facts.specs.declared.atom.Atom.{Atom}
+use Rattle.csp_facts.specs.declared.atom.Atom.TheVariants.{HostIs}
+use Rattle.csp_facts.specs.declared.atom.Literal.{Literal}
 use Rattle.csp_pick.specs.Hosts.{names, name_length, longest_name, IsFresh}
 
 abbrev pub longest_from : ℕ → List Literal → ℕ

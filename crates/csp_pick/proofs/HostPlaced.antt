@@ -3,12 +3,12 @@ use Rattle.std.proofs.Common.{◌≡◌, ◌≢◌, ◌∙◌, refl, sym, ap, su
 use Rattle.std.specs.List.{list_any, slice_index_or}
 use Rattle.std.proofs.lemmas.Bool.{and_parts, or_parts, cases_order, false≢true}
 use Rattle.std.proofs.lemmas.List.Elements.{All-nil, All-cons, at_from_Contains}
-use Rattle.csp_atom.proofs.Own.{own}
-use Rattle.csp_atom.proofs.Refutes.{refutes_back}
-use Rattle.csp_atom.specs.Atoms.{part_of}
-use Rattle.csp_atom.specs.Follows.{Refutes}
-use Rattle.csp_atom.specs.declared.atom.Atom.{Atom}
-use Rattle.csp_atom.specs.declared.atom.Literal.{Literal}
+use Rattle.csp_facts.proofs.Own.{own}
+use Rattle.csp_facts.proofs.Refutes.{refutes_back}
+use Rattle.csp_facts.specs.Atoms.{part_of}
+use Rattle.csp_facts.specs.Follows.{Refutes}
+use Rattle.csp_facts.specs.declared.atom.Atom.{Atom}
+use Rattle.csp_facts.specs.declared.atom.Literal.{Literal}
 use Rattle.csp_cell.proofs.Once.{placed_once}
 use Rattle.csp_cell.specs.Cells.{StandTogether, places, is_integrity}
 use Rattle.csp_pick.specs.Hosts.{is_on_host, first_on_host}

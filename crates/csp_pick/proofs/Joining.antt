@@ -10,12 +10,12 @@ use Rattle.csp_model.specs.declared.check.Group.{Group}
 use Rattle.csp_model.specs.declared.source.Hash.{Hash}
 use Rattle.csp_model.specs.declared.url.Scheme.{Scheme}
 use Rattle.csp_model.specs.declared.url.Url.{Url}
-use Rattle.csp_atom.specs.Holding.{holds}
-use Rattle.csp_atom.specs.declared.atom.Literal.{Literal}
+use Rattle.csp_facts.specs.Holding.{holds}
+use Rattle.csp_facts.specs.declared.atom.Literal.{Literal}
 use Rattle.csp_cell.specs.Cells.{IsOf, Meets}
-use Rattle.csp_shape.specs.Shapes.{looks_at}
-use Rattle.csp_shape.specs.declared.shape.Shape.{Shape}
-use Rattle.csp_shape.specs.declared.shape.Shape.TheVariants as shape
+use Rattle.csp_facts.specs.Shapes.{looks_at}
+use Rattle.csp_facts.specs.declared.shape.Shape.{Shape}
+use Rattle.csp_facts.specs.declared.shape.Shape.TheVariants as shape
 use Rattle.csp_pick.specs.Parts.{MeetPart, nonce_holds, integrity_holds}
 use Rattle.csp_pick.specs.Urls.{url_holds, looks_at_url, MeetUrl}
 use Rattle.csp_pick.proofs.PartLaws.{meet_alike, is_of_url, by_url, by_nonce, by_integrity}

@@ -12,9 +12,9 @@ use Rattle.csp_model.specs.Paths.{path_text}
 use Rattle.csp_model.specs.declared.path.TheConstants.{ESCAPED}
 use Rattle.csp_model.proofs.FinalBytes.{last_view}
 use Rattle.csp_model.proofs.PathText.{no_slash_in}
-use Rattle.csp_atom.specs.declared.atom.Atom.{Atom}
-use Rattle.csp_atom.specs.declared.atom.Atom.TheVariants.{PathIs}
-use Rattle.csp_atom.specs.declared.atom.Literal.{Literal}
+use Rattle.csp_facts.specs.declared.atom.Atom.{Atom}
+use Rattle.csp_facts.specs.declared.atom.Atom.TheVariants.{PathIs}
+use Rattle.csp_facts.specs.declared.atom.Literal.{Literal}
 use Rattle.csp_pick.specs.Said.{last_piece_of, last_segment_of, segment_at_end}
 use Rattle.csp_pick.proofs.PathsMet.{last_of}
 

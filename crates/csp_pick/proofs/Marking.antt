@@ -5,9 +5,9 @@ use Rattle.std.proofs.lemmas.List.{get_or-set_same, get_or-set_other, length-rep
 use Rattle.std.proofs.lemmas.List.Elements.{All-nil, All-head, All-tail, All-more, All-replicate}
 use Rattle.std.proofs.lemmas.List.Filters.{length-filter_more}
 use Rattle.std.proofs.lemmas.List.Sums.{sum_by-set, sum_by-cons, sum_by-le}
-use Rattle.csp_atom.specs.declared.atom.Atom.{Atom}
-use Rattle.csp_atom.specs.declared.atom.Atom.TheVariants.{PortIs, IntegrityHas, IntegrityOutside}
-use Rattle.csp_atom.specs.declared.atom.Literal.{Literal}
+use Rattle.csp_facts.specs.declared.atom.Atom.{Atom}
+use Rattle.csp_facts.specs.declared.atom.Atom.TheVariants.{PortIs, IntegrityHas, IntegrityOutside}
+use Rattle.csp_facts.specs.declared.atom.Literal.{Literal}
 use Rattle.csp_cell.specs.Cells.{places}
 use Rattle.csp_pick.specs.Picks.{denies_port}
 use Rattle.csp_pick.specs.Said.{port_of, names_port}

@@ -6,13 +6,13 @@ use Rattle.std.proofs.lemmas.List.Elements.{All-weaker, All-filter}
 use Rattle.std.proofs.lemmas.Slice.Eq.{bytes_eq-Decides}
 use Rattle.csp_model.specs.Grammar.{is_base64_value}
 use Rattle.csp_model.specs.declared.check.CheckPart.TheVariants as part
-use Rattle.csp_atom.specs.Atoms.{part_of, IsValidAtom}
-use Rattle.csp_atom.specs.Follows.{follows_true}
-use Rattle.csp_atom.specs.declared.atom.Atom.{Atom}
-use Rattle.csp_atom.specs.declared.atom.Atom.TheVariants.{NonceIs}
-use Rattle.csp_atom.specs.declared.atom.Literal.{Literal}
+use Rattle.csp_facts.specs.Atoms.{part_of, IsValidAtom}
+use Rattle.csp_facts.specs.Follows.{follows_true}
+use Rattle.csp_facts.specs.declared.atom.Atom.{Atom}
+use Rattle.csp_facts.specs.declared.atom.Atom.TheVariants.{NonceIs}
+use Rattle.csp_facts.specs.declared.atom.Literal.{Literal}
 use Rattle.csp_cell.specs.Cells.{StandTogether, IsOf, places}
-use Rattle.csp_shape.specs.declared.shape.Shape.{Shape}
+use Rattle.csp_facts.specs.declared.shape.Shape.{Shape}
 use Rattle.csp_pick.specs.Parts.{MeetPart, nonce_holds}
 use Rattle.csp_pick.specs.Said.{nonce_of}
 use Rattle.csp_pick.proofs.Placed.{said_by, positive_of, placed_meets, denied_meets}

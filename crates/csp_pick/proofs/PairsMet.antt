@@ -10,14 +10,14 @@ use Rattle.csp_model.specs.Grammar.{is_base64_value}
 use Rattle.csp_model.specs.Validity.{IsIntegrityValue}
 use Rattle.csp_model.specs.declared.check.CheckPart.TheVariants as part
 use Rattle.csp_model.specs.declared.source.Hash.{Hash}
-use Rattle.csp_atom.proofs.HoldingDecided.{has_hash_decides, has_other_decides}
-use Rattle.csp_atom.specs.Atoms.{part_of, HasOther, IsValidAtom}
-use Rattle.csp_atom.specs.Follows.{Refutes, true_where, follows_true, follows_false}
-use Rattle.csp_atom.specs.Holding.{has_hash, has_other}
-use Rattle.csp_atom.specs.Vocabulary.{IsOfVocabulary}
-use Rattle.csp_atom.specs.declared.atom.Atom.{Atom}
-use Rattle.csp_atom.specs.declared.atom.Atom.TheVariants.{IntegrityHas, IntegrityOutside}
-use Rattle.csp_atom.specs.declared.atom.Literal.{Literal}
+use Rattle.csp_facts.proofs.HoldingDecided.{has_hash_decides, has_other_decides}
+use Rattle.csp_facts.specs.Atoms.{part_of, HasOther, IsValidAtom}
+use Rattle.csp_facts.specs.Follows.{Refutes, true_where, follows_true, follows_false}
+use Rattle.csp_facts.specs.Holding.{has_hash, has_other}
+use Rattle.csp_facts.specs.Vocabulary.{IsOfVocabulary}
+use Rattle.csp_facts.specs.declared.atom.Atom.{Atom}
+use Rattle.csp_facts.specs.declared.atom.Atom.TheVariants.{IntegrityHas, IntegrityOutside}
+use Rattle.csp_facts.specs.declared.atom.Literal.{Literal}
 use Rattle.csp_cell.specs.Cells.{StandTogether, places, is_integrity}
 use Rattle.csp_pick.specs.Pairs.{hash_of, pair_of, pairs_in, is_outside, says_outside}
 use Rattle.csp_pick.specs.Parts.{MeetPart, integrity_holds}

@@ -15,13 +15,13 @@ use Rattle.csp_model.proofs.MatchingDecided.{pieces_decide}
 use Rattle.csp_model.specs.DecideEnds.{begins_with, goes_beyond}
 use Rattle.csp_model.specs.Validity.{is_piece}
 use Rattle.csp_model.specs.declared.check.CheckPart.TheVariants as part
-use Rattle.csp_atom.specs.Atoms.{part_of, IsValidAtom, IsValidPath}
-use Rattle.csp_atom.specs.Follows.{follows_true}
-use Rattle.csp_atom.specs.declared.atom.Atom.{Atom}
-use Rattle.csp_atom.specs.declared.atom.Atom.TheVariants.{PathIs, PathUnder}
-use Rattle.csp_atom.specs.declared.atom.Literal.{Literal}
+use Rattle.csp_facts.specs.Atoms.{part_of, IsValidAtom, IsValidPath}
+use Rattle.csp_facts.specs.Follows.{follows_true}
+use Rattle.csp_facts.specs.declared.atom.Atom.{Atom}
+use Rattle.csp_facts.specs.declared.atom.Atom.TheVariants.{PathIs, PathUnder}
+use Rattle.csp_facts.specs.declared.atom.Literal.{Literal}
 use Rattle.csp_cell.specs.Cells.{StandTogether, IsOf, places}
-use Rattle.csp_shape.specs.declared.shape.Shape.{Shape}
+use Rattle.csp_facts.specs.declared.shape.Shape.{Shape}
 use Rattle.csp_pick.specs.Parts.{agrees, MeetPart, path_holds}
 use Rattle.csp_pick.specs.Said.{path_of, front_of, last_piece_of}
 use Rattle.csp_pick.proofs.Placed.{said_by, of_filter, positive_of, beside_placed, denial_of, agrees_placed, agrees_denied, follows_placed, placed_meets, denied_meets}

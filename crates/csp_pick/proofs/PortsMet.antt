@@ -7,11 +7,11 @@ use Rattle.std.proofs.lemmas.List.Elements.{All-weaker}
 use Rattle.csp_model.specs.Schemes.{default_port}
 use Rattle.csp_model.specs.declared.check.CheckPart.TheVariants as part
 use Rattle.csp_model.specs.declared.url.Scheme.{Scheme}
-use Rattle.csp_atom.specs.Atoms.{part_of}
-use Rattle.csp_atom.specs.Follows.{follows_true}
-use Rattle.csp_atom.specs.declared.atom.Atom.{Atom}
-use Rattle.csp_atom.specs.declared.atom.Atom.TheVariants.{PortIs}
-use Rattle.csp_atom.specs.declared.atom.Literal.{Literal}
+use Rattle.csp_facts.specs.Atoms.{part_of}
+use Rattle.csp_facts.specs.Follows.{follows_true}
+use Rattle.csp_facts.specs.declared.atom.Atom.{Atom}
+use Rattle.csp_facts.specs.declared.atom.Atom.TheVariants.{PortIs}
+use Rattle.csp_facts.specs.declared.atom.Literal.{Literal}
 use Rattle.csp_cell.specs.Cells.{StandTogether, places}
 use Rattle.csp_pick.specs.Parts.{MeetPart, port_holds}
 use Rattle.csp_pick.specs.Said.{port_of}

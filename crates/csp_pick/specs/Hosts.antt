@@ -7,9 +7,9 @@ use Rattle.csp_model.specs.Paths.{host_text}
 use Rattle.csp_model.specs.Validity.{is_address}
 use Rattle.csp_model.specs.declared.url.Host.{Host}
 use Rattle.csp_model.specs.declared.url.Host.TheVariants.{Domain, Address}
-use Rattle.csp_atom.specs.declared.atom.Atom.{Atom}
-use Rattle.csp_atom.specs.declared.atom.Atom.TheVariants.{HostIs, HostUnder, HostDomain}
-use Rattle.csp_atom.specs.declared.atom.Literal.{Literal}
+use Rattle.csp_facts.specs.declared.atom.Atom.{Atom}
+use Rattle.csp_facts.specs.declared.atom.Atom.TheVariants.{HostIs, HostUnder, HostDomain}
+use Rattle.csp_facts.specs.declared.atom.Literal.{Literal}
 
 -- the atom speaks of the host
 abbrev pub is_on_host : Atom → Bool

@@ -6,10 +6,10 @@ use Rattle.csp_model.specs.Tokens.{bytes_of}
 use Rattle.csp_model.specs.declared.check.Digest.TheVariants as one
 use Rattle.csp_model.specs.declared.source.Algorithm.{Algorithm}
 use Rattle.csp_model.specs.declared.source.Algorithm.TheVariants.{Sha256, Sha384, Sha512}
-use Rattle.csp_atom.specs.Holding.{on_part}
-use Rattle.csp_atom.specs.declared.atom.Atom.{Atom}
-use Rattle.csp_atom.specs.declared.atom.Atom.TheVariants.{DigestIs}
-use Rattle.csp_atom.specs.declared.atom.Literal.{Literal}
+use Rattle.csp_facts.specs.Holding.{on_part}
+use Rattle.csp_facts.specs.declared.atom.Atom.{Atom}
+use Rattle.csp_facts.specs.declared.atom.Atom.TheVariants.{DigestIs}
+use Rattle.csp_facts.specs.declared.atom.Literal.{Literal}
 
 -- the digest that an atom speaks of, where it is one of the algorithm
 abbrev pub digest_of : Algorithm → Atom → Option (List ℕ)

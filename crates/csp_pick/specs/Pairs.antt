@@ -2,9 +2,9 @@
 use Rattle.std.specs.Prelude.{◌&&◌, Bool, true, false, List, Option, Some, None, if◌then◌else◌}
 use Rattle.std.specs.List.{filter_map}
 use Rattle.csp_model.specs.declared.source.Hash.{Hash}
-use Rattle.csp_atom.specs.declared.atom.Atom.{Atom}
-use Rattle.csp_atom.specs.declared.atom.Atom.TheVariants.{IntegrityHas, IntegrityOutside}
-use Rattle.csp_atom.specs.declared.atom.Literal.{Literal}
+use Rattle.csp_facts.specs.declared.atom.Atom.{Atom}
+use Rattle.csp_facts.specs.declared.atom.Atom.TheVariants.{IntegrityHas, IntegrityOutside}
+use Rattle.csp_facts.specs.declared.atom.Literal.{Literal}
 
 abbrev pub hash_of : Atom → Option Hash
 hash_of (IntegrityHas hash) = Some hash

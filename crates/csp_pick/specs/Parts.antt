@@ -11,11 +11,11 @@ use Rattle.csp_model.specs.declared.source.Hash.{Hash}
 use Rattle.csp_model.specs.declared.source.PathPart.TheVariants as path_part
 use Rattle.csp_model.specs.declared.url.Host.{Host}
 use Rattle.csp_model.specs.declared.url.Scheme.{Scheme}
-use Rattle.csp_atom.specs.Atoms.{part_of}
-use Rattle.csp_atom.specs.Holding.{has_digest, has_hash, has_other}
-use Rattle.csp_atom.specs.declared.atom.Atom.{Atom}
-use Rattle.csp_atom.specs.declared.atom.Atom.TheVariants.{HostIs, HostUnder, HostDomain, PortIs, PathIs, PathUnder, SchemeIs, NonceIs, IntegrityHas, IntegrityOutside, DigestIs}
-use Rattle.csp_atom.specs.declared.atom.Literal.{Literal}
+use Rattle.csp_facts.specs.Atoms.{part_of}
+use Rattle.csp_facts.specs.Holding.{has_digest, has_hash, has_other}
+use Rattle.csp_facts.specs.declared.atom.Atom.{Atom}
+use Rattle.csp_facts.specs.declared.atom.Atom.TheVariants.{HostIs, HostUnder, HostDomain, PortIs, PathIs, PathUnder, SchemeIs, NonceIs, IntegrityHas, IntegrityOutside, DigestIs}
+use Rattle.csp_facts.specs.declared.atom.Literal.{Literal}
 
 -- the literal is true, where this test says which atoms hold
 abbrev pub agrees : (Atom → Bool) → Literal → Bool

@@ -3,9 +3,9 @@ use Rattle.std.specs.Prelude.{ℕ, ◌-◌, Bool, List, length, slice_get, Optio
 use Rattle.std.specs.Option.{option_map}
 use Rattle.percent_encoding.specs.Percent.{percent_encode}
 use Rattle.csp_model.specs.declared.path.TheConstants.{ESCAPED}
-use Rattle.csp_atom.specs.declared.atom.Atom.{Atom}
-use Rattle.csp_atom.specs.declared.atom.Atom.TheVariants.{PortIs, PathIs, PathUnder, SchemeIs, NonceIs}
-use Rattle.csp_atom.specs.declared.atom.Literal.{Literal}
+use Rattle.csp_facts.specs.declared.atom.Atom.{Atom}
+use Rattle.csp_facts.specs.declared.atom.Atom.TheVariants.{PortIs, PathIs, PathUnder, SchemeIs, NonceIs}
+use Rattle.csp_facts.specs.declared.atom.Literal.{Literal}
 
 abbrev pub port_of : Atom → Option ℕ
 port_of (PortIs n) = Some n

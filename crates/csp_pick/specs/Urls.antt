@@ -4,10 +4,10 @@ use Rattle.csp_model.specs.declared.check.Check.TheVariants as check
 use Rattle.csp_model.specs.declared.check.CheckPart.{CheckPart}
 use Rattle.csp_model.specs.declared.url.Scheme.{Scheme}
 use Rattle.csp_model.specs.declared.url.Url.{Url}
-use Rattle.csp_shape.specs.Shapes.{is_url_part, is_path}
-use Rattle.csp_atom.specs.Holding.{holds}
-use Rattle.csp_atom.specs.declared.atom.Atom.{Atom}
-use Rattle.csp_atom.specs.declared.atom.Literal.{Literal}
+use Rattle.csp_facts.specs.Shapes.{is_url_part, is_path}
+use Rattle.csp_facts.specs.Holding.{holds}
+use Rattle.csp_facts.specs.declared.atom.Atom.{Atom}
+use Rattle.csp_facts.specs.declared.atom.Literal.{Literal}
 use Rattle.csp_pick.specs.Parts.{MeetPart}
 
 -- the atom holds for a check that has this URL and no other part

@@ -4,7 +4,7 @@ ghost use Rattle.csp_model.specs.Paths.{host_text};
 ghost use Rattle.csp_pick.specs.Hosts.{IsAddress, IsFresh};
 
 use crate::named::{is_named, longest_name};
-use csp_atom::Literal;
+use csp_facts::Literal;
 use csp_model::{Host, Memory, Text};
 use std::alloc::Global;
 

@@ -1,7 +1,7 @@
 //! Digests.
 ghost use Rattle.std.specs.Prelude.{◌≡◌, All, AllPairs, length};
-ghost use Rattle.csp_atom.specs.Atoms.{IsValidAtom};
-ghost use Rattle.csp_atom.specs.declared.atom.Literal.{Literal as LiteralValue};
+ghost use Rattle.csp_facts.specs.Atoms.{IsValidAtom};
+ghost use Rattle.csp_facts.specs.declared.atom.Literal.{Literal as LiteralValue};
 ghost use Rattle.csp_cell.specs.Cells.{StandTogether};
 ghost use Rattle.csp_model.specs.Tokens.{size_of};
 ghost use Rattle.csp_model.specs.Validity.{IsOfSize, IsValidDigests};

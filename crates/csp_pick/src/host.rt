@@ -8,8 +8,8 @@ ghost use Rattle.csp_pick.specs.Parts.{MeetPart, host_holds};
 use crate::address::fresh_address;
 use crate::label::{domain_below, fresh_domain};
 use crate::other::other_below;
-use csp_atom::{Atom, Literal};
 use csp_cell::Cell;
+use csp_facts::{Atom, Literal};
 use csp_model::{Duplicate, Host, Memory};
 use std::alloc::Global;
 

@@ -8,8 +8,8 @@ ghost use Rattle.csp_pick.specs.Pairs as spec;
 ghost use Rattle.csp_pick.specs.Parts.{MeetPart, integrity_holds};
 ghost use Rattle.csp_pick.specs.Picks.{AreOfVocabulary};
 
-use csp_atom::{Atom, Literal, Vocabulary};
 use csp_cell::Cell;
+use csp_facts::{Atom, Literal, Vocabulary};
 use csp_model::{Algorithm, Duplicate, Hash, List, Memory, Text};
 use std::alloc::Global;
 

@@ -2,7 +2,7 @@
 ghost use Rattle.std.specs.Prelude.{◌≡◌, ◌+◌, ◌<◌, ◌≤◌, ◌^◌, All, Any, MatchOption, length, option_copied};
 ghost use Rattle.csp_pick.specs.Leads as spec;
 
-use csp_atom::{Atom, Literal};
+use csp_facts::{Atom, Literal};
 use csp_model::{Algorithm, Digest};
 
 // The first digest of the algorithm that a literal speaks of.

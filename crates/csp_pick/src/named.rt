@@ -2,7 +2,7 @@
 ghost use Rattle.std.specs.Prelude.{◌≡◌};
 ghost use Rattle.csp_pick.specs.Hosts as spec;
 
-use csp_atom::{Atom, Literal};
+use csp_facts::{Atom, Literal};
 use csp_model::Host;
 
 // Whether some literal's atom is that the host is this one.

@@ -6,8 +6,8 @@ ghost use Rattle.csp_model.specs.declared.check.CheckPart.TheVariants as part;
 ghost use Rattle.csp_pick.specs.Parts.{MeetPart, nonce_holds};
 ghost use Rattle.csp_pick.specs.Said.{nonce_of};
 
-use csp_atom::{Atom, Literal};
 use csp_cell::Cell;
+use csp_facts::{Atom, Literal};
 use csp_model::{Memory, Text};
 use std::alloc::Global;
 

@@ -4,8 +4,8 @@ ghost use Rattle.csp_model.specs.Validity.{IsValidHost};
 ghost use Rattle.csp_model.specs.declared.check.CheckPart.TheVariants as part;
 ghost use Rattle.csp_pick.specs.Parts.{MeetPart, host_holds};
 
-use csp_atom::Atom;
 use csp_cell::Cell;
+use csp_facts::Atom;
 use csp_model::{Duplicate, Host, Memory, Text};
 use std::alloc::Global;
 

@@ -9,8 +9,8 @@ ghost use Rattle.csp_pick.specs.Parts.{MeetPart, path_holds};
 ghost use Rattle.csp_pick.specs.Said.{front_of, last_piece_of, last_segment_of, path_of, segment_at_end};
 
 use crate::fresh::{fresh_text, is_among};
-use csp_atom::{Atom, Literal};
 use csp_cell::Cell;
+use csp_facts::{Atom, Literal};
 use csp_model::{Duplicate, Memory, Path};
 use memchr::memrchr;
 use std::alloc::Global;

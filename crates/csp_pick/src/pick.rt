@@ -4,16 +4,15 @@ ghost use Rattle.csp_cell.specs.Cells.{IsOf, Meets};
 ghost use Rattle.csp_model.specs.Fetch.{is_redirected};
 ghost use Rattle.csp_model.specs.Validity.{IsValidCheck};
 ghost use Rattle.csp_pick.specs.Picks.{AreOfVocabulary, LeavesPorts};
-ghost use Rattle.csp_shape.specs.Shapes.{HasShape, is_shape};
+ghost use Rattle.csp_facts.specs.Shapes.{HasShape, is_shape};
 
 use crate::digest::pick_digests;
 use crate::integrity::pick_integrity;
 use crate::nonce::pick_nonce;
 use crate::url::pick_url;
-use csp_atom::Vocabulary;
 use csp_cell::Cell;
+use csp_facts::{Shape, Vocabulary};
 use csp_model::{Check, Memory};
-use csp_shape::Shape;
 use std::alloc::Global;
 
 /// A valid check of the shape of which each literal of the cell is true, where the vocabulary has the hashes

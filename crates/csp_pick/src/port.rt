@@ -6,8 +6,8 @@ ghost use Rattle.csp_pick.specs.Parts.{MeetPart, port_holds};
 ghost use Rattle.csp_pick.specs.Picks.{LeavesPorts, port_limit};
 ghost use Rattle.csp_pick.specs.Said.{names_port, port_of};
 
-use csp_atom::{Atom, Literal};
 use csp_cell::Cell;
+use csp_facts::{Atom, Literal};
 use csp_model::Scheme;
 
 // The first number that is looked at where the default is denied.

@@ -9,8 +9,8 @@ ghost use Rattle.csp_pick.specs.Parts.{MeetPart, scheme_holds};
 ghost use Rattle.csp_pick.specs.Said.{scheme_of};
 
 use crate::fresh::{fresh_text, is_among};
-use csp_atom::{Atom, Literal};
 use csp_cell::Cell;
+use csp_facts::{Atom, Literal};
 use csp_model::{Duplicate, Memory, Text};
 use std::alloc::Global;
 

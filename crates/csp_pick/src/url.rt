@@ -6,7 +6,7 @@ ghost use Rattle.csp_model.specs.declared.check.CheckPart.TheVariants as part;
 ghost use Rattle.csp_pick.specs.Parts.{MeetPart, path_holds};
 ghost use Rattle.csp_pick.specs.Picks.{LeavesPorts};
 ghost use Rattle.csp_pick.specs.Urls.{MeetUrl};
-ghost use Rattle.csp_shape.specs.Shapes.{hosted_scheme};
+ghost use Rattle.csp_facts.specs.Shapes.{hosted_scheme};
 
 use crate::host::pick_host;
 use crate::path::pick_path;

@@ -10,3 +10,9 @@ pub mod ReadPolicies
 pub mod Readable
 pub mod Seen
 pub mod Shortened
+mod Determined
+mod LineEnds
+mod OneText
+mod Sound
+mod Telling
+mod Written

@@ -9,3 +9,7 @@ pub mod Reads
 pub mod Refusal
 pub mod Room
 pub mod Standings
+pub mod ReadingLaws
+pub mod ReadingLines
+pub mod Told
+pub mod Tokens

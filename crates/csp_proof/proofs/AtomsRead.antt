@@ -24,10 +24,10 @@ use Rattle.csp_model.specs.declared.url.Host.{Host}
 use Rattle.csp_model.specs.declared.url.Host.TheVariants.{Domain, Address}
 use Rattle.csp_url.specs.Reading.{host_of, address_of, found_path, whole_pieces}
 use Rattle.csp_url.proofs.PathText.{path_back}
-use Rattle.csp_atom.specs.Atoms.{IsValidAtom, IsValidPath, IsValidDigest}
-use Rattle.csp_atom.specs.declared.atom.Atom.{Atom}
-use Rattle.csp_atom.specs.declared.atom.Atom.TheVariants.{HostIs, HostUnder, HostDomain, PortIs, PathIs, PathUnder, SchemeIs, NonceIs, IntegrityHas, IntegrityOutside, DigestIs}
-use Rattle.csp_atom.proofs.SpelledHosts.{host_told}
+use Rattle.csp_facts.specs.Atoms.{IsValidAtom, IsValidPath, IsValidDigest}
+use Rattle.csp_facts.specs.declared.atom.Atom.{Atom}
+use Rattle.csp_facts.specs.declared.atom.Atom.TheVariants.{HostIs, HostUnder, HostDomain, PortIs, PathIs, PathUnder, SchemeIs, NonceIs, IntegrityHas, IntegrityOutside, DigestIs}
+use Rattle.csp_facts.proofs.SpelledHosts.{host_told}
 use Rattle.csp_proof.specs.Reading.{cut, number_below, domain_text, base64_text, unless_known, plain_scheme, hash_of, hash_in, digest_by, digest_in, bare_atom, atom_about, meant_by, meant_atom, where_spelled, atom_of}
 use Rattle.csp_proof.specs.Spelling.{atom_text}
 use Rattle.csp_proof.proofs.Numbers.{number_read, same_text, texts_equal}

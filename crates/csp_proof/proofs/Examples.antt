@@ -4,7 +4,7 @@ use Rattle.std.specs.Prelude.{codes, Some, None}
 use Rattle.std.specs.Fmt.{digits}
 use Rattle.csp_model.specs.declared.policy.PolicyList.{PolicyList}
 use Rattle.csp_model.specs.declared.url.Host.TheVariants.{Domain}
-use Rattle.csp_atom.specs.declared.atom.Atom.TheVariants.{HostIs, PortIs}
+use Rattle.csp_facts.specs.declared.atom.Atom.TheVariants.{HostIs, PortIs}
 use Rattle.csp_proof.specs.Accepts.{first_bad_node}
 use Rattle.csp_proof.specs.Spelling.{proof_text}
 use Rattle.csp_proof.specs.declared.proof.Body.TheVariants.{Nodes, Same}

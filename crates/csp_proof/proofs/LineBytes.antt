@@ -12,9 +12,9 @@ use Rattle.std.proofs.lemmas.List.Elements.{All-nil, All-cons, All-append, All-w
 use Rattle.std.proofs.lemmas.List.Sums.{AllPass-from_list_all}
 use Rattle.std.proofs.lemmas.Str.{IsUtf8-from_ascii}
 use Rattle.std.proofs.lemmas.Str.Parse.{digit_at}
-use Rattle.csp_atom.specs.Spelling.{is_visible}
-use Rattle.csp_atom.proofs.SpelledWords.{IsWord}
-use Rattle.csp_atom.proofs.Spelling.{words}
+use Rattle.csp_facts.specs.Spelling.{is_visible}
+use Rattle.csp_facts.proofs.SpelledWords.{IsWord}
+use Rattle.csp_facts.proofs.Spelling.{words}
 use Rattle.csp_proof.specs.Reading.{IsValidLine}
 use Rattle.csp_proof.specs.Spelling.{line_text}
 use Rattle.csp_proof.specs.declared.line.Line.{Line}

@@ -8,9 +8,9 @@ use Rattle.std.proofs.lemmas.Option.{IfSome_then, none-some, same_Some}
 use Rattle.std.proofs.lemmas.List.Elements.{All-get_or}
 use Rattle.std.proofs.lemmas.List.Sums.{AllPass-from_list_all}
 use Rattle.csp_model.specs.Policies.{policy_limit}
-use Rattle.csp_atom.specs.Spelling.{is_visible}
-use Rattle.csp_atom.proofs.SpelledWords.{IsWord, decimal_word}
-use Rattle.csp_shape.specs.Numbers.{shape_count}
+use Rattle.csp_facts.specs.Spelling.{is_visible}
+use Rattle.csp_facts.proofs.SpelledWords.{IsWord, decimal_word}
+use Rattle.csp_facts.specs.Numbers.{shape_count}
 use Rattle.csp_proof.specs.Reading.{cut, number_below, atom_of, format_named, tree_line, tree_of, bare_line, line_about, line_by, line_of, IsValidLine, IsReadAs}
 use Rattle.csp_proof.specs.Spelling.{line_text}
 use Rattle.csp_proof.specs.declared.line.Line.{Line}

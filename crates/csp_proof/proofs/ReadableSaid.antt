@@ -11,10 +11,10 @@ use Rattle.csp_model.specs.declared.policy.Directive.{Directive}
 use Rattle.csp_model.specs.declared.policy.Policy.{Policy}
 use Rattle.csp_model.specs.declared.policy.PolicyList.{PolicyList}
 use Rattle.csp_model.specs.declared.source.Hash.{Hash}
-use Rattle.csp_atom.specs.Vocabulary.{hash_of_source, hashes_of, vocabulary_hashes}
-use Rattle.csp_atom.proofs.VocabularyDistinct.{Contains-distinct}
-use Rattle.csp_shape.specs.Shapes.{HasShape}
-use Rattle.csp_shape.specs.declared.shape.Shape.{Shape}
+use Rattle.csp_facts.specs.Vocabulary.{hash_of_source, hashes_of, vocabulary_hashes}
+use Rattle.csp_facts.proofs.VocabularyDistinct.{Contains-distinct}
+use Rattle.csp_facts.specs.Shapes.{HasShape}
+use Rattle.csp_facts.specs.declared.shape.Shape.{Shape}
 use Rattle.csp_formula.specs.Compiled.{HasHashesOf, policy_sentence}
 use Rattle.csp_formula.specs.Values.{is_true_for}
 use Rattle.csp_proof.specs.Accepts.{IsSaid, AreSaid}

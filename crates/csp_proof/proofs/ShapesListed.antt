@@ -13,11 +13,11 @@ use Rattle.csp_model.specs.declared.check.InlineKind.{InlineKind}
 use Rattle.csp_model.specs.declared.check.InlineKind.TheVariants as inline
 use Rattle.csp_model.specs.declared.url.Scheme.{Scheme}
 use Rattle.csp_model.specs.declared.url.Scheme.TheVariants.{Http, Https, Ws, Wss, Ftp}
-use Rattle.csp_shape.specs.Numbers.{number, shape_count, group_number, scheme_number, url_number, inline_number, capability_number}
-use Rattle.csp_shape.specs.Shapes.{is_shape}
-use Rattle.csp_shape.specs.declared.shape.Shape.{Shape}
-use Rattle.csp_shape.specs.declared.shape.Shape.TheVariants as shape
-use Rattle.csp_shape.proofs.Apart.{one_shape}
+use Rattle.csp_facts.specs.Numbers.{number, shape_count, group_number, scheme_number, url_number, inline_number, capability_number}
+use Rattle.csp_facts.specs.Shapes.{is_shape}
+use Rattle.csp_facts.specs.declared.shape.Shape.{Shape}
+use Rattle.csp_facts.specs.declared.shape.Shape.TheVariants as shape
+use Rattle.csp_facts.proofs.Apart.{one_shape}
 use Rattle.csp_proof.specs.Pairs.{shapes}
 
 count : length shapes ≡ shape_count

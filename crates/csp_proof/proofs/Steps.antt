@@ -10,7 +10,7 @@ use Rattle.csp_proof.specs.Places.{closed, branches_behind, behind_node, is_seco
 use Rattle.csp_proof.specs.Reading.{IsValidLine}
 use Rattle.csp_proof.specs.Spelling.{tree_lines, body_lines}
 use Rattle.csp_proof.specs.WellFormed.{Cases, Splits, IsBlocked, IsMet, preorder, IsValidNode, IsPreorder, has_nodes, body_at, IsBody, IsTree, AreTrees}
-use Rattle.csp_atom.specs.declared.atom.Atom.{Atom}
+use Rattle.csp_facts.specs.declared.atom.Atom.{Atom}
 use Rattle.csp_proof.specs.declared.line.Line.{Line}
 use Rattle.csp_proof.specs.declared.line.Line.TheVariants as line
 use Rattle.csp_proof.specs.declared.place.Opened.{Opened}

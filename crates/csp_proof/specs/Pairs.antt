@@ -12,8 +12,8 @@ use Rattle.csp_model.specs.declared.check.InlineKind.TheVariants as inline
 use Rattle.csp_model.specs.declared.policy.PolicyList.{PolicyList}
 use Rattle.csp_model.specs.declared.url.Scheme.{Scheme}
 use Rattle.csp_model.specs.declared.url.Scheme.TheVariants.{Http, Https, Ws, Wss, Ftp}
-use Rattle.csp_shape.specs.declared.shape.Shape.{Shape}
-use Rattle.csp_shape.specs.declared.shape.Shape.TheVariants as shape
+use Rattle.csp_facts.specs.declared.shape.Shape.{Shape}
+use Rattle.csp_facts.specs.declared.shape.Shape.TheVariants as shape
 
 abbrev pub schemes : List (Option Scheme)
 schemes = Some Http ∷ Some Https ∷ Some Ws ∷ Some Wss ∷ Some Ftp ∷ None ∷ []

@@ -3,7 +3,7 @@
 use Rattle.std.specs.Prelude.{◌≡◌, ℕ, ◌+◌, ◌<◌, ◌&&◌, Bool, true, false, zero, suc, if◌then◌else◌, List, [], ◌∷◌, ◌++◌, length, map, Option, Some, None, option_and_then, All, ⊤, Result, Ok, Err}
 use Rattle.std.specs.List.{flat_map}
 use Rattle.csp_model.specs.Policies.{policy_limit}
-use Rattle.csp_shape.specs.Numbers.{shape_count}
+use Rattle.csp_facts.specs.Numbers.{shape_count}
 use Rattle.csp_proof.specs.Spelling.{line_text, tree_lines, proof_lines}
 use Rattle.csp_proof.specs.Reading.{IsValidLine}
 use Rattle.csp_proof.specs.declared.error.ProofError.{ProofError}

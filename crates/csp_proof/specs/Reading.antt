@@ -21,9 +21,9 @@ use Rattle.csp_model.specs.declared.url.Url.{Url}
 use Rattle.csp_model.specs.declared.url.Url.TheVariants as url
 use Rattle.csp_url.specs.declared.error.PartsError.{PartsError}
 use Rattle.csp_url.specs.Reading.{host_of, found_path}
-use Rattle.csp_atom.specs.declared.atom.Atom.{Atom}
-use Rattle.csp_atom.specs.declared.atom.Atom.TheVariants.{HostIs, HostUnder, HostDomain, PortIs, PathIs, PathUnder, SchemeIs, NonceIs, IntegrityHas, IntegrityOutside, DigestIs}
-use Rattle.csp_shape.specs.Numbers.{shape_count}
+use Rattle.csp_facts.specs.declared.atom.Atom.{Atom}
+use Rattle.csp_facts.specs.declared.atom.Atom.TheVariants.{HostIs, HostUnder, HostDomain, PortIs, PathIs, PathUnder, SchemeIs, NonceIs, IntegrityHas, IntegrityOutside, DigestIs}
+use Rattle.csp_facts.specs.Numbers.{shape_count}
 use Rattle.csp_proof.specs.Spelling.{atom_text, line_text}
 use Rattle.csp_proof.specs.WellFormed.{IsValidNode}
 use Rattle.csp_proof.specs.declared.line.Line.{Line}

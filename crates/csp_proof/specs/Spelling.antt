@@ -3,8 +3,8 @@
 use Rattle.std.specs.Prelude.{ℕ, List, [], ◌∷◌, ◌++◌, map, codes, decimal}
 use Rattle.std.specs.List.{flat_map, join_with_byte}
 use Rattle.csp_model.specs.Ascii.{code}
-use Rattle.csp_atom.specs.Spelling.{spelled}
-use Rattle.csp_atom.specs.declared.atom.Atom.{Atom}
+use Rattle.csp_facts.specs.Spelling.{spelled}
+use Rattle.csp_facts.specs.declared.atom.Atom.{Atom}
 use Rattle.csp_proof.specs.declared.line.Line.{Line}
 use Rattle.csp_proof.specs.declared.line.Line.TheVariants as line
 use Rattle.csp_proof.specs.declared.proof.Node.{Node}

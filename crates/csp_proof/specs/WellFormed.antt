@@ -2,9 +2,9 @@
 use Rattle.std.specs.Prelude.{◌≡◌, ℕ, ◌+◌, ◌<◌, ◌^◌, Bool, true, false, List, [], ◌∷◌, ◌++◌, length, Option, Some, None, All, IsTrue, ⊤, slice_get, option_map}
 use Rattle.std.specs.List.{flat_map}
 use Rattle.csp_model.specs.Policies.{policy_limit}
-use Rattle.csp_atom.specs.Atoms.{IsValidAtom}
-use Rattle.csp_atom.specs.declared.atom.Atom.{Atom}
-use Rattle.csp_shape.specs.Numbers.{shape_count}
+use Rattle.csp_facts.specs.Atoms.{IsValidAtom}
+use Rattle.csp_facts.specs.declared.atom.Atom.{Atom}
+use Rattle.csp_facts.specs.Numbers.{shape_count}
 use Rattle.csp_proof.specs.Spelling.{tree_lines}
 use Rattle.csp_proof.specs.declared.proof.Node.{Node}
 use Rattle.csp_proof.specs.declared.proof.Node.TheVariants as node

@@ -8,9 +8,8 @@ ghost use Rattle.csp_url.specs.Reading as url_spec;
 
 use crate::print::push_atom;
 use crate::words::{cut, number_below};
-use csp_atom::Atom;
-use csp_grammar::is_base64_value;
-use csp_model::{Algorithm, Digest, Hash, Host, Memory, Path, Text, Url};
+use csp_facts::Atom;
+use csp_model::{Algorithm, Digest, Hash, Host, Memory, Path, Text, Url, is_base64_value};
 use csp_url::{PartsError, url_from_parts};
 use hex::FromHex;
 use std::alloc::Global;

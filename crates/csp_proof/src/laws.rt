@@ -1,7 +1,7 @@
 //! Laws of proofs and their texts, each the contract of a function with no body.
 ghost use Rattle.std.specs.Prelude.{◌≡◌, ◌∷◌, [], List as Items, map, ℕ};
 ghost use Rattle.std.specs.List.{range_with_len};
-ghost use Rattle.csp_shape.specs.Numbers.{number, shape_count};
+ghost use Rattle.csp_facts.specs.Numbers.{number, shape_count};
 ghost use Rattle.csp_proof.specs.Pairs.{shapes};
 ghost use Rattle.csp_proof.specs.WellFormed.{Cases, preorder};
 ghost use Rattle.csp_model.specs.Inclusion.{Subsumes};

@@ -1,6 +1,6 @@
 //! The lines of a proof's text.
 ghost use Rattle.std.specs.Prelude.{◌≡◌, IfOk, Some, None};
-ghost use Rattle.csp_shape.specs.Numbers.{shape_count};
+ghost use Rattle.csp_facts.specs.Numbers.{shape_count};
 ghost use Rattle.csp_proof.specs.Reading as spec;
 
 use crate::atom::read_atom;

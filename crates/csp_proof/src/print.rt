@@ -10,7 +10,7 @@ ghost use Rattle.csp_proof.specs.declared.line.Line.TheVariants as line;
 ghost use Rattle.csp_proof.specs.WellFormed.{IsWellFormed};
 
 use crate::proof::{Body, Format, Node, Proof, Tree};
-use csp_atom::Atom;
+use csp_facts::Atom;
 use csp_model::{Algorithm, Bytes, Digest, Memory};
 use itoa::Buffer;
 use std::alloc::Global;

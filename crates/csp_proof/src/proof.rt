@@ -1,5 +1,5 @@
 //! Proofs that one list of policies is at least as strict as another.
-use csp_atom::Atom;
+use csp_facts::Atom;
 use csp_model::List;
 
 /// A step of a tree of cases.

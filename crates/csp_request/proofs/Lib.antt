@@ -7,3 +7,11 @@ pub mod OnlyCheck
 pub mod RequestTurns
 mod ReadOnce
 pub mod Parts
+mod CheckBack
+mod DigestsBack
+mod FileBack
+mod NamesBack
+mod PrintedJson
+mod PrintedText
+mod TextBack
+mod UrlBack

@@ -6,3 +6,4 @@ pub mod Kinds
 pub mod Described
 pub mod Requests
 pub mod Wanted
+pub mod Printed

@@ -4,7 +4,7 @@ ghost use Rattle.csp_run.specs.Readings.{told_output};
 
 use csp_model::Memory;
 use csp_output::{Built, Status};
-use csp_reading::reading;
+use csp_policy::reading;
 use std::alloc::Global;
 
 // How this header block is read.

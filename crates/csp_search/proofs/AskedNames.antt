@@ -10,10 +10,10 @@ use Rattle.std.proofs.lemmas.List.Sorted.{All-permutation, Contains-permutation}
 use Rattle.std.proofs.lemmas.Option.{slice_get_past}
 use Rattle.csp_model.specs.declared.policy.Policy.{Policy}
 use Rattle.csp_model.specs.declared.source.Hash.{Hash}
-use Rattle.csp_atom.specs.declared.atom.Atom.{Atom}
+use Rattle.csp_facts.specs.declared.atom.Atom.{Atom}
 use Rattle.csp_branch.specs.Groups.{atom_in}
-use Rattle.csp_shape.specs.Numbers.{number}
-use Rattle.csp_shape.specs.declared.shape.Shape.{Shape}
+use Rattle.csp_facts.specs.Numbers.{number}
+use Rattle.csp_facts.specs.declared.shape.Shape.{Shape}
 use Rattle.csp_formula.specs.Compiled.{policy_sentence}
 use Rattle.csp_formula.specs.Sentences.{Sentence}
 use Rattle.csp_formula.specs.Values.{atoms_in}

@@ -5,13 +5,13 @@ use Rattle.csp_model.specs.Policies.{IsReadable, IsReadablePolicy}
 use Rattle.csp_model.specs.declared.policy.Policy.{Policy}
 use Rattle.csp_model.specs.declared.policy.PolicyList.{PolicyList}
 use Rattle.csp_model.specs.declared.source.Hash.{Hash}
-use Rattle.csp_atom.specs.Atoms.{BelongsTo}
-use Rattle.csp_atom.specs.Vocabulary.{hashes_of, IsOfVocabulary}
-use Rattle.csp_atom.specs.declared.atom.Atom.{Atom}
-use Rattle.csp_atom.specs.declared.atom.Literal.{Literal}
-use Rattle.csp_atom.proofs.VocabularyDistinct.{Contains-distinct}
-use Rattle.csp_shape.specs.Shapes.{looks_at}
-use Rattle.csp_shape.specs.declared.shape.Shape.{Shape}
+use Rattle.csp_facts.specs.Atoms.{BelongsTo}
+use Rattle.csp_facts.specs.Vocabulary.{hashes_of, IsOfVocabulary}
+use Rattle.csp_facts.specs.declared.atom.Atom.{Atom}
+use Rattle.csp_facts.specs.declared.atom.Literal.{Literal}
+use Rattle.csp_facts.proofs.VocabularyDistinct.{Contains-distinct}
+use Rattle.csp_facts.specs.Shapes.{looks_at}
+use Rattle.csp_facts.specs.declared.shape.Shape.{Shape}
 use Rattle.csp_formula.specs.Belonging.{IsAtomAt}
 use Rattle.csp_formula.specs.Compiled.{HasHashesOf, policy_sentence}
 use Rattle.csp_formula.specs.Sentences.{Sentence}

@@ -5,7 +5,7 @@ use Rattle.std.proofs.lemmas.Bool.{cases_lt}
 use Rattle.std.proofs.lemmas.Option.{slice_get_past}
 use Rattle.csp_model.specs.Policies.{policy_limit}
 use Rattle.csp_model.specs.declared.policy.Policy.{Policy}
-use Rattle.csp_atom.specs.declared.atom.Literal.{Literal}
+use Rattle.csp_facts.specs.declared.atom.Literal.{Literal}
 use Rattle.csp_proof.specs.Accepts.{Lists, blocks, hashes_in, policy_is}
 use Rattle.csp_proof.specs.Pairs.{Pair}
 use Rattle.csp_proof.specs.declared.proof.Node.TheVariants.{Blocked}

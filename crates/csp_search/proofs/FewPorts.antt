@@ -15,8 +15,8 @@ use Rattle.csp_model.specs.declared.policy.Directive.{Directive}
 use Rattle.csp_model.specs.declared.policy.Policy.{Policy}
 use Rattle.csp_model.specs.declared.policy.PolicyList.{PolicyList}
 use Rattle.csp_model.specs.declared.source.Hash.{Hash}
-use Rattle.csp_shape.specs.declared.shape.Shape.{Shape}
-use Rattle.csp_shape.specs.declared.shape.Shape.TheVariants as shape
+use Rattle.csp_facts.specs.declared.shape.Shape.{Shape}
+use Rattle.csp_facts.specs.declared.shape.Shape.TheVariants as shape
 use Rattle.csp_formula.specs.Compiled.{fetch_sentence, inline_sentence, said_by, listed_sentence, policy_sentence}
 use Rattle.csp_formula.specs.Sentences.{Sentence}
 use Rattle.csp_formula.specs.Sources.{list_sentence}

@@ -4,11 +4,11 @@ use Rattle.std.proofs.lemmas.List.{get_or_default, take_more}
 use Rattle.std.proofs.lemmas.List.Elements.{All-push, All-weaker, Contains-append_left, Contains-push}
 use Rattle.std.proofs.lemmas.Option.{slice_get_within, get_or_from_slice_get, slice_get-get_or, slice_get-map}
 use Rattle.std.specs.Option.{option_map}
-use Rattle.csp_atom.specs.Follows.{decided, follows, or_else}
-use Rattle.csp_atom.specs.Holding.{is_true_of}
-use Rattle.csp_atom.specs.declared.atom.Atom.{Atom}
-use Rattle.csp_atom.specs.declared.atom.Atom.TheVariants.{HostDomain}
-use Rattle.csp_atom.specs.declared.atom.Literal.{Literal}
+use Rattle.csp_facts.specs.Follows.{decided, follows, or_else}
+use Rattle.csp_facts.specs.Holding.{is_true_of}
+use Rattle.csp_facts.specs.declared.atom.Atom.{Atom}
+use Rattle.csp_facts.specs.declared.atom.Atom.TheVariants.{HostDomain}
+use Rattle.csp_facts.specs.declared.atom.Literal.{Literal}
 use Rattle.csp_branch.specs.Groups.{atom_in}
 use Rattle.csp_branch.specs.Paths.{literal_of}
 use Rattle.csp_branch.specs.declared.branch.Change.{Change}
@@ -17,7 +17,7 @@ use Rattle.csp_cell.specs.Cells.{Region, Takes}
 use Rattle.csp_cell.proofs.Splitting.{meets}
 use Rattle.csp_cell.proofs.Taking.{all_taken}
 use Rattle.csp_proof.specs.Accepts.{literal}
-use Rattle.csp_shape.specs.declared.shape.Shape.{Shape}
+use Rattle.csp_facts.specs.declared.shape.Shape.{Shape}
 use Rattle.csp_search.specs.Branches.{IsCellOf, IsFresh}
 
 -- each literal is on an atom that those before it leave open

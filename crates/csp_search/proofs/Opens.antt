@@ -1,9 +1,9 @@
 -- Open atoms: a split by one of them leaves fewer, so that a search ends.
 use Rattle.std.proofs.Common.{◌≡◌, ◌≢◌, ℕ, zero, suc, ◌+◌, ◌<◌, ◌≤◌, Bool, true, false, refl, List, [], ◌∷◌, ◌++◌, length, Option, Some, None, arith}
-use Rattle.csp_atom.specs.Follows.{follows, decided, or_else}
-use Rattle.csp_atom.specs.declared.atom.Atom.{Atom}
-use Rattle.csp_atom.specs.declared.atom.Literal.{Literal}
-use Rattle.csp_atom.proofs.Own.{own}
+use Rattle.csp_facts.specs.Follows.{follows, decided, or_else}
+use Rattle.csp_facts.specs.declared.atom.Atom.{Atom}
+use Rattle.csp_facts.specs.declared.atom.Literal.{Literal}
+use Rattle.csp_facts.proofs.Own.{own}
 use Rattle.csp_branch.specs.Groups.{atom_in}
 use Rattle.csp_branch.specs.Walks.{with}
 use Rattle.csp_branch.proofs.Telling.{path_more}

@@ -31,10 +31,10 @@ use Rattle.csp_model.specs.declared.url.Host.TheVariants.{Domain, Address}
 use Rattle.csp_model.specs.declared.url.Origin.{Origin}
 use Rattle.csp_model.specs.declared.url.Origin.TheVariants as origin
 use Rattle.csp_model.specs.declared.url.Scheme.{Scheme}
-use Rattle.csp_atom.specs.Vocabulary.{hash_of_source}
-use Rattle.csp_atom.specs.declared.atom.Atom.{Atom}
-use Rattle.csp_atom.specs.declared.atom.Atom.TheVariants.{HostIs, HostUnder, PathIs, PathUnder, PortIs, SchemeIs, DigestIs}
-use Rattle.csp_shape.specs.declared.shape.Shape.{Shape}
+use Rattle.csp_facts.specs.Vocabulary.{hash_of_source}
+use Rattle.csp_facts.specs.declared.atom.Atom.{Atom}
+use Rattle.csp_facts.specs.declared.atom.Atom.TheVariants.{HostIs, HostUnder, PathIs, PathUnder, PortIs, SchemeIs, DigestIs}
+use Rattle.csp_facts.specs.declared.shape.Shape.{Shape}
 use Rattle.csp_formula.specs.Compiled.{nonces_sentence, has_pair, pairs_sentence, other_hashes, integrity_sentence, digest_of, digest_fact, digests_sentence, dynamic_sentence, fetch_sentence, only_where, inline_sentence, said_by}
 use Rattle.csp_formula.specs.Sentences.{Sentence, Known, Fact, Not, Both, Either, all_of, any_of}
 use Rattle.csp_formula.specs.Sources.{host_sentence, port_sentence, path_sentence, path_fact, has_dots, star_sentence, scheme_sentence, host_source_sentence, own_port_sentence, self_sentence, source_sentence, list_sentence, shape_scheme, after_redirect, is_ancestor}

@@ -7,9 +7,9 @@ use Rattle.csp_model.specs.Validity.{IsValidCheck}
 use Rattle.csp_model.specs.Verdict.{is_enforce}
 use Rattle.csp_model.specs.declared.check.Check.{Check}
 use Rattle.csp_model.specs.declared.policy.Policy.{Policy}
-use Rattle.csp_atom.specs.declared.atom.Literal.{Literal}
+use Rattle.csp_facts.specs.declared.atom.Literal.{Literal}
 use Rattle.csp_cell.specs.Cells.{Meets}
-use Rattle.csp_shape.specs.Shapes.{HasShape}
+use Rattle.csp_facts.specs.Shapes.{HasShape}
 use Rattle.csp_formula.specs.Compiled.{policy_sentence}
 use Rattle.csp_formula.specs.Surely.{surely}
 use Rattle.csp_formula.specs.Values.{is_true_for}

@@ -1,10 +1,10 @@
 -- Trees for branches, and the nodes that begin a tree that keeps all rules.
 use Rattle.std.proofs.Common.{◌≡◌, ℕ, ◌+◌, ◌<◌, Bool, true, false, refl, sym, subst, List, [], ◌∷◌, ◌++◌, length, length-append, None, arith, ◌∙◌, append_assoc, append-nil, All, Contains}
 use Rattle.std.proofs.lemmas.List.Elements.{All-nil, All-push}
-use Rattle.csp_atom.specs.Atoms.{IsValidAtom}
-use Rattle.csp_atom.specs.Follows.{decided}
-use Rattle.csp_atom.specs.declared.atom.Atom.{Atom}
-use Rattle.csp_atom.specs.declared.atom.Literal.{Literal}
+use Rattle.csp_facts.specs.Atoms.{IsValidAtom}
+use Rattle.csp_facts.specs.Follows.{decided}
+use Rattle.csp_facts.specs.declared.atom.Atom.{Atom}
+use Rattle.csp_facts.specs.declared.atom.Literal.{Literal}
 use Rattle.csp_branch.specs.Groups.{atom_in}
 use Rattle.csp_branch.specs.Walks.{with}
 use Rattle.csp_proof.specs.Accepts.{Lists, bad_case, blocks, is_met, literal}

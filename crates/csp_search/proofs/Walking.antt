@@ -1,9 +1,9 @@
 -- What a walk of a tree keeps, from branch to branch.
 use Rattle.std.proofs.Common.{◌≡◌, ◌∙◌, refl, ap, subst, sym, ℕ, ◌<◌, true, List, [], ◌∷◌, ◌++◌, All}
-use Rattle.csp_atom.specs.Atoms.{IsValidAtom}
-use Rattle.csp_atom.specs.declared.atom.Atom.{Atom}
-use Rattle.csp_atom.specs.declared.atom.Atom.TheVariants.{HostDomain}
-use Rattle.csp_atom.specs.declared.atom.Literal.{Literal}
+use Rattle.csp_facts.specs.Atoms.{IsValidAtom}
+use Rattle.csp_facts.specs.declared.atom.Atom.{Atom}
+use Rattle.csp_facts.specs.declared.atom.Atom.TheVariants.{HostDomain}
+use Rattle.csp_facts.specs.declared.atom.Literal.{Literal}
 use Rattle.csp_branch.specs.Groups.{atom_in}
 use Rattle.csp_branch.specs.Walks.{Position, at_root, pending, with}
 use Rattle.csp_branch.proofs.Pending.{taken_true}

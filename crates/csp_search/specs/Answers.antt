@@ -9,7 +9,7 @@ use Rattle.csp_proof.specs.Pairs.{Pair}
 use Rattle.csp_proof.specs.WellFormed.{Cases, preorder, IsValidNode}
 use Rattle.csp_proof.specs.declared.proof.Node.{Node}
 use Rattle.csp_model.specs.declared.check.Check.{Check}
-use Rattle.csp_shape.specs.Shapes.{HasShape}
+use Rattle.csp_facts.specs.Shapes.{HasShape}
 use Rattle.csp_search.specs.declared.searching.Found.{Found}
 use Rattle.csp_search.specs.declared.searching.Found.TheVariants as found
 

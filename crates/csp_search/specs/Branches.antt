@@ -2,11 +2,11 @@
 use Rattle.std.specs.Prelude.{◌≡◌, ℕ, ◌+◌, ◌≤◌, Bool, List, [], ◌∷◌, ◌++◌, length, Option, Some, None, All, Contains, ⊤}
 use Rattle.csp_model.specs.declared.check.Check.{Check}
 use Rattle.csp_model.specs.declared.source.Hash.{Hash}
-use Rattle.csp_atom.specs.Follows.{decided}
-use Rattle.csp_atom.specs.declared.atom.Atom.{Atom}
-use Rattle.csp_atom.specs.declared.atom.Literal.{Literal}
+use Rattle.csp_facts.specs.Follows.{decided}
+use Rattle.csp_facts.specs.declared.atom.Atom.{Atom}
+use Rattle.csp_facts.specs.declared.atom.Literal.{Literal}
 use Rattle.csp_cell.specs.Cells.{Meets, Region}
-use Rattle.csp_shape.specs.declared.shape.Shape.{Shape}
+use Rattle.csp_facts.specs.declared.shape.Shape.{Shape}
 
 -- how many of the atoms are open
 abbrev pub is_open : Option Bool → ℕ

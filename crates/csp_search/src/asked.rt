@@ -1,14 +1,14 @@
 //! What a question asks for.
 ghost use Rattle.std.specs.Prelude.{◌≡◌, ◌++◌, IfOk, List as Items, OnOk, option_copied};
-ghost use Rattle.csp_atom.specs.declared.atom.Atom.{Atom as AtomValue};
+ghost use Rattle.csp_facts.specs.declared.atom.Atom.{Atom as AtomValue};
 ghost use Rattle.csp_search.specs.Asking as spec;
 ghost use Rattle.csp_search.specs.Questions.{IsPosed};
 
 use crate::searching::Question;
 use csp_answer::laws::an_answer_speaks_of_its_names;
 use csp_answer::{Answer, PolicyAnswers};
+use csp_facts::{Shape, shape_number};
 use csp_model::{Disposition, Memory, Policy};
-use csp_shape::{Shape, shape_number};
 use std::alloc::Global;
 
 // A question, and the names that the answers of its enforced policies have, each once.

@@ -1,8 +1,8 @@
 //! The widest conjunctions of a policy.
 use crate::view::View;
 use csp_answer::{Answer, Conjunction, Ground};
+use csp_branch::Names;
 use csp_model::{CheckPart, Memory};
-use csp_names::Names;
 use std::alloc::Global;
 
 // An answer, and its conjunctions with a host by port, path and host. Of these one is left out whose host

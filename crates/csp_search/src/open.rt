@@ -1,8 +1,8 @@
 //! A check of a branch that no leaf may end.
 ghost use Rattle.std.specs.Prelude.{◌≡◌, ◌≢◌, [], All, IfOk, IfSome, None, OnOk, length, take};
-ghost use Rattle.csp_atom.specs.Atoms.{BelongsTo};
-ghost use Rattle.csp_atom.specs.Follows.{decided};
-ghost use Rattle.csp_atom.specs.declared.atom.Literal.{Literal as LiteralValue};
+ghost use Rattle.csp_facts.specs.Atoms.{BelongsTo};
+ghost use Rattle.csp_facts.specs.Follows.{decided};
+ghost use Rattle.csp_facts.specs.declared.atom.Literal.{Literal as LiteralValue};
 ghost use Rattle.csp_branch.specs.Groups.{atom_in};
 ghost use Rattle.csp_branch.specs.Walks.{at_root};
 ghost use Rattle.csp_search.specs.Answers.{ShowsNone};
@@ -10,20 +10,20 @@ ghost use Rattle.csp_search.specs.Asking.{IsAsked, StandsOn};
 ghost use Rattle.csp_search.specs.Branches.{IsBranch, IsCellOf, IsFresh};
 ghost use Rattle.csp_search.specs.Leaves.{HasNoLeaf};
 ghost use Rattle.csp_search.specs.Questions.{asked_atoms, lists_of, pair_of};
-ghost use Rattle.csp_shape.specs.Shapes.{looks_at};
+ghost use Rattle.csp_facts.specs.Shapes.{looks_at};
 
 use crate::asked::Asked;
 use crate::leaf::leaf_of;
 use csp_answer::laws::an_answer_speaks_of_its_names;
 use csp_branch::Walker;
 use csp_cell::Cell;
+use csp_facts::Shape;
 use csp_formula::laws::{
     a_formula_is_what_the_policy_allows, literals_that_decide_each_atom_decide_a_sentence,
     the_atoms_of_a_formula_are_of_its_shape,
 };
 use csp_model::{Check, Memory};
 use csp_pick::representative;
-use csp_shape::Shape;
 use std::alloc::Global;
 
 // A check of the branch on which no open name holds, if the first list allows it and the policy of the

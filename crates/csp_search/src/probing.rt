@@ -11,10 +11,9 @@ use crate::searching::Question;
 use crate::step::is_open;
 use crate::view::{View, names_in};
 use csp_answer::{Answer, Conjunction};
-use csp_atom::Atom;
 use csp_branch::{Branch, Walker};
+use csp_facts::{Atom, Shape};
 use csp_model::{Check, Memory};
-use csp_shape::Shape;
 use std::alloc::Global;
 
 /// A valid check of the shape that the first list allows and the policy doesn't, if there is one on a branch

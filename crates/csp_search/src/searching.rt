@@ -6,11 +6,10 @@ ghost use Rattle.csp_search.specs.Questions.{IsPosed, lists_of, pair_of};
 use crate::asked::{Asked, asked_names};
 use crate::tree::find_tree;
 use csp_answer::AnswerTable;
-use csp_atom::Vocabulary;
 use csp_branch::Walker;
+use csp_facts::{Shape, Vocabulary};
 use csp_model::{Check, List, Memory, PolicyList};
 use csp_proof::Node;
-use csp_shape::Shape;
 use std::alloc::Global;
 
 /// Whether a policy of the second list allows all checks of a shape that the first list allows.

@@ -1,6 +1,6 @@
 //! How a search goes on from a branch.
 ghost use Rattle.std.specs.Prelude.{◌≡◌, ◌≢◌, All, IfOk, IfSome, MatchOption, None, OnOk, true};
-ghost use Rattle.csp_atom.specs.Follows.{decided};
+ghost use Rattle.csp_facts.specs.Follows.{decided};
 ghost use Rattle.csp_branch.specs.Groups.{atom_in};
 ghost use Rattle.csp_search.specs.Asking.{IsAsked, IsOpenName, StandsOn};
 ghost use Rattle.csp_search.specs.Branches.{IsBranch};

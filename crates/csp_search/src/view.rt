@@ -3,9 +3,8 @@ ghost use Rattle.std.specs.Prelude.{◌<◌, IfSome};
 
 use crate::searching::Question;
 use csp_answer::Conjunction;
-use csp_branch::Branch;
+use csp_branch::{Branch, part_number};
 use csp_model::{CheckPart, Memory};
-use csp_names::part_number;
 use std::alloc::Global;
 
 // A branch of a question, and the pair of integrity metadata that was last said to hold. A check may have

@@ -7,8 +7,7 @@ ghost use Rattle.csp_model.specs.Ascii.{code, is_ascii_text, lower, ends_in, wit
 ghost use Rattle.csp_model.specs.Grammar as grammar;
 ghost use Rattle.csp_model.specs.Reading as spec;
 
-use csp_grammar::is_base64_value;
-use csp_model::{Algorithm, Hash, Keyword, Memory, Source, Text};
+use csp_model::{Algorithm, Hash, Keyword, Memory, Source, Text, is_base64_value};
 use std::alloc::Global;
 
 // The keyword in lower case.

@@ -1,6 +1,6 @@
-//! Tests of csp_atom.
+//! Tests of csp_facts.
 use crate::values::{are_hashes, fetch, hash, inline_style, is_copied, policies};
-use csp_atom::{Atom, Literal, Vocabulary, follows, holds, vocabulary_of};
+use csp_facts::{Atom, Literal, Vocabulary, follows, holds, vocabulary_of};
 use csp_model::{Algorithm, Check, Digest, Group, Host, List, Memory, Path, Text};
 use csp_url::read_url;
 use std::alloc::Global;

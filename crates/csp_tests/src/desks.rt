@@ -1,13 +1,12 @@
-//! Tests of csp_violation and csp_desk.
+//! Tests of csp_desk.
 ghost use Rattle.std.specs.Prelude.{◌≡◌, ◌≤◌, ◌∷◌, ◌++◌, [], true, OnOk, OnErr, IfOk, IsErrOf};
 ghost use Rattle.csp_desk.specs.declared.reporter.Kind.TheVariants as kinds;
 
 use csp_desk::{
     AcceptError, DeskError, FailingLines, Kind, Lines, Recent, Reporter, Tally, Telling, hand_out,
-    sections_of, text_of,
+    push_report, report_json, sections_of, text_of,
 };
 use csp_model::{Bytes, Disposition, Duplicate, List, Memory, Name, Text, Violation};
-use csp_violation::{push_report, report_json};
 use std::alloc::Global;
 use std::test::Fail;
 

@@ -1,5 +1,5 @@
-//! Tests of the public calls below `csp_verdict`: worked examples and the vectors of the standards as tables,
-//! each call once with memory enough.
+//! Tests of the public calls below `csp_verdict`, and of `csp_why`: worked examples and the vectors of the standards
+//! as tables, each call once with memory enough.
 //!
 //! Nothing stands on this crate. What a proved clause says of every input is not tested again.
 //! A value of many cases is let go by `drop`, since its end is dear to prove where it stands.
@@ -17,6 +17,8 @@ mod model;
 mod policies;
 #[cfg(test)]
 mod readings;
+#[cfg(test)]
+mod reasons;
 #[cfg(test)]
 mod shapes;
 #[cfg(test)]

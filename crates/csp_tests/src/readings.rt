@@ -1,5 +1,5 @@
-//! Tests of csp_reading.
-use csp_reading::reading;
+//! Tests of what csp_policy tells of a reading.
+use csp_policy::reading;
 use std::test::Fail;
 
 const BLOCK: &[u8] = b"Content-Security-Policy: img-src caf\xe9; object-src *";

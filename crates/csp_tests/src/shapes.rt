@@ -1,7 +1,7 @@
-//! Tests of csp_shape.
+//! Tests of the shapes of csp_facts.
 use crate::values::fetch;
+use csp_facts::{Shape, shape_at, shape_number, shape_of};
 use csp_model::{Capability, Group, InlineKind, Scheme};
-use csp_shape::{Shape, shape_at, shape_number, shape_of};
 use std::test::Fail;
 
 const OF_FETCHES: [(Group, &str, u32, bool, u8); 6] = [

@@ -3,8 +3,7 @@ ghost use Rattle.std.specs.Prelude.{◌≡◌, IfOk, option_and_then};
 ghost use Rattle.url.specs.Parts.{nonempty_host};
 ghost use Rattle.csp_url.specs.Reading as spec;
 
-use csp_grammar::{is_address, is_domain};
-use csp_model::{Host, Memory, Text};
+use csp_model::{Host, Memory, Text, is_address, is_domain};
 use std::alloc::Global;
 
 // The domain that a text is.

@@ -7,8 +7,7 @@ ghost use Rattle.csp_url.specs.Parts as spec;
 use crate::error::{Part, PartsError};
 use crate::host::host_of;
 use crate::path::found_path;
-use csp_grammar::is_lower_scheme;
-use csp_model::{Host, Memory, Scheme, Text, Url};
+use csp_model::{Host, Memory, Scheme, Text, Url, is_lower_scheme};
 use std::alloc::Global;
 
 // The host that is given; it has to be.

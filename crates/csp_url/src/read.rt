@@ -7,8 +7,7 @@ ghost use Rattle.csp_url.specs.Reading as spec;
 use crate::error::UrlError;
 use crate::host::found_host;
 use crate::path::found_path;
-use csp_grammar::is_lower_scheme;
-use csp_model::{Memory, Scheme, Text, Url};
+use csp_model::{Memory, Scheme, Text, Url, is_lower_scheme};
 use std::alloc::Global;
 use url::ParseError;
 

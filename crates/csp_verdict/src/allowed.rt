@@ -6,12 +6,10 @@ ghost use Rattle.csp_model.specs.DecideVerdict as tests;
 ghost use Rattle.csp_model.specs.Verdict as spec;
 ghost use Rattle.csp_model.specs.Verdict.{Allows};
 
-use csp_fetch::fetch_allows;
-use csp_inline::{eval_allows, inline_allows, wasm_allows};
 use csp_model::{Check, Disposition, Policy, PolicyList};
-use csp_nav::{
-    ancestor_allows, base_allows, capability_allows, form_allows, opaque_ancestor_allows,
-    worker_start_allows,
+use csp_rules::{
+    ancestor_allows, base_allows, capability_allows, eval_allows, fetch_allows, form_allows,
+    inline_allows, opaque_ancestor_allows, wasm_allows, worker_start_allows,
 };
 
 /// Whether a policy allows a check, whatever its disposition. Only a `sandbox` that isn't enforced allows

@@ -12,12 +12,13 @@ ghost use Rattle.csp_verdict.specs.Governed.{governed_allows};
 use crate::compiled_directive::CompiledDirective;
 use crate::item::{Judge, effective_name};
 use crate::violation::has_sample;
-use csp_fetch::decided_by_tokens;
-use csp_inline::{governed_eval_allows, governed_inline_allows, governed_wasm_allows};
 use csp_match::{Candidates, names};
 use csp_model::{Capability, Check, Duplicate, Item, Keyword, Memory, Name, Policy, Text};
-use csp_nav::{capability_allows, worker_start_allows};
 use csp_policy::policy_text;
+use csp_rules::{
+    capability_allows, decided_by_tokens, governed_eval_allows, governed_inline_allows,
+    governed_wasm_allows, worker_start_allows,
+};
 use std::alloc::{AllocError, Global};
 use std::marker::Model;
 

@@ -12,13 +12,12 @@ ghost use Rattle.csp_why.specs.Allowances as spec;
 ghost use Rattle.csp_why.specs.declared.reason.Rule.TheVariants as rules;
 
 use crate::reason::{Allowance, Rule};
-use csp_inline::is_element_kind;
 use csp_match::{Governor, source_matches};
 use csp_model::{
     Capability, Check, Digests, FetchRule, Hash, InlineKind, Keyword, List, Origin, Source, Text,
     Url,
 };
-use csp_nav::token_grants;
+use csp_rules::{is_element_kind, token_grants};
 use csp_token::{has_keyword, integrity_matches, is_hash, is_hash_of, is_keyword, is_nonce};
 
 // The first rule by which what governs allows a check, with its first token. `counts` says that nothing

@@ -4,8 +4,8 @@ ghost use Rattle.std.specs.List.{list_any};
 ghost use Rattle.csp_why.specs.Displacement as spec;
 
 use crate::reason::Word;
-use csp_inline::is_script_kind;
 use csp_model::{Check, FetchRule, Keyword, List, Name, Source};
+use csp_rules::is_script_kind;
 use csp_token::has_keyword;
 
 // What takes the place of source expressions, or of `'unsafe-inline'`, in a directive that governs under

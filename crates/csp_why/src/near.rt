@@ -11,7 +11,7 @@ use csp_model::{
     Capability, Check, Digests, Duplicate, FetchRule, Hash, Host, HostPart, Keyword, List, Memory,
     Name, Origin, PathPart, PortPart, Scheme, Source, Text, Url,
 };
-use csp_nav::token_grants;
+use csp_rules::token_grants;
 use csp_token::{is_hash_of, is_keyword};
 use std::alloc::Global;
 

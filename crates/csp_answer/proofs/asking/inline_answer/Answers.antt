@@ -3,7 +3,7 @@ use Rattle.std.proofs.lemmas.Bool.{cond-false, cond-true}
 use Rattle.std.proofs.lemmas.Result.{IfOk-weaker}
 use Rattle.csp_model.specs.DecideInline.{allows_all_inline, hash_counts}
 use Rattle.csp_model.specs.Inline.{is_element_kind}
-use Rattle.csp_atom.specs.declared.atom.Atom.{Atom}
+use Rattle.csp_facts.specs.declared.atom.Atom.{Atom}
 use Rattle.csp_formula.specs.Compiled.{digests_sentence, nonces_sentence, only_where}
 use Rattle.csp_formula.specs.Sentences.{Known, any_of}
 use Rattle.csp_answer.specs.Asking.{AmountTo, Answers, IsListNamed}

@@ -1,7 +1,7 @@
 use Rattle.std.proofs.Common.{◌∙◌, sym, ap, [], ◌∷◌}
 use Rattle.std.proofs.lemmas.Result.{IfOk-weaker}
 use Rattle.csp_model.specs.declared.check.FetchRule.{FetchRule}
-use Rattle.csp_shape.specs.declared.shape.Shape.{Shape}
+use Rattle.csp_facts.specs.declared.shape.Shape.{Shape}
 use Rattle.csp_formula.specs.Compiled.{fetch_sentence, nonces_sentence}
 use Rattle.csp_formula.specs.Questions.{shape_asked}
 use Rattle.csp_formula.specs.Sentences.{any_of}

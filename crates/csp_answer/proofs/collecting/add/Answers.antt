@@ -1,6 +1,6 @@
 use Rattle.std.proofs.Common.{sym, subst, ℕ, List, [], ◌∷◌, ◌++◌}
-use Rattle.csp_atom.specs.declared.atom.Atom.{Atom}
-use Rattle.csp_names.specs.Sorting.{StandsAt}
+use Rattle.csp_facts.specs.declared.atom.Atom.{Atom}
+use Rattle.csp_branch.specs.Sorting.{StandsAt}
 use Rattle.csp_answer.specs.Collecting.{Adds}
 use Rattle.csp_answer.proofs.Collected.{adds_one, last_stands}
 use Rattle.csp_answer.proofs.collecting.add.Goals as goal

@@ -1,7 +1,7 @@
 use Rattle.std.proofs.Common.{◌∙◌, ap, ℕ, Some}
 use Rattle.csp_model.specs.Schemes.{default_port}
 use Rattle.csp_model.specs.declared.url.Scheme.TheVariants.{Http, Https, Ftp}
-use Rattle.csp_atom.specs.declared.atom.Atom.TheVariants.{PortIs}
+use Rattle.csp_facts.specs.declared.atom.Atom.TheVariants.{PortIs}
 use Rattle.csp_answer.proofs.Collected.{adds_both, contained, all_default_ports}
 use Rattle.csp_answer.proofs.collecting.add_default_ports.Goals as goal
 

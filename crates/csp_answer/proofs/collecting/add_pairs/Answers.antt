@@ -1,8 +1,8 @@
 use Rattle.std.proofs.Common.{◌≡◌, ◌+◌, sym, subst, ℕ, List, Some, map, take}
 use Rattle.std.specs.Prelude.{slice_get}
 use Rattle.csp_model.specs.declared.source.Hash.{Hash}
-use Rattle.csp_atom.specs.declared.atom.Atom.TheVariants.{IntegrityHas, IntegrityOutside}
-use Rattle.csp_names.specs.Sorting.{StandsAt}
+use Rattle.csp_facts.specs.declared.atom.Atom.TheVariants.{IntegrityHas, IntegrityOutside}
+use Rattle.csp_branch.specs.Sorting.{StandsAt}
 use Rattle.csp_answer.proofs.Collected.{adds_both, one_pair}
 use Rattle.csp_answer.proofs.collecting.add_pairs.Goals as goal
 

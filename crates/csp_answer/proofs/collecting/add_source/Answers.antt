@@ -1,6 +1,6 @@
 use Rattle.std.proofs.Common.{◌∙◌, ap, ap₂, Some, Option}
 use Rattle.std.specs.Option.{option_map}
-use Rattle.csp_atom.specs.declared.atom.Atom.{Atom}
+use Rattle.csp_facts.specs.declared.atom.Atom.{Atom}
 use Rattle.csp_answer.specs.Naming.{lead_atom}
 use Rattle.csp_answer.proofs.Collected.{adds_both, contains_kept, spot_kept, port_too}
 use Rattle.csp_answer.proofs.collecting.add_source.Goals as goal

@@ -3,7 +3,7 @@ use Rattle.std.proofs.lemmas.List.Elements.{All-nil}
 use Rattle.csp_model.specs.Policies.{IsReadablePolicy}
 use Rattle.csp_model.specs.declared.policy.Policy.{Policy}
 use Rattle.csp_model.specs.declared.source.Hash.{Hash}
-use Rattle.csp_atom.specs.Atoms.{IsValidAtom}
+use Rattle.csp_facts.specs.Atoms.{IsValidAtom}
 use Rattle.csp_formula.specs.Belonging.{HasBase64Values}
 use Rattle.csp_answer.specs.Collecting.{ArePoliciesPlaced}
 use Rattle.csp_answer.specs.Naming.{ArePairs}

@@ -1,11 +1,11 @@
 use Rattle.std.proofs.Common.{◌≡◌, ◌∙◌, sym, ap, refl, ◌<◌, ◌+◌, ℕ, List, length, get_or, Some, of_calls, rules}
 use Rattle.std.proofs.lemmas.List.{get_or_read_under}
-use Rattle.csp_atom.specs.Atoms.{part_of}
-use Rattle.csp_atom.specs.declared.atom.Atom.{Atom}
-use Rattle.csp_atom.specs.declared.atom.Atom.TheVariants.{HostDomain}
+use Rattle.csp_facts.specs.Atoms.{part_of}
+use Rattle.csp_facts.specs.declared.atom.Atom.{Atom}
+use Rattle.csp_facts.specs.declared.atom.Atom.TheVariants.{HostDomain}
 use Rattle.csp_branch.specs.Groups.{atom_in}
-use Rattle.csp_names.specs.Numbers.{AreInOrder}
-use Rattle.csp_names.specs.Order.{number_of}
+use Rattle.csp_branch.specs.Numbers.{AreInOrder}
+use Rattle.csp_branch.specs.Order.{number_of}
 use Rattle.csp_answer.proofs.Parts.{finds_placed, on_its_part, part_first, part_last}
 use Rattle.csp_answer.proofs.deciding.+led_from.Goals as goal
 

@@ -1,6 +1,6 @@
 use Rattle.std.proofs.Common.{◌≡◌, ◌∙◌, sym, ap, ap₂, false, Some, of_calls, rules}
 use Rattle.csp_formula.specs.Surely.{maybe_and, maybe_not}
-use Rattle.csp_atom.specs.declared.atom.Atom.TheVariants.{HostDomain}
+use Rattle.csp_facts.specs.declared.atom.Atom.TheVariants.{HostDomain}
 use Rattle.csp_answer.proofs.Rules.{refuted_by, rule_by}
 use Rattle.csp_answer.proofs.deciding.integrity_rule.Goals as goal
 

@@ -1,6 +1,6 @@
 use Rattle.std.proofs.Common.{◌≡◌, ◌∙◌, sym, ap, ◌≤◌, ◌<◌, ◌+◌, true, List}
-use Rattle.csp_atom.specs.declared.atom.Atom.{Atom}
-use Rattle.csp_names.specs.Numbers.{around_in}
+use Rattle.csp_facts.specs.declared.atom.Atom.{Atom}
+use Rattle.csp_branch.specs.Numbers.{around_in}
 use Rattle.csp_answer.proofs.Finding.{finds_both}
 use Rattle.csp_answer.proofs.Parts.{IsAbout, around_or_behind}
 use Rattle.csp_answer.proofs.deciding.led_about.Goals as goal

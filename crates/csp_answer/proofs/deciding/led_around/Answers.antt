@@ -1,6 +1,6 @@
 use Rattle.std.proofs.Common.{◌≡◌, ◌∙◌, sym, subst, true, List, Option, ℕ, Some, of_calls, rules}
-use Rattle.csp_atom.specs.declared.atom.Atom.{Atom}
-use Rattle.csp_names.specs.Numbers.{AreInOrder, IsOuterOr, around_in}
+use Rattle.csp_facts.specs.declared.atom.Atom.{Atom}
+use Rattle.csp_branch.specs.Numbers.{AreInOrder, IsOuterOr, around_in}
 use Rattle.csp_answer.proofs.Walking.{IsWalk, walk_next, walk_true}
 use Rattle.csp_answer.proofs.deciding.led_around.Goals as goal
 

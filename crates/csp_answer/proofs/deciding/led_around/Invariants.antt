@@ -1,4 +1,4 @@
-use Rattle.csp_names.proofs.Forest.{steps_left}
+use Rattle.csp_branch.proofs.Forest.{steps_left}
 use Rattle.csp_answer.proofs.Walking.{IsWalk}
 use Rattle.csp_answer.proofs.deciding.led_around.Given as goal
 

@@ -1,5 +1,5 @@
 use Rattle.std.proofs.Common.{◌≡◌, ◌++◌, take}
-use Rattle.csp_names.specs.Sorting.{referred}
+use Rattle.csp_branch.specs.Sorting.{referred}
 use Rattle.csp_answer.proofs.naming.all_given.Given as goal
 
 abbrev pub invariant-loop-other : goal.invariant-loop-other

@@ -1,9 +1,9 @@
 use Rattle.std.proofs.Common.{◌≡◌, ◌∙◌, sym, ap, subst, ℕ, List, ◌++◌, length, map, All, Bor}
 use Rattle.std.proofs.lemmas.List.Elements.{All-append}
 use Rattle.csp_model.specs.declared.policy.PolicyList.{PolicyList}
-use Rattle.csp_atom.specs.Atoms.{IsValidAtom}
-use Rattle.csp_atom.specs.declared.atom.Atom.{Atom}
-use Rattle.csp_names.specs.Sorting.{StandAt, referred}
+use Rattle.csp_facts.specs.Atoms.{IsValidAtom}
+use Rattle.csp_facts.specs.declared.atom.Atom.{Atom}
+use Rattle.csp_branch.specs.Sorting.{StandAt, referred}
 use Rattle.csp_answer.specs.Collecting.{HasDefaultPorts, ArePoliciesPlaced, ArePairsThere, AreRenamed, renamed_policy}
 use Rattle.csp_answer.specs.Naming.{AreNamed}
 use Rattle.csp_answer.specs.declared.naming.NamedPolicy.{NamedPolicy}

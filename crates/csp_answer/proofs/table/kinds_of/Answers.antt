@@ -1,5 +1,5 @@
 use Rattle.std.proofs.Common.{◌∙◌, sym, subst, ℕ, ◌≤◌}
-use Rattle.csp_shape.specs.Numbers.{shape_count}
+use Rattle.csp_facts.specs.Numbers.{shape_count}
 use Rattle.csp_answer.specs.Tables.{AnswerTheSame}
 use Rattle.csp_answer.proofs.SameKinds.{one_kind, all_kinds}
 use Rattle.csp_answer.proofs.SoFar.{none_there}

@@ -1,5 +1,5 @@
 use Rattle.std.proofs.Common.{◌-◌}
-use Rattle.csp_shape.specs.Numbers.{shape_count}
+use Rattle.csp_facts.specs.Numbers.{shape_count}
 use Rattle.csp_answer.proofs.SameKinds.{KindsTo}
 use Rattle.csp_answer.proofs.table.kinds_of.Given as goal
 

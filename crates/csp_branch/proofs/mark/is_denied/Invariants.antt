@@ -1,5 +1,5 @@
 use Rattle.std.proofs.Common.{◌≡◌}
-use Rattle.csp_names.proofs.Forest.{steps_left}
+use Rattle.csp_branch.proofs.Forest.{steps_left}
 use Rattle.csp_branch.proofs.Denials.{IsWalk}
 use Rattle.csp_branch.proofs.mark.is_denied.Given as goal
 

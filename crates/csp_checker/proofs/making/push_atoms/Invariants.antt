@@ -1,5 +1,5 @@
 use Rattle.std.proofs.Common.{◌≡◌, ◌++◌, drop}
-use Rattle.csp_names.specs.Sorting.{referred}
+use Rattle.csp_branch.specs.Sorting.{referred}
 use Rattle.csp_checker.specs.Walk.{atoms_of}
 use Rattle.csp_checker.proofs.making.push_atoms.Given as goal
 

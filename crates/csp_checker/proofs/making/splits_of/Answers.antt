@@ -2,8 +2,8 @@ use Rattle.std.proofs.Common.{arith, ◌∙◌, ◌≤◌, ap, length, length-ap
 use Rattle.std.proofs.lemmas.List.{length-map, take_all}
 use Rattle.std.proofs.lemmas.List.Elements.{All-more, All-weaker}
 use Rattle.std.specs.Borrow.{Bor}
-use Rattle.csp_atom.specs.declared.atom.Atom.{Atom}
-use Rattle.csp_names.specs.Sorting.{referred}
+use Rattle.csp_facts.specs.declared.atom.Atom.{Atom}
+use Rattle.csp_branch.specs.Sorting.{referred}
 use Rattle.csp_proof.specs.declared.proof.Tree.{Tree}
 use Rattle.csp_checker.specs.Walk.{atoms_below}
 use Rattle.csp_checker.proofs.Splits.{one_more}

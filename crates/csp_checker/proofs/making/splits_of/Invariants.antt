@@ -1,5 +1,5 @@
 use Rattle.std.proofs.Common.{◌≡◌, ◌≤◌, ◌++◌, drop, take, length, All}
-use Rattle.csp_names.specs.Sorting.{referred}
+use Rattle.csp_branch.specs.Sorting.{referred}
 use Rattle.csp_proof.specs.declared.proof.Tree.{Tree}
 use Rattle.csp_checker.specs.Walk.{atoms_below}
 use Rattle.csp_checker.proofs.Splits.{atoms_in}

@@ -1,8 +1,8 @@
 use Rattle.std.proofs.Common.{◌∙◌, sym, subst}
 use Rattle.std.specs.Prelude.{Contains}
 use Rattle.std.proofs.lemmas.Bool.{both_ways}
-use Rattle.csp_shape.specs.declared.shape.Shape.{Shape}
-use Rattle.csp_shape.proofs.Apart.{one_shape}
+use Rattle.csp_facts.specs.declared.shape.Shape.{Shape}
+use Rattle.csp_facts.proofs.Apart.{one_shape}
 use Rattle.csp_compare.specs.Differences.{effective_of}
 use Rattle.csp_compare.proofs.directives.shape_among.Goals as goal
 

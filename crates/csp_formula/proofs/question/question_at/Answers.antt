@@ -1,6 +1,6 @@
 use Rattle.std.proofs.Common.{◌∙◌, sym, ap, refl, false}
-use Rattle.csp_shape.specs.declared.shape.Shape.{Shape}
-use Rattle.csp_shape.specs.declared.shape.Shape.TheVariants as shape
+use Rattle.csp_facts.specs.declared.shape.Shape.{Shape}
+use Rattle.csp_facts.specs.declared.shape.Shape.TheVariants as shape
 use Rattle.csp_formula.specs.Compiled.{policy_sentence}
 use Rattle.csp_formula.specs.Questions.{urls_shape}
 use Rattle.csp_formula.proofs.Alike.{group_alike}

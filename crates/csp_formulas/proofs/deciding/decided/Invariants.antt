@@ -1,5 +1,5 @@
 use Rattle.std.proofs.Common.{◌≡◌, drop}
-use Rattle.csp_atom.specs.Follows.{decided}
+use Rattle.csp_facts.specs.Follows.{decided}
 use Rattle.csp_formulas.proofs.deciding.decided.Given as goal
 
 abbrev pub invariant-loop-literal : goal.invariant-loop-literal

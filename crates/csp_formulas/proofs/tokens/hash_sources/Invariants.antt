@@ -1,5 +1,5 @@
 use Rattle.std.proofs.Common.{take}
-use Rattle.csp_atom.proofs.VocabularySeen.{Knows}
+use Rattle.csp_facts.proofs.VocabularySeen.{Knows}
 use Rattle.csp_formulas.proofs.HashSources.{hashes_in}
 use Rattle.csp_formulas.proofs.tokens.hash_sources.Given as goal
 

@@ -4,7 +4,7 @@ use Rattle.std.proofs.lemmas.Grind.{common_steps}
 use Rattle.std.proofs.lemmas.List.{drop_all}
 use Rattle.csp_model.specs.DecideTokens.{is_hash}
 use Rattle.csp_model.specs.declared.source.Hash.{Hash}
-use Rattle.csp_atom.specs.declared.atom.Atom.TheVariants.{IntegrityHas, IntegrityOutside}
+use Rattle.csp_facts.specs.declared.atom.Atom.TheVariants.{IntegrityHas, IntegrityOutside}
 use Rattle.csp_formula.specs.Sentences.{Not, Fact}
 use Rattle.csp_formula.specs.Compiled.{other_hashes}
 use Rattle.csp_formulas.proofs.HashSources.{denied, one_denied, one_own, integrity_made}

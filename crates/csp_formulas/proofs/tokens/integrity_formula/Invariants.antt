@@ -1,5 +1,5 @@
 use Rattle.std.proofs.Common.{◌≡◌, ◌++◌, ◌∷◌, drop, map}
-use Rattle.csp_atom.specs.declared.atom.Atom.TheVariants.{IntegrityOutside}
+use Rattle.csp_facts.specs.declared.atom.Atom.TheVariants.{IntegrityOutside}
 use Rattle.csp_formula.specs.Sentences.{Not, Fact}
 use Rattle.csp_formulas.specs.Formulas.{sentence_of}
 use Rattle.csp_formula.specs.Compiled.{has_pair, other_hashes}

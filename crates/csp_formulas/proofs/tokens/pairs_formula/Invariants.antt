@@ -1,6 +1,6 @@
 use Rattle.std.proofs.Common.{◌≡◌, ◌++◌, drop, map}
 use Rattle.std.specs.List.{filter_map}
-use Rattle.csp_atom.specs.Vocabulary.{hash_of_source}
+use Rattle.csp_facts.specs.Vocabulary.{hash_of_source}
 use Rattle.csp_formulas.specs.Formulas.{sentence_of}
 use Rattle.csp_formula.specs.Compiled.{has_pair}
 use Rattle.csp_formulas.proofs.tokens.pairs_formula.Given as goal

@@ -1,7 +1,7 @@
 use Rattle.std.proofs.Common.{List}
 use Rattle.csp_formula.specs.Compiled.{policy_sentence}
 use Rattle.csp_model.specs.declared.source.Hash.{Hash}
-use Rattle.csp_shape.specs.declared.shape.Shape.{Shape}
+use Rattle.csp_facts.specs.declared.shape.Shape.{Shape}
 use Rattle.csp_order.specs.Within.{Narrows}
 use Rattle.csp_order.proofs.Narrowing.{shape_more}
 use Rattle.csp_order.proofs.within.is_within_at_each.Goals as goal

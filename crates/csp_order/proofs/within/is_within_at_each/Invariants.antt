@@ -2,9 +2,9 @@ use Rattle.std.proofs.Common.{◌<◌, ◌-◌, List}
 use Rattle.std.specs.Prelude.{IsTrue}
 use Rattle.csp_formula.specs.Compiled.{policy_sentence}
 use Rattle.csp_model.specs.declared.source.Hash.{Hash}
-use Rattle.csp_shape.specs.Numbers.{number, shape_count}
-use Rattle.csp_shape.specs.Shapes.{is_shape}
-use Rattle.csp_shape.specs.declared.shape.Shape.{Shape}
+use Rattle.csp_facts.specs.Numbers.{number, shape_count}
+use Rattle.csp_facts.specs.Shapes.{is_shape}
+use Rattle.csp_facts.specs.declared.shape.Shape.{Shape}
 use Rattle.csp_order.specs.Within.{Narrows}
 use Rattle.csp_order.proofs.within.is_within_at_each.Given as goal
 

@@ -1,6 +1,6 @@
 use Rattle.std.proofs.Common.{subst, All}
 use Rattle.csp_cell.specs.Cells.{IsOf}
-use Rattle.csp_shape.specs.declared.shape.Shape.{Shape}
+use Rattle.csp_facts.specs.declared.shape.Shape.{Shape}
 use Rattle.csp_pick.proofs.Joining.{fetch_meets, form_meets, base_meets, ancestor_meets}
 use Rattle.csp_pick.proofs.pick.check_of.Goals as goal
 

@@ -3,7 +3,7 @@ use Rattle.std.specs.Prelude.{codes, string_bytes}
 use Rattle.std.specs.List.{join_with_byte}
 use Rattle.std.proofs.lemmas.Result.{on_ok_weaker}
 use Rattle.csp_model.specs.Grammar.{algorithm_text}
-use Rattle.csp_atom.specs.declared.atom.Atom.{Atom}
+use Rattle.csp_facts.specs.declared.atom.Atom.{Atom}
 use Rattle.csp_proof.specs.Spelling.{atom_text}
 use Rattle.csp_proof.proofs.print.push_atom.Goals as goal
 

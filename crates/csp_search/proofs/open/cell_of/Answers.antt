@@ -1,8 +1,8 @@
 use Rattle.std.proofs.Common.{rules, ◌≡◌, ◌∙◌, sym, subst}
-use Rattle.csp_atom.specs.Atoms.{BelongsTo}
-use Rattle.csp_atom.specs.declared.atom.Literal.{Literal}
-use Rattle.csp_shape.specs.Shapes.{looks_at}
-use Rattle.csp_shape.specs.declared.shape.Shape.{Shape}
+use Rattle.csp_facts.specs.Atoms.{BelongsTo}
+use Rattle.csp_facts.specs.declared.atom.Literal.{Literal}
+use Rattle.csp_facts.specs.Shapes.{looks_at}
+use Rattle.csp_facts.specs.declared.shape.Shape.{Shape}
 use Rattle.csp_search.proofs.Lists.{all_at}
 use Rattle.csp_search.proofs.Narrowing.{cell_more, fresh_at, step_at}
 use Rattle.csp_search.proofs.open.cell_of.Goals as goal

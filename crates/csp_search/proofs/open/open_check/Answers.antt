@@ -3,8 +3,8 @@ use Rattle.csp_cell.specs.Cells.{Meets}
 use Rattle.csp_model.specs.Validity.{IsValidCheck}
 use Rattle.csp_model.specs.declared.check.Check.{Check}
 use Rattle.csp_model.specs.declared.source.Hash.{Hash}
-use Rattle.csp_shape.specs.Shapes.{HasShape}
-use Rattle.csp_shape.specs.declared.shape.Shape.{Shape}
+use Rattle.csp_facts.specs.Shapes.{HasShape}
+use Rattle.csp_facts.specs.declared.shape.Shape.{Shape}
 use Rattle.csp_proof.proofs.ReadableSaid.{are_said}
 use Rattle.csp_search.specs.Answers.{ShowsNone}
 use Rattle.csp_search.specs.Questions.{lists_of, pair_of}

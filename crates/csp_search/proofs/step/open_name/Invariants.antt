@@ -1,5 +1,5 @@
 use Rattle.std.proofs.Common.{◌≢◌, ◌<◌, ℕ, None, get_or}
-use Rattle.csp_atom.specs.Follows.{decided}
+use Rattle.csp_facts.specs.Follows.{decided}
 use Rattle.csp_branch.specs.Groups.{atom_in}
 use Rattle.csp_search.proofs.step.open_name.Given as goal
 

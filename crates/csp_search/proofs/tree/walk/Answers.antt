@@ -1,5 +1,5 @@
 use Rattle.std.proofs.Common.{rules, ◌≡◌, ◌∙◌, sym, subst, ◌<◌, ◌++◌, ◌∷◌, []}
-use Rattle.csp_atom.specs.declared.atom.Atom.{Atom}
+use Rattle.csp_facts.specs.declared.atom.Atom.{Atom}
 use Rattle.csp_branch.specs.Walks.{Position}
 use Rattle.csp_proof.specs.declared.proof.Node.TheVariants.{Split}
 use Rattle.csp_search.proofs.Going.{room_left}

@@ -1,5 +1,5 @@
 use Rattle.std.proofs.Common.{◌-◌}
-use Rattle.csp_shape.specs.Numbers.{shape_count}
+use Rattle.csp_facts.specs.Numbers.{shape_count}
 use Rattle.csp_answer.specs.Policies.{AllAnswered, SaysAt}
 use Rattle.csp_answer.proofs.SoFar.{SoFar}
 use Rattle.csp_answer.proofs.policy.PolicyAnswers.new.Given as goal

@@ -1,7 +1,7 @@
 use Rattle.std.proofs.Common.{◌≡◌, ◌++◌, None, Bool, true, false, subst}
-use Rattle.csp_atom.specs.declared.atom.Literal.{Literal}
+use Rattle.csp_facts.specs.declared.atom.Literal.{Literal}
 use Rattle.csp_cell.specs.Cells.{needed_beside, IsCell, IsOf, Takes}
-use Rattle.csp_atom.specs.Follows.{decided}
+use Rattle.csp_facts.specs.Follows.{decided}
 use Rattle.csp_cell.specs.Inside.{Adds}
 use Rattle.csp_cell.proofs.Making.{made_cell, made_placing, made_others}
 use Rattle.csp_cell.proofs.Parts.{both_open, takes_added}

@@ -1,5 +1,5 @@
 use Rattle.std.proofs.Common.{◌∙◌, sym, ap, Some}
-use Rattle.csp_atom.specs.Follows.{decided, or_else}
+use Rattle.csp_facts.specs.Follows.{decided, or_else}
 use Rattle.csp_cell.proofs.Parts.{decided_append, answer_says}
 use Rattle.csp_cell.proofs.cell.Cell.value.Goals as goal
 

@@ -1,8 +1,8 @@
 use Rattle.std.proofs.Common.{arith, ◌≡◌, ◌∙◌, sym, ap, subst, [], List, All}
 use Rattle.std.specs.Prelude.{Contains}
 use Rattle.csp_model.specs.declared.source.Hash.{Hash}
-use Rattle.csp_atom.specs.Atoms.{IsValidAtom}
-use Rattle.csp_names.specs.Sorting.{referred}
+use Rattle.csp_facts.specs.Atoms.{IsValidAtom}
+use Rattle.csp_branch.specs.Sorting.{referred}
 use Rattle.csp_answer.specs.Tables.{AreAnswers}
 use Rattle.csp_proof.specs.Accepts.{Lists}
 use Rattle.csp_checker.specs.Asked.{Fits}

@@ -1,5 +1,0 @@
-use Rattle.csp_atom.proofs.Own.{own}
-use Rattle.csp_atom.proofs.laws.a_literal_decides_its_own_atom.Goals as goal
-
-pub returns : goal.returns
-returns c = own

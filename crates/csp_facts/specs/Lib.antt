@@ -1,0 +1,9 @@
+pub mod Atoms
+pub mod Follows
+pub mod Holding
+pub mod Kinds
+pub mod Order
+pub mod Spelling
+pub mod Vocabulary
+pub mod Numbers
+pub mod Shapes

@@ -1,0 +1,13 @@
+use Rattle.std.proofs.Common.{rules}
+use Rattle.std.specs.Prelude.{◌==◌}
+use Rattle.std.proofs.lemmas.Iterator.Search.{all_from_yields_List}
+use Rattle.std.proofs.lemmas.Iterator.Splits.{YieldsList-from_slice_split}
+use Rattle.csp_model.specs.Validity.{is_octet}
+use Rattle.csp_model.specs.Ascii.{code}
+use Rattle.csp_model.proofs.address.are_octets.Goals as goal
+
+pub returns : goal.returns
+returns c = all_from_yields_List is_octet _ _ c.all.result c.all.ensures.ran
+    (YieldsList-from_slice_split _ (λ b. b == code ".") c.args.text.now
+    c.split.ensures.rest c.split.ensures.done c.split.ensures.closure (λ x b q k. search rules))
+    (λ x b q k. search rules)

@@ -1,5 +1,0 @@
-use Rattle.csp_names.proofs.Forest.{one_name}
-use Rattle.csp_names.proofs.laws.an_atom_has_one_name.Goals as goal
-
-pub returns : goal.returns
-returns c = one_name

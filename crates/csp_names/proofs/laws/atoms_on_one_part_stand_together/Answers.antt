@@ -1,5 +1,0 @@
-use Rattle.csp_names.proofs.Forest.{parts_together}
-use Rattle.csp_names.proofs.laws.atoms_on_one_part_stand_together.Goals as goal
-
-pub returns : goal.returns
-returns c = parts_together

@@ -1,6 +1,0 @@
-pub mod Around
-pub mod Hosts
-pub mod Numbers
-pub mod Order
-pub mod Prefix
-pub mod Sorting

@@ -1,6 +1,0 @@
-mod Determined
-mod LineEnds
-mod OneText
-mod Sound
-mod Telling
-mod Written

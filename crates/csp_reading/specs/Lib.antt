@@ -1,4 +1,0 @@
-pub mod Laws
-pub mod Lines
-pub mod Told
-pub mod Tokens

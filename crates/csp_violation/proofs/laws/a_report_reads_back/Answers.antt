@@ -1,9 +1,0 @@
--- A report's text is printed JSON with no number, which nests once.
-use Rattle.std.proofs.Common.{arith}
-use Rattle.json.proofs.Printed.Trees.{document-print}
-use Rattle.csp_violation.specs.Report.{report_bytes, report_value}
-use Rattle.csp_violation.proofs.laws.a_report_reads_back.Goals as goal
-
-pub returns : goal.returns
-unfolding report_bytes
-returns c = λ v. document-print (report_value v) (tt, (tt, (tt, (tt, (tt, (tt, tt)))))) (omega arith)
