@@ -1,5 +1,5 @@
 -- The violations of requests, of which some have been handed out.
-use Rattle.std.proofs.Common.{◌≡◌, ◌≢◌, ◌<◌, ◌+◌, ◌++◌, ℕ, Bool, List, length, take, drop, get_or, Result, Err}
+use Rattle.std.proofs.Common.{◌≡◌, ◌≢◌, ◌<◌, ◌+◌, ◌++◌, ℕ, Bool, List, length, take, drop, get_or, Result, Ok, Err}
 use Rattle.std.proofs.Common.{refl, sym, ap, ◌∙◌, subst, arith}
 use Rattle.std.proofs.lemmas.Grind.{common_steps}
 use Rattle.std.proofs.lemmas.List.{take-append-drop}
@@ -86,6 +86,10 @@ stopped_at f requests place r e d between counts refusing within is took later s
     d.held_before d.held_now d.faults_before d.faults_now
     (subst P (one_more f requests place r within is) behind)))
     (subst (λ (l : List Bool). MayRefuse l e) same may)
+
+-- what is there is no error
+pub ok_is_no_error : {A E : Type 0} (r : Result A E) (a : A) (e : E) → r ≡ Ok a → r ≡ Err e → ⊥
+ok_is_no_error r a e is other = cc (sym is ∙ other)
 
 -- The end of a report
 

@@ -1,4 +1,4 @@
-use Rattle.std.proofs.Common.{arith}
+use Rattle.std.proofs.Common.{◌∙◌, arith}
 use Rattle.std.proofs.lemmas.List.{drop_all}
 use Rattle.csp_run.proofs.Pieces.{one_more, fails_at, ends}
 use Rattle.csp_run.proofs.fault_text.write_pieces.Goals as goal
@@ -14,6 +14,7 @@ loop-piece-preserved g c = record {
       one_more _ _ _ _ _ _ _ _ _ _ c.loop-piece-test.true c.as_bytes.ensures.value
       c.loop-piece.invariant.rest c.in-Ok.ensures.taken;
   later = omega (arith, c.write_all.ensures.later, c.loop-piece.invariant.later);
+  no_fault = c.in-Ok.ensures.no_fault ∙ c.loop-piece.invariant.no_fault;
 }
 
 pub returns-clause-taken : goal.returns-clause-taken

@@ -1,4 +1,4 @@
-use Rattle.std.proofs.Common.{ap, arith}
+use Rattle.std.proofs.Common.{◌∙◌, ap, arith}
 use Rattle.csp_desk.specs.Tellings.{section_text}
 use Rattle.csp_run.proofs.Gathering.{put_more, put_fails}
 use Rattle.csp_run.proofs.gathered.put_sections.Goals as goal
@@ -16,4 +16,5 @@ loop-section-preserved g c = record {
       c.loop-section-test.true (ap section_text c.section-item.is) c.loop-section.invariant.put
       c.in-Ok.ensures.put;
   later = omega (arith, c.put_section.ensures.later, c.loop-section.invariant.later);
+  no_fault = c.in-Ok.ensures.no_fault ∙ c.loop-section.invariant.no_fault;
 }

@@ -3,7 +3,7 @@ use Rattle.std.proofs.Common.{refl, sym, ◌∙◌, arith}
 use Rattle.std.proofs.lemmas.Result.{err_from_is_err_and}
 use Rattle.csp_desk.proofs.GrowthLaws.{all_grown-nil, NoneFell-trans}
 use Rattle.csp_model.specs.Verdict.{violations_of}
-use Rattle.csp_run.proofs.Handing.{taken_more, taken_so_far, stopped_at}
+use Rattle.csp_run.proofs.Handing.{ok_is_no_error, taken_more, taken_so_far, stopped_at}
 use Rattle.csp_run.proofs.report.hand_out_each.Goals as goal
 
 pub loop-request-init : goal.loop-request-init
@@ -39,6 +39,6 @@ loop-request-preserved g c =
       kinds = c.in_ok-hand_out.ensures.same_kinds ∙ c.loop-request.invariant.kinds;
       may_refuse = c.in_ok-hand_out.ensures.same_may_refuse ∙ c.loop-request.invariant.may_refuse;
       no_fault =
-          c.hand_out.ensures.no_fault (λ n refused. cc (refused, c.in_ok-hand_out.is)) ∙ c.loop-request.invariant.no_fault;
+          c.hand_out.ensures.no_fault (λ n refused. ok_is_no_error _ _ _ c.in_ok-hand_out.was refused) ∙ c.loop-request.invariant.no_fault;
       later = NoneFell-trans _ _ _ c.loop-request.invariant.later c.in_ok-hand_out.ensures.later;
     }
