@@ -14,6 +14,7 @@ use Rattle.csp_run.specs.declared.fault.OutputFault.{OutputFault}
 use Rattle.csp_run.specs.declared.fault.OutputFault.TheVariants as output
 use Rattle.csp_run.specs.declared.fault.WordsFault.{WordsFault}
 use Rattle.csp_run.specs.declared.fault.WordsFault.TheVariants as words
+use Rattle.csp_run.specs.Words.{usage}
 use Rattle.csp_output.specs.declared.status.Status.{Status}
 use Rattle.csp_output.specs.declared.status.Status.TheVariants as status
 
@@ -44,13 +45,7 @@ limit_text limit.Hops = codes "hops"
 
 -- the pieces of the line that is written for words that ask for nothing
 unfoldable pub words_pieces : WordsFault → List (List ℕ)
-words_pieces words.Usage =
-    codes "usage: judge ORIGIN POLICY REQUESTS | report ORIGIN POLICY REQUESTS"
-    ∷ codes " | compare ORIGIN FIRST SECOND | check ORIGIN FIRST SECOND PROOF"
-    ∷ codes " | drill N | embed EMBEDDER ORIGIN REQUIRED RESPONSE"
-    ∷ codes " | tidy ORIGIN POLICY | learn ORIGIN REQUESTS | order ORIGIN LISTS"
-    ∷ codes " | why ORIGIN POLICY REQUESTS"
-    ∷ codes " | differ ORIGIN FIRST SECOND | read ORIGIN POLICY\n" ∷ []
+words_pieces words.Usage = usage
 words_pieces words.BadOrigin = codes "bad origin" ∷ [] ∷ [] ∷ [] ∷ [] ∷ codes "\n" ∷ []
 
 -- for a file of which nothing is read

@@ -76,6 +76,16 @@ command_of verb word names =
     else if bytes_eq verb (codes "read") then command_on Read (role.Block ∷ []) names
     else None
 
+-- how the commands are called
+abbrev pub usage : List (List ℕ)
+usage =
+    codes "usage: judge ORIGIN POLICY REQUESTS | report ORIGIN POLICY REQUESTS"
+    ∷ codes " | compare ORIGIN FIRST SECOND | check ORIGIN FIRST SECOND PROOF"
+    ∷ codes " | drill N | embed EMBEDDER ORIGIN REQUIRED RESPONSE"
+    ∷ codes " | tidy ORIGIN POLICY | learn ORIGIN REQUESTS | order ORIGIN LISTS"
+    ∷ codes " | why ORIGIN POLICY REQUESTS"
+    ∷ codes " | differ ORIGIN FIRST SECOND | read ORIGIN POLICY\n" ∷ []
+
 -- the origin of the policies of a form's files, which that word is; a drill reads no file, and has another
 -- word
 unfoldable pub origin_for : Form → List ℕ → Option Origin

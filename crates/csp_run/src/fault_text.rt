@@ -6,6 +6,7 @@ ghost use Rattle.csp_request.specs.Members as members;
 ghost use Rattle.csp_run.specs.Texts as texts;
 
 use crate::fault::{Cause, Fault, FileFault, Limit, OutputFault, Role, WordsFault};
+use crate::plan::USAGE;
 use csp_io::{Failed, Sink, write_all};
 use csp_request::Field;
 use itoa::Buffer;
@@ -103,14 +104,7 @@ fn words_pieces<'a>(fault: WordsFault) -> [&'a str; 6]
     ensures { map (λ piece. piece.now) result ≡ texts.words_pieces fault }
 {
     match fault {
-        WordsFault::Usage => [
-            "usage: judge ORIGIN POLICY REQUESTS | report ORIGIN POLICY REQUESTS",
-            " | compare ORIGIN FIRST SECOND | check ORIGIN FIRST SECOND PROOF",
-            " | drill N | embed EMBEDDER ORIGIN REQUIRED RESPONSE",
-            " | tidy ORIGIN POLICY | learn ORIGIN REQUESTS | order ORIGIN LISTS",
-            " | why ORIGIN POLICY REQUESTS",
-            " | differ ORIGIN FIRST SECOND | read ORIGIN POLICY\n",
-        ],
+        WordsFault::Usage => USAGE,
         WordsFault::BadOrigin => ["bad origin", "", "", "", "", "\n"],
     }
 }

@@ -174,6 +174,16 @@ fn origin_for(alloc: Global, command: &Command<'_>, word: &str) -> Result<Origin
     }
 }
 
+// How the commands are called.
+pub(crate) const USAGE: [&str; 6] = [
+    "usage: judge ORIGIN POLICY REQUESTS | report ORIGIN POLICY REQUESTS",
+    " | compare ORIGIN FIRST SECOND | check ORIGIN FIRST SECOND PROOF",
+    " | drill N | embed EMBEDDER ORIGIN REQUIRED RESPONSE",
+    " | tidy ORIGIN POLICY | learn ORIGIN REQUESTS | order ORIGIN LISTS",
+    " | why ORIGIN POLICY REQUESTS",
+    " | differ ORIGIN FIRST SECOND | read ORIGIN POLICY\n",
+];
+
 // The command that a verb, the word behind it and the names of files ask for.
 fn command_of<'a>(verb: &str, word: &str, names: &'a [Text]) -> Option<Command<'a>>
     ensures command { option_map as_command result ≡ spec.command_of verb.now word.now names.now }
