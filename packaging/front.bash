@@ -29,7 +29,9 @@ TEXT
 }
 
 # The words behind a command, as the help has them.
-words_of() { help | sed -n "s/^  csp ${1:-.} \([A-Z ]*[A-Z]\).*/\1/p"; }
+words_of() {
+    [[ ${1-} =~ ^[a-z]+$ ]] && help | sed -n "s/^  csp $1 \([A-Z ]*[A-Z]\).*/\1/p"
+}
 
 # Says how a command is called, or where to find all of them.
 tell_usage() {
