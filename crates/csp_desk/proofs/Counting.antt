@@ -1,8 +1,9 @@
 -- The counts of all names grow with each violation.
-use Rattle.std.proofs.Common.{◌≡◌, ℕ, ◌+◌, Bool, true, false, if◌then◌else◌, List, [], ◌∷◌, ◌++◌, map, get_or, refl, ◌∙◌, ap, arith}
+use Rattle.std.proofs.Common.{◌≡◌, ℕ, ◌+◌, ◌<◌, Bool, true, false, if◌then◌else◌, List, [], ◌∷◌, ◌++◌, map, take, length, get_or, refl, ◌∙◌, ap, arith}
 use Rattle.std.specs.Prelude.{cond}
 use Rattle.std.specs.List.{count_by, flat_map}
-use Rattle.std.proofs.lemmas.List.Sums.{sum_by-append}
+use Rattle.std.proofs.lemmas.List.{length-take-le}
+use Rattle.std.proofs.lemmas.List.Sums.{count_by-le-length, sum_by-append}
 use Rattle.csp_model.specs.declared.name.Name.{Name}
 use Rattle.csp_model.specs.declared.verdict.Violation.{Violation}
 use Rattle.csp_desk.specs.NameOrder.{names_in_order, place_of, counted}
@@ -31,13 +32,25 @@ flat_map_same : {A B : Type 0} (f g : A → List B) → ((x : A) → f x ≡ g x
 flat_map_same f g same [] = refl
 flat_map_same f g same (x ∷ xs) = rw (same x, flat_map_same f g same xs) refl
 
+-- the count at the place of a name
+pub count_is : (held : List Violation) (counts : List ℕ) (name : Name) → counts ≡ counts_of held
+    → get_or counts (place_of name) 0 ≡ count_by (is_of name) held
+count_is held counts name all = rw all (get_or-place_of (λ n. count_by (is_of n) held) name)
+
 -- the lines by the counts are the lines of the violations
 line_at-counts : (held : List Violation) (counts : List ℕ) → counts ≡ counts_of held → (name : Name)
     → line_at counts name ≡ tally_line held name
 line_at-counts held counts all name =
-    let found : get_or counts (place_of name) 0 ≡ count_by (is_of name) held
-    = rw all (get_or-place_of (λ n. count_by (is_of n) held) name) in
-    ap (count_line name) found
+    ap (count_line name) (count_is held counts name all)
+
+-- the count of a name among the first violations is less than how many there are in all
+pub count_below : (held : List Violation) (counts : List ℕ) (name : Name) (place : ℕ)
+    → counts ≡ counts_of (take place held) → place < length held → get_or counts (place_of name) 0 < length held
+count_below held counts name place all within =
+    let found = count_is (take place held) counts name all in
+    let few = count_by-le-length (is_of name) (take place held) in
+    let first = length-take-le place held (omega (arith, within)) in
+    omega (arith, found, few, first)
 
 pub tally_text-by_counts : (held : List Violation) (counts : List ℕ) → counts ≡ counts_of held
     → flat_map (line_at counts) names_in_order ≡ tally_text held

@@ -1,5 +1,5 @@
 //! How many violations there are of each directive.
-ghost use Rattle.std.specs.Prelude.{◌≡◌, IfOk, OnOk, OnErr, string_bytes};
+ghost use Rattle.std.specs.Prelude.{◌≡◌, ◌-◌, ◌^◌, IfOk, OnOk, OnErr, slice_index, string_bytes};
 ghost use Rattle.std.specs.List.{flat_map};
 ghost use Rattle.csp_desk.specs.NameOrder as order;
 ghost use Rattle.csp_desk.specs.Texts as spec;
@@ -62,6 +62,7 @@ fn place_of(name: Name) -> usize
 // Counts a violation of this name, where its count stays below 2^64.
 pub(crate) fn count(counts: &mut [usize; 20], name: Name) -> Result<(), Memory>
     ensures ok { OnOk result (counts.new ≡ order.counted name counts.old) }
+    ensures full { OnErr result (slice_index counts.old (order.place_of name) ≡ 2 ^ 64 - 1) }
     ensures err { OnErr result (counts.new ≡ counts.old) }
 {
     let place = place_of(name);
@@ -75,14 +76,14 @@ pub(crate) fn count(counts: &mut [usize; 20], name: Name) -> Result<(), Memory>
 }
 
 // How many violations there are of each name, in one pass.
-fn counts_of(held: &[Violation]) -> Result<[usize; 20], Memory>
-    ensures { IfOk result (λ counts. counts ≡ spec.counts_of held.now) }
+fn counts_of(held: &[Violation]) -> [usize; 20]
+    ensures { result ≡ spec.counts_of held.now }
 {
     let mut counts = [0; 20];
     for violation in held {
-        count(&mut counts, violation.effective)?;
+        counts[place_of(violation.effective)] += 1;
     }
-    Ok(counts)
+    counts
 }
 
 fn line_of(alloc: Global, name: Name, count: usize) -> Result<String, Memory>
@@ -116,6 +117,5 @@ pub(crate) fn counts_text(alloc: Global, counts: &[usize; 20]) -> Result<Bytes, 
 pub(crate) fn tally_text(alloc: Global, held: &[Violation]) -> Result<Bytes, Memory>
     ensures { IfOk result (λ text. text ≡ spec.tally_text held.now) }
 {
-    let counts = counts_of(held)?;
-    counts_text(alloc, &counts)
+    counts_text(alloc, &counts_of(held))
 }

@@ -1,5 +1,7 @@
 //! A reporter that prints a count a directive.
-ghost use Rattle.std.specs.Prelude.{◌≡◌, ◌∷◌, ◌++◌, [], false, OnOk, OnErr, IsErrOf};
+ghost use Rattle.std.specs.List.{count_by};
+ghost use Rattle.std.specs.Prelude.{◌≡◌, ◌∷◌, ◌++◌, ◌-◌, ◌^◌, [], false, OnOk, OnErr, IsErrOf};
+ghost use Rattle.csp_desk.specs.Texts.{is_of};
 ghost use Rattle.csp_desk.specs.declared.reporter.Kind.TheVariants as kinds;
 
 use crate::counts::{count, counts_text};
@@ -11,8 +13,8 @@ use std::marker::Model;
 
 /// Prints how many violations there are of each effective directive that occurs, in byte order of the names.
 ///
-/// It keeps the counts and not the violations. It never answers `Refused`, and `Memory` only where a count
-/// would reach 2^64.
+/// It keeps the counts and not the violations. It never answers `Refused`, and `Memory` only where the count of
+/// the violation's directive would reach 2^64.
 #[derive(Debug, Drop)]
 pub struct Tally {
     // One for each name, in byte order of the names.
@@ -50,6 +52,7 @@ impl Tally {
     // Counts a violation.
     fn push(&mut self, violation: &Violation) -> Result<(), Memory>
         ensures took { OnOk result (self.new ≡ self.old ++ violation.now ∷ []) }
+        ensures full { OnErr result (count_by (is_of violation.now.effective) self.old ≡ 2 ^ 64 - 1) }
         ensures refused { OnErr result (self.new ≡ self.old) }
     {
         count(&mut self.counts, violation.effective)?;
@@ -76,6 +79,7 @@ impl Reporter for Tally {
         ensures took { OnOk result (self.new ≡ self.old ++ violation.now ∷ []) }
         ensures kept { OnErr result (self.new ≡ self.old) }
         ensures not_refused { IsErrOf result AcceptError.Refused → ⊥ }
+        ensures full { OnErr result (count_by (is_of violation.now.effective) self.old ≡ 2 ^ 64 - 1) }
     {
         self.push(violation)?;
         Ok(())

@@ -29,12 +29,12 @@ removed_shorter n [] within = absurd (omega arith)
 removed_shorter zero (x ∷ xs) within = omega arith
 removed_shorter (suc n) (x ∷ xs) within = let rest = removed_shorter n xs (omega arith) in omega (arith, rest)
 
-there : (P : Source → Type 0) (tokens : List (List ℕ)) (n : ℕ) → MatchOption (slice_get (map source_of tokens) n) ⊥ P → n < length tokens
+pub there : (P : Source → Type 0) (tokens : List (List ℕ)) (n : ℕ) → MatchOption (slice_get (map source_of tokens) n) ⊥ P → n < length tokens
 there P [] n is = absurd is
 there P (token ∷ tokens) zero is = omega arith
 there P (token ∷ tokens) (suc n) is = let rest = there P tokens n is in omega (arith, rest)
 
-abbrev tokens_in : Directive → ℕ
+abbrev pub tokens_in : Directive → ℕ
 tokens_in d = length d.tokens
 
 fewer_directive : (d : Directive) (t : ℕ) → HasRead d → IsCandidateIn d t → (b : ℕ) → b + tokens_in (directive_without t d) < b + tokens_in d
@@ -43,7 +43,7 @@ fewer_directive d t read is b =
     let shorter = removed_shorter t d.tokens within in
     omega (arith, shorter)
 
-each_at : {A : Type 0} (P Q R : A → Type 0) (xs : List A) (n : ℕ) → All P xs → ((x : A) → P x → Q x → R x) → MatchOption (slice_get xs n) ⊥ Q → MatchOption (slice_get xs n) ⊥ R
+pub each_at : {A : Type 0} (P Q R : A → Type 0) (xs : List A) (n : ℕ) → All P xs → ((x : A) → P x → Q x → R x) → MatchOption (slice_get xs n) ⊥ Q → MatchOption (slice_get xs n) ⊥ R
 each_at P Q R [] n all each is = absurd is
 each_at P Q R (x ∷ xs) zero all each is = each x (All-head P x xs all) is
 each_at P Q R (x ∷ xs) (suc n) all each is = each_at P Q R xs n (All-tail P x xs all) each is

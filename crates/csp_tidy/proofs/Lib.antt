@@ -6,3 +6,4 @@ pub mod Listed
 pub mod Local
 pub mod Readable
 pub mod Steps
+pub mod Places

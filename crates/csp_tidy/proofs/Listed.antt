@@ -1,5 +1,5 @@
 -- Each candidate that is listed is one.
-use Rattle.std.proofs.Common.{arith, ◌≡◌, sym, refl, subst, ℕ, zero, suc, ◌+◌, true, false, cond, List, [], ◌∷◌, Some, All, inl, inr}
+use Rattle.std.proofs.Common.{arith, ◌≡◌, sym, refl, subst, ℕ, zero, suc, ◌+◌, true, false, List, [], ◌∷◌, Some, All, inl, inr}
 use Rattle.std.specs.Prelude.{slice_get, MatchOption}
 use Rattle.std.proofs.lemmas.Bool.{cases_Bool, cond-true, cond-false}
 use Rattle.std.proofs.lemmas.List.Elements.{All-nil, All-cons, All-append}

@@ -1,6 +1,6 @@
 //! Whether one token can go.
-ghost use Rattle.std.specs.Prelude.{◌≡◌, IfOk};
-ghost use Rattle.csp_model.specs.Policies.{IsReadable};
+ghost use Rattle.std.specs.Prelude.{◌≡◌, ◌<◌, IfOk};
+ghost use Rattle.csp_model.specs.Policies.{IsReadable, policy_limit, token_limit};
 ghost use Rattle.csp_tidy.specs.Asking as spec;
 ghost use Rattle.csp_tidy.specs.Candidates.{IsCandidate};
 ghost use Rattle.csp_tidy.specs.Tidied.{place_of};
@@ -55,25 +55,22 @@ fn governed_at(alloc: Global, list: &PolicyList, place: Place) -> Result<Vec<Nam
     governed(alloc, policy, directive)
 }
 
-// An entry for the token at this place. A list with more directives than a `u32` counts takes more memory than
+// An entry for the token of a candidate. A list with more directives than a `u32` counts takes more memory than
 // there is.
 fn needed_at(place: Place, allowed_with: bool, check: Check) -> Result<Needed, Memory>
+    requires policy { place.policy < policy_limit }
+    requires token { place.token < token_limit }
     ensures place { IfOk result (λ needed. place_of needed ≡ place) }
     ensures allowed_with { IfOk result (λ needed. needed.allowed_with ≡ allowed_with) }
     ensures check { IfOk result (λ needed. needed.check ≡ check) }
 {
-    let numbers = (
-        u32::try_from(place.policy),
-        u32::try_from(place.directive),
-        u32::try_from(place.token),
-    );
-    let (Ok(policy), Ok(directive), Ok(token)) = numbers else {
+    let Ok(directive) = u32::try_from(place.directive) else {
         return Err(Memory);
     };
     Ok(Needed {
-        policy,
+        policy: place.policy as u32,
         directive,
-        token,
+        token: place.token as u32,
         allowed_with,
         check,
     })

@@ -6,5 +6,5 @@ use Rattle.csp_desk.proofs.counts.tally_text.Goals as goal
 
 pub returns : goal.returns
 returns c =
-    let same = tally_text-by_counts c.args.held.now c.in_ok-counts.counts c.in_ok-counts.ensures in
+    let same = tally_text-by_counts c.args.held.now c.counts_of.result c.counts_of.ensures in
     subst (λ (told : List ℕ). IfOk c.counts_text.result (λ text. text ≡ told)) same c.counts_text.ensures

@@ -4,6 +4,7 @@ use Rattle.csp_compare.specs.Differences.{DiffersAmong, SubsumesAmong}
 use Rattle.csp_model.specs.Policies.{IsReadable}
 use Rattle.csp_model.specs.declared.name.Name.{Name}
 use Rattle.csp_tidy.proofs.Asked.{spare}
+use Rattle.csp_tidy.proofs.Places.{policy_below, token_below}
 use Rattle.csp_tidy.proofs.Readable.{readable_without}
 use Rattle.csp_tidy.proofs.asking.ask.Goals as goal
 
@@ -24,3 +25,15 @@ returns c =
           (subst (λ (ns : List Name). SubsumesAmong ns list thinner) c.as_slice.ensures.value one)
           (subst (λ (ns : List Name). SubsumesAmong ns thinner list) c.as_slice-2.ensures.value two),
     )
+
+pub needed_at-requires-clause-policy : goal.needed_at-requires-clause-policy
+needed_at-requires-clause-policy c = policy_below c.args.list.now c.args.place c.requires.readable c.requires.candidate
+
+pub needed_at-requires-clause-token : goal.needed_at-requires-clause-token
+needed_at-requires-clause-token c = token_below c.args.list.now c.args.place c.requires.readable c.requires.candidate
+
+pub needed_at-requires-in-Some-2-clause-policy : goal.needed_at-requires-in-Some-2-clause-policy
+needed_at-requires-in-Some-2-clause-policy c = policy_below c.args.list.now c.args.place c.requires.readable c.requires.candidate
+
+pub needed_at-requires-in-Some-2-clause-token : goal.needed_at-requires-in-Some-2-clause-token
+needed_at-requires-in-Some-2-clause-token c = token_below c.args.list.now c.args.place c.requires.readable c.requires.candidate

@@ -1,4 +1,4 @@
-use Rattle.std.proofs.Common.{◌<◌, ap, arith, length, rules}
+use Rattle.std.proofs.Common.{◌<◌, ap, arith, length}
 use Rattle.csp_tidy.specs.Candidates.{directive_without}
 use Rattle.csp_tidy.proofs.Changes.{all_taken, front_changed, front_kept}
 use Rattle.csp_tidy.proofs.without.policy_without.Goals as goal
