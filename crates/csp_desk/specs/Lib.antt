@@ -7,3 +7,4 @@ pub mod Texts
 pub mod Weaves
 pub mod Plain
 pub mod Report
+pub mod Desk

@@ -13,8 +13,8 @@ use std::marker::Model;
 
 /// Prints how many violations there are of each effective directive that occurs, in byte order of the names.
 ///
-/// It keeps the counts and not the violations. It never answers `Refused`, and `Memory` only where the count of
-/// the violation's directive would reach 2^64.
+/// It keeps the counts and not the violations. It never answers `Refused`, and `Memory` only where the count
+/// of the violation's directive would reach 2^64.
 #[derive(Debug, Drop)]
 pub struct Tally {
     // One for each name, in byte order of the names.

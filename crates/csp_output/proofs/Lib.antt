@@ -16,3 +16,8 @@ pub mod ItemsExplained
 pub mod NamedDigests
 pub mod Refusing
 pub mod SameStatus
+pub mod Explaining
+pub mod Handing
+pub mod Holding
+pub mod Judging
+pub mod Lessons

@@ -1,5 +1,5 @@
 -- What `why` prints: the line of each verdict, and behind it the reasons.
-use Rattle.std.specs.Prelude.{ℕ, ◌+◌, ◌-◌, length, Bool, false, not, ◌||◌, if◌then◌else◌, List, [], ◌∷◌, ◌++◌, Option, Some, None, unwrap_or, slice_get, codes, decimal}
+use Rattle.std.specs.Prelude.{ℕ, ◌+◌, ◌-◌, length, Bool, not, ◌||◌, if◌then◌else◌, List, [], ◌∷◌, ◌++◌, Option, Some, None, unwrap_or, slice_get, codes, decimal}
 use Rattle.std.specs.List.{cons_option, filter, flat_map, list_any}
 use Rattle.std.specs.Option.{option_map}
 use Rattle.csp_model.specs.Ascii.{is_nonempty}
@@ -158,15 +158,9 @@ pub record Explained : Type 0 where
   pub blocked : Bool
   pub text : List ℕ
 
-abbrev pub nothing_explained : PolicyList → Explained
-nothing_explained list = record { list = list; blocked = false; text = [] }
-
 abbrev pub with_request : Explained → ℕ → List Check → Explained
 with_request so_far number checks = record {
   list = so_far.list;
   blocked = so_far.blocked || (verdict_of so_far.list checks).blocked;
   text = so_far.text ++ request_text so_far.list number checks;
 }
-
-abbrev pub built_of : Explained → Built
-built_of so_far = record { status = blocked_status so_far.blocked; text = so_far.text }

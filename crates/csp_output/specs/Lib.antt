@@ -10,3 +10,6 @@ pub mod Tidyings
 pub mod Differing
 pub mod Explanations
 pub mod WhyLaws
+pub mod Readings
+pub mod Reports
+pub mod Taken

@@ -1,5 +1,5 @@
-//! What commands print, a module each: `compare`, `check`, `differ`, `drill`, `embed`, `tidy`, `order` and `why`; the
-//! lines of verdicts, what is printed of a learnt policy, and the statuses that runs end with.
+//! What commands print, a module each, and what `report` hands out; the lines of verdicts, and the statuses
+//! that runs end with.
 #![tactic(auto)]
 
 mod built;
@@ -9,11 +9,14 @@ pub mod differ_laws;
 mod differ_output;
 mod drill_output;
 mod embed_output;
+mod judge_output;
 pub mod laws;
 mod learn_output;
 mod lines;
 mod order_output;
+mod read_output;
 mod reason_lines;
+mod report_output;
 mod shown_items;
 mod status;
 mod tidy_output;
@@ -23,14 +26,15 @@ mod why_output;
 
 pub use built::Built;
 pub use check_output::check;
-pub use compare_output::{compare, push_difference};
+pub use compare_output::compare;
 pub use differ_output::differ;
 pub use drill_output::drill;
 pub use embed_output::{Response, embed};
-pub use learn_output::print_learnt;
-pub use lines::{push_all, push_verdict};
+pub use judge_output::judge;
+pub use learn_output::{learn, read_log};
 pub use order_output::order;
+pub use read_output::read;
+pub use report_output::Violations;
 pub use status::{Status, exit_code};
 pub use tidy_output::tidy;
-pub use verdict_lines::VerdictLines;
-pub use why_output::Explanation;
+pub use why_output::why;

@@ -15,7 +15,7 @@ use Rattle.csp_output.specs.declared.status.Status.TheVariants.{WriteFault, Repo
 use Rattle.csp_page.specs.Files.{faults_with}
 use Rattle.csp_page.specs.Page.{HasBad, IsCutAnswer, IsGiven, IsPageAnswer}
 use Rattle.csp_run.specs.declared.fault.Fault.TheVariants as fault
-use Rattle.csp_run.specs.Desk.{Desk}
+use Rattle.csp_desk.specs.Desk.{Desk}
 use Rattle.csp_run.specs.Due.{End, IsDue, IsEndOf, end_status, end_text}
 use Rattle.csp_run.specs.Files.{World}
 use Rattle.csp_run.specs.Texts.{fault_pieces}

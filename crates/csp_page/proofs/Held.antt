@@ -9,7 +9,7 @@ use Rattle.csp_model.specs.declared.url.Origin.{Origin}
 use Rattle.csp_output.specs.Statuses.{exit_code}
 use Rattle.csp_page.specs.Laws.{IsReadable, told_content, told_contents}
 use Rattle.csp_page.specs.Page.{IsPageAnswer}
-use Rattle.csp_run.specs.Desk.{Desk}
+use Rattle.csp_desk.specs.Desk.{Desk}
 use Rattle.csp_run.specs.Due.{End, IsEndOf, end_status, end_text}
 use Rattle.csp_run.specs.Contents.{Content}
 use Rattle.csp_run.specs.Files.{AreRead, IsRead, World, file_fault, file_limit, found_in, read_as, read_fault, then_found}

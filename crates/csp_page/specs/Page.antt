@@ -6,7 +6,7 @@ use Rattle.csp_io.specs.Told.{Rose}
 use Rattle.csp_output.specs.Statuses.{exit_code}
 use Rattle.csp_page.specs.declared.File.{File}
 use Rattle.csp_page.specs.declared.Word.{Word}
-use Rattle.csp_run.specs.Desk.{Desk}
+use Rattle.csp_desk.specs.Desk.{Desk}
 use Rattle.csp_run.specs.Due.{End, IsEndOf, end_status, end_text}
 use Rattle.csp_run.specs.Files.{World}
 use Rattle.csp_run.specs.Words.{plan_of}

@@ -12,7 +12,7 @@ use Rattle.csp_output.specs.declared.status.Status.TheVariants.{Clean}
 use Rattle.csp_policy.specs.Refusal.{list_of}
 use Rattle.csp_proof.specs.Accepts.{first_bad_node}
 use Rattle.csp_run.specs.Commands.{AcceptsInclusion, AsksFor, Wrote}
-use Rattle.csp_run.specs.Desk.{Desk}
+use Rattle.csp_desk.specs.Desk.{Desk}
 use Rattle.csp_run.specs.Due.{End, end_status, end_text}
 use Rattle.csp_run.specs.Files.{World, found_in}
 use Rattle.csp_run.specs.Outputs.{IsOutput, IsPrinted}

@@ -1,8 +1,8 @@
 -- An end of a plan's stages is due.
-use Rattle.std.proofs.Common.{◌≡◌, ◌≢◌, ◌⊎◌, sym, ap, subst, ℕ, List, [], Result, Ok, Err, inl, inr, refl}
+use Rattle.std.proofs.Common.{◌≡◌, ◌≢◌, ◌⊎◌, sym, ap, subst, ℕ, List, Result, Ok, Err, inl, inr, refl}
 use Rattle.std.specs.Prelude.{IsTrue}
 use Rattle.csp_run.specs.Contents.{Content}
-use Rattle.csp_run.specs.Desk.{Desk, IsUntouched}
+use Rattle.csp_desk.specs.Desk.{Desk, IsUntouched}
 use Rattle.csp_run.specs.Due.{End, IsDue, IsEndOf, HasGrown}
 use Rattle.csp_run.specs.Files.{World, AreRead, read_fault}
 use Rattle.csp_run.specs.Forms.{Form}

@@ -3,7 +3,7 @@ use Rattle.std.proofs.Common.{◌≡◌, ◌≢◌, ◌∙◌, sym, ℕ, List}
 use Rattle.csp_output.specs.declared.status.Status.{Status}
 use Rattle.csp_output.specs.declared.status.Status.TheVariants as status
 use Rattle.csp_run.specs.Commands.{AsksFor, Wrote}
-use Rattle.csp_run.specs.Desk.{Desk}
+use Rattle.csp_desk.specs.Desk.{Desk}
 use Rattle.csp_run.specs.Due.{end_status}
 use Rattle.csp_run.specs.Files.{World, found_in}
 use Rattle.csp_run.specs.Outputs.{IsOutput}

@@ -1,5 +1,5 @@
 -- A run of `differ` names each directive under which the lists differ.
-use Rattle.std.proofs.Common.{◌≡◌, ◌≢◌, ◌↔◌, ◌∙◌, sym, subst, refl, ℕ, List, [], ◌∷◌, Result, Ok, Err}
+use Rattle.std.proofs.Common.{◌≡◌, ◌≢◌, ◌↔◌, ◌∙◌, sym, subst, ℕ, List, [], ◌∷◌, Result, Ok, Err}
 use Rattle.std.specs.Prelude.{Contains}
 use Rattle.csp_compare.specs.Differences.{AreDifferences, DiffersAmong, directives_of}
 use Rattle.csp_compare.specs.declared.differences.Difference.{Difference}
@@ -12,7 +12,7 @@ use Rattle.csp_output.specs.declared.built.Built.{Built}
 use Rattle.csp_output.specs.declared.status.Status.{Status}
 use Rattle.csp_output.specs.declared.status.Status.TheVariants.{Clean, NoMemory}
 use Rattle.csp_run.specs.Commands.{AsksFor, NamesDirectives, Wrote}
-use Rattle.csp_run.specs.Desk.{Desk}
+use Rattle.csp_desk.specs.Desk.{Desk}
 use Rattle.csp_run.specs.Due.{End, end_status, end_text}
 use Rattle.csp_run.specs.Files.{World}
 use Rattle.csp_run.specs.Laws.{AreLists}

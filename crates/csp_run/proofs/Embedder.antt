@@ -1,5 +1,5 @@
 -- What `embed` asks for, by what its words are read as.
-use Rattle.std.proofs.Common.{◌≡◌, ◌≢◌, ◌∙◌, ◌<◌, ◌≤◌, sym, ap, subst, ℕ, List, [], ◌∷◌, length, get_or, Option, Some, None, Ok, Err, ok_or, arith}
+use Rattle.std.proofs.Common.{◌≡◌, ◌≢◌, ◌∙◌, ◌<◌, ◌≤◌, sym, ap, ℕ, List, [], ◌∷◌, length, get_or, Option, Some, None, Ok, Err, ok_or, arith}
 use Rattle.csp_model.specs.declared.url.Origin.{Origin}
 use Rattle.csp_url.specs.Origins.{origin_of}
 use Rattle.csp_url.specs.declared.error.OriginError.{OriginError}

@@ -17,7 +17,7 @@ use Rattle.csp_output.specs.declared.built.Built.{Built}
 use Rattle.csp_output.specs.declared.status.Status.{Status}
 use Rattle.csp_output.specs.declared.status.Status.TheVariants as status
 use Rattle.csp_output.proofs.OneStatus.{clean_where_subsumed, found_where_not}
-use Rattle.csp_run.specs.Desk.{Desk}
+use Rattle.csp_desk.specs.Desk.{Desk}
 use Rattle.csp_run.specs.Due.{End, IsDue, IsEndOf, end_status}
 use Rattle.csp_run.specs.Files.{World, found_in}
 use Rattle.csp_run.specs.Laws.{AreLists, AreRequests}

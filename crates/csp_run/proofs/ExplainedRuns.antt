@@ -1,5 +1,5 @@
 -- A run of `why` ends as one of `judge` does.
-use Rattle.std.proofs.Common.{◌≡◌, ◌≢◌, ◌↔◌, ◌∙◌, sym, ap, subst, ℕ, List, [], ◌∷◌, map, Result, Ok, Err}
+use Rattle.std.proofs.Common.{◌≡◌, ◌≢◌, ◌↔◌, ◌∙◌, sym, ap, subst, ℕ, List, map, Result, Ok}
 use Rattle.csp_model.specs.declared.policy.PolicyList.{PolicyList}
 use Rattle.csp_model.specs.declared.verdict.Described.{Described}
 use Rattle.csp_output.specs.Lines.{judgment}
@@ -7,7 +7,7 @@ use Rattle.csp_output.specs.declared.status.Status.{Status}
 use Rattle.csp_output.specs.declared.status.Status.TheVariants.{Clean, Found, NoMemory}
 use Rattle.csp_output.specs.Explanations.{explanation}
 use Rattle.csp_run.specs.Commands.{AsksFor, Wrote}
-use Rattle.csp_run.specs.Desk.{Desk}
+use Rattle.csp_desk.specs.Desk.{Desk}
 use Rattle.csp_run.specs.Due.{end_status, end_text}
 use Rattle.csp_run.specs.Files.{World}
 use Rattle.csp_run.specs.Laws.{AreRequests}

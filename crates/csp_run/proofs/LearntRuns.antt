@@ -9,7 +9,7 @@ use Rattle.csp_output.specs.declared.status.Status.TheVariants.{Clean}
 use Rattle.csp_request.specs.Requests.{requests_of}
 use Rattle.csp_request.specs.declared.error.RequestError.{RequestError}
 use Rattle.csp_run.specs.Commands.{AsksFor, Learns, Wrote}
-use Rattle.csp_run.specs.Desk.{Desk}
+use Rattle.csp_desk.specs.Desk.{Desk}
 use Rattle.csp_run.specs.Due.{End, end_status, end_text}
 use Rattle.csp_run.specs.Files.{World, found_in}
 use Rattle.csp_run.specs.Outputs.{EndsSo, IsLearnt, IsOnRequests, IsOutput, IsPrinted, learnt_or_fault}

@@ -1,5 +1,5 @@
 -- Policy files that are read one after the other.
-use Rattle.std.proofs.Common.{◌≡◌, ◌∙◌, ◌+◌, ◌<◌, ◌≤◌, ℕ, List, [], ◌∷◌, ◌++◌, length, take, drop, get_or, Result, Ok, Err, ap, sym, subst, arith}
+use Rattle.std.proofs.Common.{◌≡◌, ◌∙◌, ◌+◌, ◌<◌, ◌≤◌, ℕ, List, [], ◌∷◌, ◌++◌, length, take, drop, get_or, Ok, Err, ap, sym, subst, arith}
 use Rattle.std.proofs.Common.{length-append, take-append-drop}
 use Rattle.std.proofs.lemmas.List.{length-take-le, map_push, take_all, take_more}
 use Rattle.csp_io.specs.declared.inputs.Inputs.{Ghosts}

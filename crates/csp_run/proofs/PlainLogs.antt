@@ -7,7 +7,7 @@ use Rattle.std.proofs.lemmas.List.Elements.{All-nil, All-map, All-weaker}
 use Rattle.std.proofs.lemmas.Str.{IsUtf8-nil}
 use Rattle.csp_learn.proofs.LogLaws.{needs_after}
 use Rattle.csp_learn.specs.Allowed.{AllowsWhatIsNeeded, Needs}
-use Rattle.csp_learn.specs.Logs.{Lesson, checks_of, is_left, left_at, left_from, left_in, left_of, lesson_of}
+use Rattle.csp_learn.specs.Logs.{Lesson, checks_of, left_at, left_from, left_in, left_of, lesson_of}
 use Rattle.csp_learn.specs.Needs.{need_of, needs_of, with_need}
 use Rattle.csp_learn.specs.declared.learnt.Place.{Place}
 use Rattle.csp_learn.specs.declared.need.Need.{Need}

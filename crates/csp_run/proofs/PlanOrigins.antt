@@ -1,5 +1,5 @@
 -- The origin of a plan is valid.
-use Rattle.std.proofs.Common.{◌≡◌, refl, subst, ℕ, Bool, true, false, cond, List, [], ◌∷◌, Option, Some, None, Result, Ok, Err, codes}
+use Rattle.std.proofs.Common.{◌≡◌, refl, subst, ℕ, Bool, true, false, cond, List, [], ◌∷◌, Option, Some, None, Ok, codes}
 use Rattle.std.specs.Prelude.{bytes_eq}
 use Rattle.csp_model.specs.Validity.{IsValidOrigin}
 use Rattle.csp_model.specs.declared.url.Origin.{Origin}

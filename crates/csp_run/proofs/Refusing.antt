@@ -9,7 +9,7 @@ use Rattle.csp_model.specs.declared.verdict.Violation.{Violation}
 use Rattle.csp_output.specs.declared.status.Status.TheVariants as status
 use Rattle.csp_request.specs.declared.error.RequestError.{RequestError}
 use Rattle.csp_run.specs.Contents.{Content}
-use Rattle.csp_run.specs.Desk.{Desk}
+use Rattle.csp_desk.specs.Desk.{Desk}
 use Rattle.csp_run.specs.Due.{End, IsDue, IsEndOf, end_status}
 use Rattle.csp_run.specs.Files.{World}
 use Rattle.csp_run.specs.Forms.{Form}

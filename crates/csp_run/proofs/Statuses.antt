@@ -21,21 +21,23 @@ use Rattle.csp_run.specs.declared.fault.FileFault.{FileFault}
 use Rattle.csp_run.specs.Contents.{Content}
 use Rattle.csp_run.specs.Contents as content
 use Rattle.csp_output.specs.declared.built.Built.{Built}
+use Rattle.csp_run.specs.declared.plan.Compared.TheVariants.{Compare, Differ}
+use Rattle.csp_run.specs.declared.plan.Judged.TheVariants.{Judge, Why}
 use Rattle.csp_run.specs.Forms.{Form}
-use Rattle.csp_run.specs.Forms.{Judge, Report, Compare, Check, Drill, Embed, Tidy, Learn, Order, Why, Differ, Read}
+use Rattle.csp_run.specs.Forms.{OnRequests, OnTwo, Check, Drill, Embed, Tidy, Learn, Order, Read}
 use Rattle.csp_output.specs.declared.status.Status.{Status}
 use Rattle.csp_output.specs.declared.status.Status.TheVariants.{Clean, Found}
 use Rattle.csp_compare.specs.declared.differences.Difference.{Difference}
 use Rattle.csp_output.specs.Differing.{output_of}
 use Rattle.csp_output.specs.Checks.{checked}
 use Rattle.csp_output.specs.Comparisons.{IsAnswerWith}
-use Rattle.csp_run.specs.Desk.{Desk}
+use Rattle.csp_desk.specs.Desk.{Desk}
 use Rattle.csp_run.specs.Due.{End, IsEndOf}
 use Rattle.csp_run.specs.Files.{World}
 use Rattle.csp_output.specs.Learnt.{learnt_output}
 use Rattle.csp_output.specs.Lines.{judgment}
 use Rattle.csp_run.specs.Outputs.{IsExplained, IsJudged, IsLearnt, IsOnRequests, IsOutput, IsOutputOf, IsPrinted, IsReportOn, IsReported, hands_out, learnt_or_fault}
-use Rattle.csp_run.specs.Reports.{violations_in}
+use Rattle.csp_output.specs.Reports.{violations_in}
 use Rattle.csp_output.specs.Explanations.{explanation}
 use Rattle.csp_run.specs.Words.{Plan}
 
@@ -102,9 +104,9 @@ learnt_done o requests built is =
 
 printed_done : (form : Form) (o : Origin) (contents : List Content) (built : Built) → IsPrinted form o contents (Ok built)
     → is_done built.status ≡ true
-printed_done Judge o (content.Policies list ∷ content.Requests bytes ∷ []) built is =
+printed_done (OnRequests Judge) o (content.Policies list ∷ content.Requests bytes ∷ []) built is =
     on_requests (IsJudged list) (requests_of bytes) built (λ requests. judged_done list requests built) is
-printed_done Compare o (content.Policies first ∷ content.Policies second ∷ []) built is =
+printed_done (OnTwo Compare) o (content.Policies first ∷ content.Policies second ∷ []) built is =
     compared_done built.status first second built.text is
 printed_done Check o (content.Policies first ∷ content.Policies second ∷ content.Proof text ∷ []) built is =
     ap (λ (b : Built). is_done b.status) is.output ∙ checked_status _
@@ -114,9 +116,9 @@ printed_done (Embed embedder) o (content.Required policy ∷ content.Response bl
 printed_done Tidy o (content.Policies list ∷ []) built is = ap is_done is.status
 printed_done Learn o (content.Requests bytes ∷ []) built is =
     on_requests (IsLearnt o) (requests_of bytes) built (λ requests. learnt_done o requests built) is
-printed_done Why o (content.Policies list ∷ content.Requests bytes ∷ []) built is =
+printed_done (OnRequests Why) o (content.Policies list ∷ content.Requests bytes ∷ []) built is =
     on_requests (IsExplained list) (requests_of bytes) built (λ requests. explained_done list requests built) is
-printed_done Differ o (content.Policies first ∷ content.Policies second ∷ []) built is =
+printed_done (OnTwo Differ) o (content.Policies first ∷ content.Policies second ∷ []) built is =
     ap (λ (b : Built). is_done b.status) is.printed ∙ differing_done second is.entries
 printed_done Read o (content.Block block ∷ []) built is = ap (λ (b : Built). is_done b.status) is
 printed_done Order o contents built is = ap is_done is.2.status

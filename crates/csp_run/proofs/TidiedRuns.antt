@@ -10,7 +10,7 @@ use Rattle.csp_output.specs.declared.status.Status.TheVariants.{Clean}
 use Rattle.csp_policy.specs.HeaderLines.{header_lines}
 use Rattle.csp_policy.specs.Refusal.{list_of}
 use Rattle.csp_run.specs.Commands.{AsksFor, Tidies, Wrote}
-use Rattle.csp_run.specs.Desk.{Desk}
+use Rattle.csp_desk.specs.Desk.{Desk}
 use Rattle.csp_run.specs.Due.{End, end_status, end_text}
 use Rattle.csp_run.specs.Files.{World, found_in}
 use Rattle.csp_run.specs.Outputs.{IsOutput, IsPrinted}

@@ -1,5 +1,5 @@
 -- Where reporters hold what they held.
-use Rattle.std.proofs.Common.{◌≡◌, ◌≢◌, ℕ, Bool, true, false, List, [], ◌∷◌, Result, Ok, Err, inl, inr, sym, ap, ◌∙◌}
+use Rattle.std.proofs.Common.{◌≡◌, ◌≢◌, ℕ, Bool, true, false, List, Result, Ok, Err, inl, inr, sym, ap, ◌∙◌}
 use Rattle.std.proofs.lemmas.Bool.{false≢true}
 use Rattle.csp_model.specs.declared.verdict.Violation.{Violation}
 use Rattle.csp_model.specs.declared.url.Origin.{Origin}
@@ -10,7 +10,7 @@ use Rattle.csp_run.specs.declared.fault.FileFault.{FileFault}
 use Rattle.csp_run.specs.Contents.{Content}
 use Rattle.csp_output.specs.declared.built.Built.{Built}
 use Rattle.csp_run.specs.Forms.{Form}
-use Rattle.csp_run.specs.Desk.{Desk, IsUntouched}
+use Rattle.csp_desk.specs.Desk.{Desk, IsUntouched}
 use Rattle.csp_run.specs.Due.{End, IsDue, IsEndOf, HasGrown, end_status}
 use Rattle.csp_run.specs.Files.{World}
 use Rattle.csp_run.specs.Laws.{is_report, may_follow_violations}

@@ -14,13 +14,12 @@ use Rattle.csp_model.specs.declared.verdict.Described.{Described}
 use Rattle.csp_output.specs.Embeddings.{IsEnforcedList}
 use Rattle.csp_output.specs.Learnt.{IsLearntText}
 use Rattle.csp_output.specs.Tidyings.{IsTidying}
-use Rattle.csp_output.specs.declared.built.Built.{Built}
 use Rattle.csp_output.specs.declared.status.Status.{Status}
 use Rattle.csp_policy.specs.HeaderLines.{header_lines}
 use Rattle.csp_policy.specs.Refusal.{list_of}
 use Rattle.csp_request.specs.Requests.{requests_of}
 use Rattle.csp_run.specs.Contents as content
-use Rattle.csp_run.specs.Desk.{Desk}
+use Rattle.csp_desk.specs.Desk.{Desk}
 use Rattle.csp_run.specs.Due.{End, IsDue, end_status, end_text}
 use Rattle.csp_run.specs.Files.{World, found_in}
 use Rattle.csp_run.specs.Forms.{Form}

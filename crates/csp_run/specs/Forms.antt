@@ -1,16 +1,18 @@
 -- The commands.
 use Rattle.std.specs.Prelude.{ℕ}
 use Rattle.csp_model.specs.declared.url.Origin.{Origin}
+use Rattle.csp_run.specs.declared.plan.Compared.{Compared}
+use Rattle.csp_run.specs.declared.plan.Compared.TheVariants as compared
+use Rattle.csp_run.specs.declared.plan.Judged.{Judged}
+use Rattle.csp_run.specs.declared.plan.Judged.TheVariants as judged
 
 -- what a command does
 pub data Form : Type 0 where
-  -- the verdicts of a policy file on the requests of a request file
-  Judge : Form
-  -- what reporters tell of the violations of a policy file by the requests of a request file
-  Report : Form
-  -- whether the second of two policy files allows all that the first allows: a proof, or a check
-  Compare : Form
-  -- whether a proof of that is accepted
+  -- what is said of the requests of a request file by a policy file
+  OnRequests : Judged → Form
+  -- how two policy files differ
+  OnTwo : Compared → Form
+  -- whether a proof is accepted that the second of two policy files allows all that the first allows
   Check : Form
   -- the comparison of two lists that are made for it, with so many pairs of sources
   Drill : ℕ → Form
@@ -22,9 +24,20 @@ pub data Form : Type 0 where
   Learn : Form
   -- which of 2 to 16 policy files allow all that which others allow
   Order : Form
-  -- the verdicts of `judge`, and for each policy which token decided or nearly did
-  Why : Form
-  -- each directive under which the first of two policy files allows more than the second, with a check
-  Differ : Form
   -- how a policy file is read, piece by piece
   Read : Form
+
+abbrev pub Judge : Form
+Judge = OnRequests judged.Judge
+
+abbrev pub Report : Form
+Report = OnRequests judged.Report
+
+abbrev pub Why : Form
+Why = OnRequests judged.Why
+
+abbrev pub Compare : Form
+Compare = OnTwo compared.Compare
+
+abbrev pub Differ : Form
+Differ = OnTwo compared.Differ

@@ -1,15 +1,12 @@
 pub mod Commands
 pub mod Contents
-pub mod Desk
 pub mod Due
 pub mod Files
 pub mod Forms
 pub mod Gathered
 pub mod Laws
 pub mod Outputs
-pub mod Readings
 pub mod Reports
 pub mod Shown
 pub mod Texts
 pub mod Words
-pub mod Taken

@@ -11,7 +11,9 @@ use Rattle.csp_request.specs.declared.error.RequestError.{RequestError}
 use Rattle.csp_request.specs.declared.error.RequestError.TheVariants as request
 use Rattle.csp_run.specs.Contents as content
 use Rattle.csp_run.specs.Contents.{Content}
-use Rattle.csp_run.specs.Forms.{Form, Judge, Report, Compare, Check, Drill, Embed, Tidy, Learn, Order, Why, Differ, Read}
+use Rattle.csp_run.specs.Forms.{Form, OnRequests, OnTwo, Check, Drill, Embed, Tidy, Learn, Order, Read}
+use Rattle.csp_run.specs.declared.plan.Compared.TheVariants.{Compare, Differ}
+use Rattle.csp_run.specs.declared.plan.Judged.TheVariants.{Judge, Report, Why}
 use Rattle.csp_run.specs.declared.fault.Fault.{Fault}
 use Rattle.csp_run.specs.declared.fault.Fault.TheVariants as fault
 use Rattle.csp_run.specs.declared.fault.FileFault.{FileFault}
@@ -22,7 +24,7 @@ use Rattle.csp_output.specs.declared.built.Built.{Built}
 use Rattle.csp_output.specs.Differing.{IsDiffering}
 use Rattle.csp_output.specs.Checks.{IsChecked}
 use Rattle.csp_output.specs.Comparisons.{IsComparison}
-use Rattle.csp_run.specs.Desk.{Desk, IsUntouched}
+use Rattle.csp_desk.specs.Desk.{Desk, IsUntouched}
 use Rattle.csp_output.specs.Drills.{IsDrill}
 use Rattle.csp_output.specs.Embeddings.{IsEmbedding}
 use Rattle.csp_output.specs.Learnt.{learning}
@@ -30,8 +32,9 @@ use Rattle.csp_output.specs.Lines.{judgment}
 use Rattle.csp_output.specs.Orders.{IsOrdering}
 use Rattle.csp_output.specs.Tidyings.{IsTidying}
 use Rattle.csp_output.specs.Explanations.{explanation}
-use Rattle.csp_run.specs.Readings.{told_output}
-use Rattle.csp_run.specs.Reports.{violations_in, IsReport}
+use Rattle.csp_output.specs.Readings.{told_output}
+use Rattle.csp_output.specs.Reports.{violations_in}
+use Rattle.csp_run.specs.Reports.{IsReport}
 
 -- the fault of what a request file is refused for; want of memory is none of the file's
 abbrev pub request_fault : RequestError → Option OutputFault
@@ -83,9 +86,9 @@ IsOrdered contents end =
 
 -- what a command prints of what its files hold, whose policies are of this origin, or the fault of what they hold
 abbrev pub IsPrinted : Form → Origin → List Content → Result Built OutputFault → Type 0
-IsPrinted Judge origin (content.Policies list ∷ content.Requests bytes ∷ []) end =
+IsPrinted (OnRequests Judge) origin (content.Policies list ∷ content.Requests bytes ∷ []) end =
     IsOnRequests (IsJudged list) (requests_of bytes) end
-IsPrinted Compare origin (content.Policies first ∷ content.Policies second ∷ []) end =
+IsPrinted (OnTwo Compare) origin (content.Policies first ∷ content.Policies second ∷ []) end =
     IsBuilt (IsComparison first second) end
 IsPrinted Check origin (content.Policies first ∷ content.Policies second ∷ content.Proof text ∷ []) end =
     IsCheck first second text end
@@ -94,9 +97,9 @@ IsPrinted (Embed embedder) origin (content.Required policy ∷ content.Response 
     IsBuilt (IsEmbedding embedder policy block list) end
 IsPrinted Tidy origin (content.Policies list ∷ []) end = IsBuilt (IsTidying list) end
 IsPrinted Learn origin (content.Requests bytes ∷ []) end = IsOnRequests (IsLearnt origin) (requests_of bytes) end
-IsPrinted Why origin (content.Policies list ∷ content.Requests bytes ∷ []) end =
+IsPrinted (OnRequests Why) origin (content.Policies list ∷ content.Requests bytes ∷ []) end =
     IsOnRequests (IsExplained list) (requests_of bytes) end
-IsPrinted Differ origin (content.Policies first ∷ content.Policies second ∷ []) end =
+IsPrinted (OnTwo Differ) origin (content.Policies first ∷ content.Policies second ∷ []) end =
     IsBuilt (IsDiffering first second) end
 IsPrinted Read origin (content.Block block ∷ []) end = IsBuilt (λ built. built ≡ told_output block) end
 IsPrinted Order origin contents end = IsOrdered contents end
@@ -122,7 +125,7 @@ EndsSo Is (Err f) = ⊥
 
 -- the command that hands violations out
 abbrev pub hands_out : Form → Bool
-hands_out Report = true
+hands_out (OnRequests Report) = true
 hands_out form = false
 
 -- what ends a command on what its files hold, and what it does to the desk

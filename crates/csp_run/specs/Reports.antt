@@ -1,29 +1,14 @@
 -- What `report` does and prints.
 use Rattle.std.specs.Prelude.{◌≡◌, List, Result, Ok, Err}
-use Rattle.std.specs.List.{flat_map}
 use Rattle.csp_desk.specs.Growth.{all_grown, MayRefuse, StopsAt}
 use Rattle.csp_desk.specs.Texts.{desk_text}
 use Rattle.csp_desk.specs.declared.desk.DeskError.TheVariants.{Refused}
-use Rattle.csp_model.specs.Verdict.{violations_of}
-use Rattle.csp_model.specs.declared.policy.PolicyList.{PolicyList}
-use Rattle.csp_model.specs.declared.verdict.Described.{Described}
 use Rattle.csp_model.specs.declared.verdict.Violation.{Violation}
-use Rattle.csp_request.specs.declared.error.RequestError.{RequestError}
-use Rattle.csp_run.specs.Desk.{Desk}
+use Rattle.csp_desk.specs.Desk.{Desk}
 use Rattle.csp_run.specs.declared.fault.Fault.{Fault}
 use Rattle.csp_run.specs.declared.fault.Fault.TheVariants as fault
 use Rattle.csp_output.specs.declared.built.Built.{Built}
 use Rattle.csp_output.specs.declared.status.Status.TheVariants.{Clean}
-
--- the violations of all requests, in order
-abbrev pub all_violations : PolicyList → List Described → List Violation
-all_violations list requests = flat_map (violations_of list) requests
-
--- those of the requests of a file, or what the file is refused for
-abbrev pub violations_in : PolicyList → Result (List Described) RequestError
-    → Result (List Violation) RequestError
-violations_in list (Ok requests) = Ok (all_violations list requests)
-violations_in list (Err refused) = Err refused
 
 -- the text of a desk of which each reporter holds these violations behind what it held
 abbrev pub report_of : Desk → List Violation → Built

@@ -1,10 +1,7 @@
--- What clauses of private functions cite: plans and what their files hold as contracts see them, what was read, what is
--- printed, and what is left where the handing out of violations stops.
+-- What clauses of private functions cite: plans and what their files hold as contracts see them, what was read,
+-- and what is printed.
 use Rattle.std.specs.Prelude.{◌≡◌, ◌≢◌, ◌≤◌, ◌++◌, ⊤, ℕ, List, [], ◌∷◌, length, map, All, Option, Some, None, Result, Ok, Err}
-use Rattle.std.specs.List.{flat_map}
 use Rattle.csp_embed.specs.Decisions.{alone}
-use Rattle.csp_desk.specs.Growth.{GrewInPart, MayRefuse, StopsAt}
-use Rattle.csp_desk.specs.Tellings.{section_text}
 use Rattle.csp_desk.specs.Texts.{desk_text}
 use Rattle.csp_desk.specs.declared.reporter.Kind.{Kind}
 use Rattle.csp_desk.specs.declared.desk.DeskError.{DeskError}
@@ -20,12 +17,13 @@ use Rattle.csp_model.specs.declared.url.Origin.{Origin}
 use Rattle.csp_model.specs.declared.verdict.Violation.{Violation}
 use Rattle.csp_output.specs.declared.built.Built.{Built}
 use Rattle.csp_output.specs.declared.status.Status.TheVariants.{Clean}
+use Rattle.csp_proof.specs.declared.error.ProofError.{ProofError}
+use Rattle.csp_proof.specs.declared.error.ProofError.TheVariants as proof_error
 use Rattle.csp_url.specs.declared.error.OriginError.{OriginError}
 use Rattle.csp_url.specs.declared.error.OriginError.TheVariants as origin_error
 use Rattle.csp_run.specs.Contents as content
-use Rattle.csp_run.specs.Desk.{Desk}
 use Rattle.csp_run.specs.Files.{AreOf, AreRead, World, file_fault, file_limit, policies_content, read_fault, read_list, read_within, world}
-use Rattle.csp_run.specs.Forms.{Form, Judge, Report, Compare, Check, Drill, Embed, Tidy, Learn, Order, Why, Differ, Read}
+use Rattle.csp_run.specs.Forms.{Form, OnRequests, OnTwo, Check, Drill, Embed, Tidy, Learn, Order, Read}
 use Rattle.csp_run.specs.Words as words
 use Rattle.csp_run.specs.Words.{File, files_from}
 use Rattle.csp_run.specs.declared.fault.Cause.{Cause}
@@ -34,7 +32,7 @@ use Rattle.csp_run.specs.declared.fault.Fault.TheVariants as fault
 use Rattle.csp_run.specs.declared.fault.FileFault.{FileFault}
 use Rattle.csp_run.specs.declared.fault.Limit.TheVariants.{Sources}
 use Rattle.csp_run.specs.declared.fault.OutputFault.{OutputFault}
-use Rattle.csp_run.specs.declared.fault.OutputFault.TheVariants.{TooLarge}
+use Rattle.csp_run.specs.declared.fault.OutputFault.TheVariants.{BadProof, TooLarge}
 use Rattle.csp_run.specs.declared.fault.Role.{Role}
 use Rattle.csp_run.specs.declared.fault.Role.TheVariants as role
 use Rattle.csp_run.specs.declared.fault.WordsFault.{WordsFault}
@@ -45,28 +43,13 @@ use Rattle.csp_run.specs.declared.output.Outcome.{Outcome}
 use Rattle.csp_run.specs.declared.output.Outcome.TheVariants.{Text, Reporters}
 use Rattle.csp_run.specs.declared.plan.Command.{Command}
 use Rattle.csp_run.specs.declared.plan.Command.TheVariants as command
-use Rattle.csp_run.specs.declared.plan.Compared.{Compared}
-use Rattle.csp_run.specs.declared.plan.Compared.TheVariants as compared
-use Rattle.csp_run.specs.declared.plan.Judged.{Judged}
-use Rattle.csp_run.specs.declared.plan.Judged.TheVariants as judged
 use Rattle.csp_run.specs.declared.plan.Plan.{Plan}
-use Rattle.csp_run.specs.declared.printed.Printed.{Printed}
-use Rattle.csp_run.specs.declared.printed.Printed.TheVariants as printed
 
 -- Plans
 
-abbrev pub judged_form : Judged → Form
-judged_form judged.Judge = Judge
-judged_form judged.Report = Report
-judged_form judged.Why = Why
-
-abbrev pub compared_form : Compared → Form
-compared_form compared.Compare = Compare
-compared_form compared.Differ = Differ
-
 abbrev pub form_of : Command → Form
-form_of (command.Judged does policy requests) = judged_form does
-form_of (command.Compared does first second) = compared_form does
+form_of (command.Judged does policy requests) = OnRequests does
+form_of (command.Compared does first second) = OnTwo does
 form_of (command.Checked first second proof) = Check
 form_of (command.Drill pairs) = Drill pairs
 form_of (command.Embedded embedder required response) = Embed embedder
@@ -121,8 +104,8 @@ origin_fault origin_error.Memory = fault.Memory
 -- What files hold
 
 abbrev pub read_form : Operands → Form
-read_form (operands.Judged does list requests) = judged_form does
-read_form (operands.Compared does first second) = compared_form does
+read_form (operands.Judged does list requests) = OnRequests does
+read_form (operands.Compared does first second) = OnTwo does
 read_form (operands.Checked first second proof) = Check
 read_form (operands.Drill pairs) = Drill pairs
 read_form (operands.Embedded embedder required block response) = Embed embedder
@@ -245,33 +228,23 @@ abbrev pub learn_fault : LearnError → Fault
 learn_fault learn_error.TooManySources = fault.Output (TooLarge Sources)
 learn_fault learn_error.Memory = fault.Memory
 
+-- the fault of a text that is no proof's
+abbrev pub proof_fault : ProofError → Fault
+proof_fault (proof_error.BadProof line) = fault.Output (BadProof line)
+proof_fault proof_error.Memory = fault.Memory
+
 -- How a run ends with what a command prints, where reporters of these kinds hold these violations.
 abbrev pub end_of : List Kind → List (List Violation) → Result Outcome Fault → Result Built Fault
 end_of kinds helds (Ok (Text built)) = Ok built
 end_of kinds helds (Ok Reporters) = Ok (record { status = Clean; text = desk_text kinds helds })
 end_of kinds helds (Err f) = Err f
 
--- the output of what is ready to be written
-abbrev pub printed_as : Printed → Built
-printed_as (printed.Text built) = built
-printed_as (printed.Sections sections) = record {
-  status = Clean;
-  text = flat_map section_text sections.items;
-}
-
-abbrev pub printed_end : Result Printed Fault → Result Built Fault
-printed_end (Ok printed) = Ok (printed_as printed)
-printed_end (Err f) = Err f
+-- What is printed of an end: its text, or, where it isn't a fault, that memory was wanting for it.
+pub record IsPrintedOf (end printed : Result Built Fault) : Type 0 where
+  pub text : printed ≢ Err fault.Memory → printed ≡ end
+  pub fault : (f : Fault) → end ≡ Err f → printed ≡ Err f
 
 -- the fault of what stops the handing out of violations
 abbrev pub desk_fault : DeskError → Fault
 desk_fault (Refused reporter) = fault.Refused reporter
 desk_fault Memory = fault.Memory
-
--- What is left where these violations aren't all handed out: one was refused, or there was no memory to take
--- one or to find the next.
-abbrev pub HasStopped : DeskError → List Violation → Desk → Type 0
-HasStopped (Refused reporter) all desk =
-    StopsAt (Refused reporter) all desk.held_before desk.held_now desk.faults_before desk.faults_now
-    × MayRefuse desk.may_refuse (Refused reporter)
-HasStopped Memory all desk = GrewInPart all desk.held_before desk.held_now

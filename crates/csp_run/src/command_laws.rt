@@ -11,7 +11,7 @@ ghost use Rattle.csp_output.specs.declared.status.Status.{Status};
 ghost use Rattle.csp_output.specs.declared.status.Status.TheVariants as status;
 ghost use Rattle.csp_output.specs.Explanations.{explanation};
 ghost use Rattle.csp_run.specs.Commands.{AcceptsInclusion, AsksFor, Learns, NamesDirectives, Shows, Tidies, Wrote};
-ghost use Rattle.csp_run.specs.Desk.{Desk};
+ghost use Rattle.csp_desk.specs.Desk.{Desk};
 ghost use Rattle.csp_run.specs.Files.{World};
 ghost use Rattle.csp_run.specs.Forms as form;
 ghost use Rattle.csp_run.specs.Laws.{AreLists, AreRequests};

@@ -6,6 +6,7 @@ use csp_desk::DeskError;
 use csp_learn::LearnError;
 use csp_model::Memory;
 use csp_output::Status;
+use csp_proof::ProofError;
 use csp_request::{Field, RequestError};
 use csp_url::OriginError;
 
@@ -198,6 +199,19 @@ impl From<LearnError> for Fault {
                 limit: Limit::Sources,
             }),
             LearnError::Memory => Fault::Memory,
+        }
+    }
+}
+
+impl From<ProofError> for Fault {
+    ghost use Rattle.csp_run.specs.Shown.{proof_fault};
+
+    ghost from_gives = { λ error made. made ≡ proof_fault error };
+
+    fn from(error: ProofError) -> Fault {
+        match error {
+            ProofError::BadProof { line } => Fault::Output(OutputFault::BadProof { line }),
+            ProofError::Memory => Fault::Memory,
         }
     }
 }

@@ -3,7 +3,7 @@ ghost use Rattle.std.specs.Prelude.{◌≡◌, ◌≢◌, ◌∷◌, [], ok_or, 
 ghost use Rattle.csp_model.specs.Answers.{Gives};
 ghost use Rattle.csp_model.specs.Validity.{IsValidOrigin};
 ghost use Rattle.csp_run.specs.Forms as form;
-ghost use Rattle.csp_run.specs.Shown.{IsAsked, as_command, compared_form, form_of, judged_form, planned, words_end};
+ghost use Rattle.csp_run.specs.Shown.{IsAsked, as_command, form_of, planned, words_end};
 ghost use Rattle.csp_run.specs.Words as spec;
 ghost use Rattle.csp_run.specs.declared.fault.Role.TheVariants as role;
 
@@ -207,7 +207,7 @@ fn command_of<'a>(verb: &str, word: &str, names: &'a [Text]) -> Option<Command<'
 
 fn judging<'a>(does: Judged, names: &'a [Text]) -> Option<Command<'a>>
     ensures command { option_map as_command result
-        ≡ spec.command_on (judged_form does) (role.Policy ∷ role.Requests ∷ []) names.now }
+        ≡ spec.command_on (form.OnRequests does) (role.Policy ∷ role.Requests ∷ []) names.now }
     ensures asked { IfSome result IsAsked }
 {
     match names {
@@ -222,7 +222,7 @@ fn judging<'a>(does: Judged, names: &'a [Text]) -> Option<Command<'a>>
 
 fn comparing<'a>(does: Compared, names: &'a [Text]) -> Option<Command<'a>>
     ensures command { option_map as_command result
-        ≡ spec.command_on (compared_form does) (role.First ∷ role.Second ∷ []) names.now }
+        ≡ spec.command_on (form.OnTwo does) (role.First ∷ role.Second ∷ []) names.now }
     ensures asked { IfSome result IsAsked }
 {
     match names {

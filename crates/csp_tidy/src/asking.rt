@@ -55,8 +55,8 @@ fn governed_at(alloc: Global, list: &PolicyList, place: Place) -> Result<Vec<Nam
     governed(alloc, policy, directive)
 }
 
-// An entry for the token of a candidate. A list with more directives than a `u32` counts takes more memory than
-// there is.
+// An entry for the token of a candidate. A list with more directives than a `u32` counts takes more memory
+// than there is.
 fn needed_at(place: Place, allowed_with: bool, check: Check) -> Result<Needed, Memory>
     requires policy { place.policy < policy_limit }
     requires token { place.token < token_limit }
