@@ -5,9 +5,8 @@ ghost use Rattle.csp_desk.specs.Texts.{is_of};
 ghost use Rattle.csp_desk.specs.declared.reporter.Kind.TheVariants as kinds;
 
 use crate::counts::{count, counts_text};
-use crate::history::History;
 use crate::reporter::{AcceptError, Kind, Reporter};
-use csp_model::{Bytes, Memory, Violation};
+use csp_model::{Bytes, Memory, Trace, Violation};
 use std::alloc::Global;
 use std::marker::Model;
 
@@ -19,7 +18,7 @@ use std::marker::Model;
 pub struct Tally {
     // One for each name, in byte order of the names.
     counts: [usize; 20],
-    history: History,
+    history: Trace<Violation>,
 }
 
 impl Model for Tally {
@@ -45,7 +44,7 @@ impl Tally {
     {
         Tally {
             counts: [0; 20],
-            history: History::new(),
+            history: Trace::new(),
         }
     }
 
