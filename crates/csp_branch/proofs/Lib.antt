@@ -1,6 +1,5 @@
 pub mod Changing
 pub mod Denials
-pub mod Fieldless
 pub mod Grouping
 pub mod Keeping
 pub mod Literals

@@ -20,7 +20,6 @@ mod order;
 mod ranges;
 mod sorting;
 mod step;
-mod steps;
 mod walker;
 
 pub use branch::{Branch, Change};

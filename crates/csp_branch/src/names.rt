@@ -75,12 +75,13 @@ impl Names {
     pub fn are_in_order(&self)
         ensures { AreInOrder self.now }
     {
-        self.ranges.are_in_order();
+        let _ = self.atoms();
     }
 
     /// The atoms, in the order of their names.
     pub fn atoms(&self) -> &[Atom]
-        ensures { result.now ≡ self.now }
+        ensures atoms { result.now ≡ self.now }
+        ensures order { AreInOrder self.now }
     {
         self.ranges.atoms()
     }
@@ -90,7 +91,6 @@ impl Names {
         ensures { MatchOption result (¬ Contains self.now atom.now)
             (λ name. slice_get self.now name ≡ Some atom.now) }
     {
-        self.are_in_order();
         let atoms = self.atoms();
         let name = atoms.partition_point(|named| compare_names(named, atom).is_lt());
         let found = atoms.get(name)?;
@@ -109,7 +109,6 @@ impl Names {
         ensures from { (k : ℕ) (d : AtomValue) → result ≤ k → k < length self.now
             → part ≤ number_of (slice_index_or self.now k d) }
     {
-        self.are_in_order();
         self.atoms()
             .partition_point(|atom| part_number(atom.part()) < part)
     }
