@@ -91,7 +91,6 @@ fn cell_of(alloc: Global, shape: Shape, walker: &Walker) -> Result<Cell, Memory>
     ensures { IfOk result (IsCellOf shape walker.now.literals) }
 {
     let names = walker.branch().names();
-    names.are_in_order();
     let atoms = names.atoms();
     let mut cell = Cell::new(alloc, shape);
     for change in walker.changes() {
