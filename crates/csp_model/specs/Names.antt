@@ -1,6 +1,6 @@
 -- The names of directives, and what asks for which (Content Security Policy Level 3, sections 6.1 to 6.4,
 -- 6.8.1 and 6.8.2).
-use Rattle.std.specs.Prelude.{ℕ, List, [], ◌∷◌, Option, codes}
+use Rattle.std.specs.Prelude.{ℕ, List, Option, codes}
 use Rattle.std.specs.List.{find}
 use Rattle.std.specs.Str.{bytes_eq}
 use Rattle.csp_model.specs.declared.name.Name.{Name}
@@ -11,6 +11,9 @@ use Rattle.csp_model.specs.declared.check.InlineKind.{InlineKind}
 use Rattle.csp_model.specs.declared.check.InlineKind.TheVariants as kind
 use Rattle.csp_model.specs.declared.check.Capability.{Capability}
 use Rattle.csp_model.specs.declared.check.Capability.TheVariants as capability
+pub use Rattle.csp_model.specs.declared.check.TheConstants.Capability.{ALL as capabilities}
+pub use Rattle.csp_model.specs.declared.check.TheConstants.InlineKind.{ALL as inline_kinds}
+pub use Rattle.csp_model.specs.declared.name.TheConstants.Name.{ALL as names}
 use Rattle.csp_model.specs.declared.policy.Disposition.{Disposition}
 use Rattle.csp_model.specs.declared.policy.Disposition.TheVariants.{Enforce, Report}
 
@@ -72,12 +75,6 @@ capability_text capability.PointerLock = codes "pointer-lock"
 capability_text capability.OrientationLock = codes "orientation-lock"
 capability_text capability.Presentation = codes "presentation"
 capability_text capability.Downloads = codes "downloads"
-
-abbrev pub capabilities : List Capability
-capabilities = capability.Forms ∷ capability.Scripts ∷ capability.SameOrigin ∷ capability.Popups
-    ∷ capability.PopupsToEscapeSandbox ∷ capability.TopNavigation ∷ capability.TopNavigationByUserActivation
-    ∷ capability.Modals ∷ capability.PointerLock ∷ capability.OrientationLock ∷ capability.Presentation
-    ∷ capability.Downloads ∷ []
 
 -- the capability that is so written
 abbrev pub capability_named : List ℕ → Option Capability
