@@ -11,11 +11,15 @@ use Rattle.csp_model.specs.declared.check.InlineKind.{InlineKind}
 use Rattle.csp_model.specs.declared.check.InlineKind.TheVariants as kind
 use Rattle.csp_model.specs.declared.check.Capability.{Capability}
 use Rattle.csp_model.specs.declared.check.Capability.TheVariants as capability
-pub use Rattle.csp_model.specs.declared.check.TheConstants.Capability.{ALL as capabilities}
-pub use Rattle.csp_model.specs.declared.check.TheConstants.InlineKind.{ALL as inline_kinds}
-pub use Rattle.csp_model.specs.declared.name.TheConstants.Name.{ALL as names}
+use Rattle.csp_model.specs.declared.check.TheConstants.Capability as every_capability
+use Rattle.csp_model.specs.declared.check.TheConstants.InlineKind as every_kind
+use Rattle.csp_model.specs.declared.name.TheConstants.Name as every_name
 use Rattle.csp_model.specs.declared.policy.Disposition.{Disposition}
 use Rattle.csp_model.specs.declared.policy.Disposition.TheVariants.{Enforce, Report}
+
+-- all names, in the order of their texts
+abbrev pub names : List Name
+names = every_name.ALL
 
 -- a name as it is written
 abbrev pub name_text : Name → List ℕ
@@ -53,6 +57,9 @@ group_directive group.StyleElem = StyleSrcElem
 group_directive group.ScriptElem = ScriptSrcElem
 group_directive group.Worker = WorkerSrc
 
+abbrev pub inline_kinds : List InlineKind
+inline_kinds = every_kind.ALL
+
 -- the effective directive of inline code or style
 abbrev pub inline_directive : InlineKind → Name
 inline_directive kind.Script = ScriptSrcElem
@@ -75,6 +82,9 @@ capability_text capability.PointerLock = codes "pointer-lock"
 capability_text capability.OrientationLock = codes "orientation-lock"
 capability_text capability.Presentation = codes "presentation"
 capability_text capability.Downloads = codes "downloads"
+
+abbrev pub capabilities : List Capability
+capabilities = every_capability.ALL
 
 -- the capability that is so written
 abbrev pub capability_named : List ℕ → Option Capability

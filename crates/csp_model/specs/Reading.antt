@@ -8,8 +8,8 @@ use Rattle.csp_model.specs.Ascii.{code, lower, ends_in, without_last, skip_while
 use Rattle.csp_model.specs.Grammar.{is_scheme_char, is_scheme, is_label_char, host_part_of, port_part_of, path_part_of, keyword_text, is_base64_value, algorithm_text}
 use Rattle.csp_model.specs.declared.source.Algorithm.{Algorithm}
 use Rattle.csp_model.specs.declared.source.Algorithm.TheVariants.{Sha256, Sha384, Sha512}
--- the keywords that act
-pub use Rattle.csp_model.specs.declared.source.TheConstants.Keyword.{ALL as keywords}
+use Rattle.csp_model.specs.declared.source.Keyword.{Keyword}
+use Rattle.csp_model.specs.declared.source.TheConstants.Keyword as every_keyword
 use Rattle.csp_model.specs.declared.source.Source.{Source}
 use Rattle.csp_model.specs.declared.source.Source.TheVariants as source
 
@@ -39,6 +39,10 @@ scheme_source token =
     if ends_in (code ":") token && is_scheme (without_last token)
     then Some (source.SchemeOnly (lower (without_last token)))
     else None
+
+-- the keywords that act
+abbrev pub keywords : List Keyword
+keywords = every_keyword.ALL
 
 unfoldable pub keyword_source : List ℕ → Option Source
 keyword_source token =
