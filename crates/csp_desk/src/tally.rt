@@ -4,7 +4,7 @@ ghost use Rattle.std.specs.Prelude.{◌≡◌, ◌∷◌, ◌++◌, ◌-◌, ◌
 ghost use Rattle.csp_desk.specs.Texts.{is_of};
 ghost use Rattle.csp_desk.specs.declared.reporter.Kind.TheVariants as kinds;
 
-use crate::counts::{count, counts_text};
+use crate::counts::{NAMES, count, counts_text};
 use crate::history::History;
 use crate::reporter::{AcceptError, Kind, Reporter};
 use csp_model::{Bytes, Memory, Violation};
@@ -18,7 +18,7 @@ use std::marker::Model;
 #[derive(Debug, Drop)]
 pub struct Tally {
     // One for each name, in byte order of the names.
-    counts: [usize; 20],
+    counts: [usize; NAMES],
     history: History,
 }
 
@@ -44,7 +44,7 @@ impl Tally {
         ensures may_refuse { ⟦<Tally as Reporter>⟧.may_refuse result ≡ false }
     {
         Tally {
-            counts: [0; 20],
+            counts: [0; NAMES],
             history: History::new(),
         }
     }
