@@ -18,7 +18,7 @@ use Rattle.csp_facts.specs.declared.shape.Shape.{Shape}
 use Rattle.csp_facts.proofs.Apart.{one_shape}
 use Rattle.csp_facts.proofs.Checks.{shape_of, shaped, is_listed, is_only}
 use Rattle.csp_proof.proofs.ReadableSaid.{AllSaid, are_said}
-use Rattle.csp_proof.proofs.ShapesListed.{within_count}
+use Rattle.csp_facts.proofs.Listed.{within_count}
 use Rattle.csp_compare.specs.Differences.{HasNodes, HasNoneAt, IsAmongAt, IsIncludedAt, IsIncludedBelow, SubsumesAmong, effective_names, effective_of}
 use Rattle.csp_compare.specs.Tasks.{lists_of, IsTask}
 use Rattle.csp_compare.specs.declared.task.Task.{Task}

@@ -30,7 +30,7 @@ use Rattle.csp_proof.specs.declared.proof.Body.{Body}
 use Rattle.csp_proof.specs.declared.proof.Body.TheVariants as body
 use Rattle.csp_proof.specs.declared.proof.Proof.{Proof}
 use Rattle.csp_proof.specs.declared.proof.Tree.{Tree}
-use Rattle.csp_proof.proofs.ShapesListed.{at_number, within_count}
+use Rattle.csp_facts.proofs.Listed.{at_number, within_count}
 
 -- Lists
 
