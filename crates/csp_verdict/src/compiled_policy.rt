@@ -1,6 +1,5 @@
 //! A policy made ready for many checks.
 ghost use Rattle.std.specs.Prelude.{◌≡◌, IfOk, IfSome, map, take, option_copied, slice_get, Some};
-ghost use Rattle.csp_match.specs.Candidates.{names};
 ghost use Rattle.csp_match.specs.Shown.{shown};
 ghost use Rattle.csp_model.specs.DecideNavigation.{capability_allows};
 ghost use Rattle.csp_model.specs.Governing as spec;
@@ -170,7 +169,7 @@ fn printed_where(alloc: Global, policy: &Policy, is_printed: bool) -> Result<Opt
 
 // What the policy has for each name.
 fn entries_of<'a>(alloc: Global, policy: &'a Policy) -> Result<Vec<Entry<'a>>, Memory>
-    ensures { IfOk result (λ made. made.items ≡ map (entries.entry_of policy.now) names) }
+    ensures { IfOk result (λ made. made.items ≡ map (entries.entry_of policy.now) names_spec.names) }
 {
     let candidates = Candidates::new(alloc, policy)?;
     let mut made = Vec::new(alloc);
@@ -204,28 +203,8 @@ fn allowed_capabilities(alloc: Global, policy: &Policy) -> Result<Vec<bool>, All
     ensures { IfOk result (λ made. made.items
         ≡ map (capability_allows policy.now) names_spec.capabilities) }
 {
-    capabilities()
+    Capability::ALL
         .iter()
         .map(|capability| capability_allows(policy, *capability))
         .collect(alloc)
-}
-
-// The capabilities, in the order in which they are declared.
-fn capabilities() -> &'static [Capability]
-    ensures { result.now ≡ names_spec.capabilities }
-{
-    &[
-        Capability::Forms,
-        Capability::Scripts,
-        Capability::SameOrigin,
-        Capability::Popups,
-        Capability::PopupsToEscapeSandbox,
-        Capability::TopNavigation,
-        Capability::TopNavigationByUserActivation,
-        Capability::Modals,
-        Capability::PointerLock,
-        Capability::OrientationLock,
-        Capability::Presentation,
-        Capability::Downloads,
-    ]
 }
