@@ -20,7 +20,10 @@ fn spells(token: &[u8], word: Keyword) -> bool
 fn keyword_of(token: &[u8]) -> Option<Keyword>
     ensures { result ≡ find (λ word. bytes_eq (lower token.now) (grammar.keyword_text word)) spec.keywords }
 {
-    Keyword::ALL.iter().copied().find(|word| spells(token, *word))
+    Keyword::ALL
+        .iter()
+        .copied()
+        .find(|word| spells(token, *word))
 }
 
 // The source that is a keyword.
