@@ -1,24 +1,11 @@
-//! Keywords in source lists.
-ghost use Rattle.std.specs.Prelude.{◌≡◌, ◌↔◌, ◌||◌, IsTrue, false};
+//! Keywords.
+ghost use Rattle.std.specs.Prelude.{◌≡◌, ◌||◌, false};
 ghost use Rattle.csp_model.specs.DecideTokens as spec;
 ghost use Rattle.csp_model.specs.DecideEquality.{same_keyword};
-ghost use Rattle.csp_model.specs.Tokens.{HasKeyword};
 ghost use Rattle.csp_model.specs.declared.source.Keyword.{Keyword as AnyKeyword};
 ghost use Rattle.csp_token.specs.Keywords.{has};
 
-use csp_model::{Keyword, List, Source};
-
-/// Whether a source list has a keyword.
-#[tactic(auto, using(csp_model::proofs::TokensDecided::keyword_decides))]
-pub fn has_keyword(sources: &List<Source>, word: Keyword) -> bool
-    ensures value { result ≡ spec.has_keyword word sources.now }
-    ensures has { IsTrue result ↔ HasKeyword word sources.now }
-{
-    sources
-        .as_slice()
-        .iter()
-        .any(|source| is_keyword(source, word))
-}
+use csp_model::{Keyword, Source};
 
 /// Whether a source is a keyword.
 pub fn is_keyword(source: &Source, word: Keyword) -> bool

@@ -16,9 +16,10 @@ use csp_match::{Candidates, names};
 use csp_model::{Capability, Check, Duplicate, Item, Keyword, Memory, Name, Policy, Text};
 use csp_policy::policy_text;
 use csp_rules::{
-    capability_allows, decided_by_tokens, governed_eval_allows, governed_inline_allows,
-    governed_wasm_allows, worker_start_allows,
+    capability_allows, decided_by_tokens, sources_allow_eval, sources_allow_inline,
+    sources_allow_wasm, worker_start_allows,
 };
+use csp_token::Tokens;
 use std::alloc::{AllocError, Global};
 use std::marker::Model;
 
@@ -110,9 +111,9 @@ impl<'a> CompiledPolicy<'a> {
                 kind,
                 nonce,
                 digests,
-            } => governed_inline_allows(*kind, found.tokens(), nonce, digests),
-            Check::Eval => governed_eval_allows(found.tokens()),
-            Check::Wasm => governed_wasm_allows(found.tokens()),
+            } => sources_allow_inline(*kind, found.tokens(), nonce, digests),
+            Check::Eval => sources_allow_eval(found.tokens()),
+            Check::Wasm => sources_allow_wasm(found.tokens()),
             Check::Base { url } | Check::Ancestor { url } => {
                 found.index().matches(origin, url, false)
             }

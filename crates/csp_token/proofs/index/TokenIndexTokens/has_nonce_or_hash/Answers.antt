@@ -5,7 +5,7 @@ use Rattle.std.proofs.lemmas.Grind.{common_steps}
 use Rattle.csp_model.specs.Inline.{is_nonce_or_hash}
 use Rattle.csp_token.specs.Index.{is_empty}
 use Rattle.csp_token.proofs.IndexEmpty.{nonce_or_hash_known}
-use Rattle.csp_token.proofs.index.TokenIndex.has_nonce_or_hash.Goals as goal
+use Rattle.csp_token.proofs.index.TokenIndexTokens.has_nonce_or_hash.Goals as goal
 
 pub returns-then-not-is_empty : goal.returns-then-not-is_empty
 returns-then-not-is_empty c =

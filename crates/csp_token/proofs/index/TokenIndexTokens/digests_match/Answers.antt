@@ -1,7 +1,7 @@
 use Rattle.std.proofs.Common.{◌∙◌, ap}
 use Rattle.csp_model.specs.DecideTokens as tests
 use Rattle.csp_model.proofs.TokensDecided.{digests_decide}
-use Rattle.csp_token.proofs.index.TokenIndex.digests_match.Goals as goal
+use Rattle.csp_token.proofs.index.TokenIndexTokens.digests_match.Goals as goal
 
 pub returns-clause-value : goal.returns-clause-value
 returns-clause-value c =

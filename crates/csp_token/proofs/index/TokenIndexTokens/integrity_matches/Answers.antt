@@ -4,7 +4,7 @@ use Rattle.std.proofs.lemmas.Grind.{common_steps}
 use Rattle.csp_model.specs.DecideTokens as tests
 use Rattle.csp_model.proofs.TokensDecided.{integrity_decides}
 use Rattle.csp_token.proofs.IndexSteps.{all_pairs}
-use Rattle.csp_token.proofs.index.TokenIndex.integrity_matches.Goals as goal
+use Rattle.csp_token.proofs.index.TokenIndexTokens.integrity_matches.Goals as goal
 
 pub returns-then-not-is_empty-clause-value : goal.returns-then-not-is_empty-clause-value
 returns-then-not-is_empty-clause-value c =

@@ -1,7 +1,7 @@
 use Rattle.std.proofs.Common.{◌≡◌, ◌∙◌, ap}
 use Rattle.csp_model.specs.DecideTokens as tests
 use Rattle.csp_model.proofs.TokensDecided.{keyword_decides}
-use Rattle.csp_token.proofs.index.TokenIndex.has_keyword.Goals as goal
+use Rattle.csp_token.proofs.index.TokenIndexTokens.has_keyword.Goals as goal
 
 pub returns-clause-has : goal.returns-clause-has
 returns-clause-has c =
