@@ -19,7 +19,7 @@ pub mod HostOrder
 pub mod NameExact
 pub mod NameOrder
 pub mod Nesting
-pub mod Numbering
 pub mod PartOrder
 pub mod Prefixes
 pub mod Rows
+pub mod SortedOnce

@@ -24,7 +24,7 @@ mod steps;
 mod walker;
 
 pub use branch::{Branch, Change};
-pub use names::{Named, Names, name_atoms};
+pub use names::Names;
 pub use order::part_number;
 pub use step::Step;
 pub use walker::Walker;
