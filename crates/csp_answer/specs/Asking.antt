@@ -13,9 +13,8 @@ use Rattle.csp_formula.specs.declared.outline.PathOutline.{PathOutline}
 use Rattle.csp_formula.specs.declared.outline.PathOutline.TheVariants as path
 use Rattle.csp_formula.specs.declared.outline.PortOutline.{PortOutline}
 use Rattle.csp_formula.specs.declared.outline.PortOutline.TheVariants as port
-use Rattle.csp_answer.specs.Answers.{AreThere, IsAmong, IsAnswer, IsThere, SaysTheSame, disjunction_in, fact_in, sentence_in}
+use Rattle.csp_answer.specs.Answers.{AreThere, IsAmong, IsThere, SaysTheSame, disjunction_in, fact_in}
 use Rattle.csp_answer.specs.Naming.{HasPorts, IsSourceNamed}
-use Rattle.csp_answer.specs.declared.answer.Answer.{Answer}
 use Rattle.csp_answer.specs.declared.conjunction.Conjunction.{Conjunction}
 use Rattle.csp_answer.specs.declared.listed.NamedList.{NamedList}
 use Rattle.csp_answer.specs.declared.naming.NamedPolicy.{NamedPolicy}
@@ -70,12 +69,6 @@ abbrev pub conjunction_of : Option ℕ → Option (Option ℕ) → Option (Optio
 conjunction_of (Some lead) (Some port) (Some path) =
     Some (record { lead = Some lead; port = port; path = path })
 conjunction_of lead port path = None
-
--- the answer says what the sentence does, and speaks of no other atoms, by names that are there
-pub record Answers (atoms : List Atom) (sentence : Sentence) (made : Answer) : Type 0 where
-  pub said : SaysTheSame (sentence_in atoms made) sentence
-  pub among : IsAmong (sentence_in atoms made) sentence
-  pub answer : IsAnswer (length atoms) made
 
 -- Words
 
