@@ -45,12 +45,12 @@ atoms_apart (l ∷ ls) each pairs =
     (λ k d within. apart l (get_or ls k d) here (later k d within) (pairs_head StandTogether l ls pairs k d within)))
     (atoms_apart ls later (pairs_tail StandTogether l ls pairs))
 
-pub leaves_ports : (q : Question) → IsReadable q.first.now → IsReadable q.second.now → (ls : List Literal) → AllPairs StandTogether ls
+pub leaves_ports : (q : Question) → IsReadable q.lists.now.first.now → IsReadable q.lists.now.second.now → (ls : List Literal) → AllPairs StandTogether ls
     → All (λ (l : Literal). Contains (asked_atoms q) l.atom) ls → LeavesPorts ls
 leaves_ports q one two ls pairs among =
     let atom_of = λ (l : Literal). l.atom in
-    let ones = atoms_of q.vocabulary.now.hashes q.shape q.first.now in
-    let twos = atoms_of q.vocabulary.now.hashes q.shape q.second.now in
+    let ones = atoms_of q.lists.now.vocabulary.hashes q.shape q.lists.now.first.now in
+    let twos = atoms_of q.lists.now.vocabulary.hashes q.shape q.lists.now.second.now in
     let denials = filter denies_port ls in
     let ports = filter names_port (ones ++ twos) in
     let passes = filter_passes denies_port ls in
@@ -62,4 +62,4 @@ leaves_ports q one two ls pairs among =
     contains_filter names_port (ones ++ twos) l.atom (denied l.atom l.positive (passes k d within)).1 (inside k d within) in
     let fewer = no_more (map atom_of denials) ports different (All-map (Contains ports) atom_of denials named) in
     let size = ap length (filter-append names_port ones twos) ∙ length-append (filter names_port ones) (filter names_port twos) in
-    omega (arith, fewer, length-map denials atom_of, size, few_ports q.first.now one q.shape q.vocabulary.now.hashes, few_ports q.second.now two q.shape q.vocabulary.now.hashes)
+    omega (arith, fewer, length-map denials atom_of, size, few_ports q.lists.now.first.now one q.shape q.lists.now.vocabulary.hashes, few_ports q.lists.now.second.now two q.shape q.lists.now.vocabulary.hashes)
