@@ -123,6 +123,12 @@ keyword_text keyword.StrictDynamic = codes "'strict-dynamic'"
 keyword_text keyword.UnsafeHashes = codes "'unsafe-hashes'"
 keyword_text keyword.ReportSample = codes "'report-sample'"
 
+-- the keywords that act
+abbrev pub keywords : List Keyword
+keywords =
+    keyword.SelfOrigin ∷ keyword.UnsafeInline ∷ keyword.UnsafeEval ∷ keyword.WasmUnsafeEval
+    ∷ keyword.StrictDynamic ∷ keyword.UnsafeHashes ∷ keyword.ReportSample ∷ []
+
 -- base64-value = 1*( ALPHA / DIGIT / "+" / "/" / "-" / "_" )*2( "=" )
 unfoldable pub is_base64_char : ℕ → Bool
 is_base64_char c = is_ascii_alphanumeric c || list_any (λ d. d == c) (codes "+/-_")

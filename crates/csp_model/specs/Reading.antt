@@ -5,11 +5,10 @@ use Rattle.std.specs.List.{starts_with, find}
 use Rattle.std.specs.Option.{option_map, option_and_then}
 use Rattle.std.specs.Str.{bytes_eq}
 use Rattle.csp_model.specs.Ascii.{code, lower, ends_in, without_last, skip_while}
-use Rattle.csp_model.specs.Grammar.{is_scheme_char, is_scheme, is_label_char, host_part_of, port_part_of, path_part_of, keyword_text, is_base64_value, algorithm_text}
+use Rattle.csp_model.specs.Grammar.{is_scheme_char, is_scheme, is_label_char, host_part_of, port_part_of, path_part_of, keyword_text, keywords, is_base64_value, algorithm_text}
 use Rattle.csp_model.specs.declared.source.Algorithm.{Algorithm}
 use Rattle.csp_model.specs.declared.source.Algorithm.TheVariants.{Sha256, Sha384, Sha512}
 use Rattle.csp_model.specs.declared.source.Keyword.{Keyword}
-use Rattle.csp_model.specs.declared.source.Keyword.TheVariants as keyword
 use Rattle.csp_model.specs.declared.source.Source.{Source}
 use Rattle.csp_model.specs.declared.source.Source.TheVariants as source
 
@@ -40,15 +39,12 @@ scheme_source token =
     then Some (source.SchemeOnly (lower (without_last token)))
     else None
 
--- the keywords that act
-abbrev pub keywords : List Keyword
-keywords =
-    keyword.SelfOrigin ∷ keyword.UnsafeInline ∷ keyword.UnsafeEval ∷ keyword.WasmUnsafeEval
-    ∷ keyword.StrictDynamic ∷ keyword.UnsafeHashes ∷ keyword.ReportSample ∷ []
+-- the keyword that a token is
+abbrev pub keyword_named : List ℕ → Option Keyword
+keyword_named token = find (λ word. bytes_eq (lower token) (keyword_text word)) keywords
 
 unfoldable pub keyword_source : List ℕ → Option Source
-keyword_source token =
-    option_map (λ word. source.Word word) (find (λ word. bytes_eq (lower token) (keyword_text word)) keywords)
+keyword_source token = option_map (λ word. source.Word word) (keyword_named token)
 
 -- the base64-value between a word and "'"
 unfoldable pub quoted_value : List ℕ → List ℕ → Option (List ℕ)

@@ -1,6 +1,9 @@
 //! Source expressions (Content Security Policy Level 3, section 2.3.1).
 ghost use Rattle.std.specs.Prelude.{◌≡◌};
+ghost use Rattle.std.specs.Str.{bytes_eq};
+ghost use Rattle.csp_model.specs.Ascii.{lower};
 ghost use Rattle.csp_model.specs.Grammar as spec;
+ghost use Rattle.csp_model.specs.Reading.{keyword_named};
 
 use crate::path::Path;
 use crate::text::Text;
@@ -56,6 +59,45 @@ pub enum Keyword {
     StrictDynamic,
     UnsafeHashes,
     ReportSample,
+}
+
+impl Keyword {
+    /// The keyword as it is written in lower case, as `'self'`.
+    pub fn as_str(self) -> &'static str
+        ensures { result.now ≡ spec.keyword_text self }
+    {
+        match self {
+            Keyword::SelfOrigin => "'self'",
+            Keyword::UnsafeInline => "'unsafe-inline'",
+            Keyword::UnsafeEval => "'unsafe-eval'",
+            Keyword::WasmUnsafeEval => "'wasm-unsafe-eval'",
+            Keyword::StrictDynamic => "'strict-dynamic'",
+            Keyword::UnsafeHashes => "'unsafe-hashes'",
+            Keyword::ReportSample => "'report-sample'",
+        }
+    }
+
+    /// The keyword that a token is, in letters of either case.
+    pub fn from_token(token: &[u8]) -> Option<Keyword>
+        ensures { result ≡ keyword_named token.now }
+    {
+        const ALL: [Keyword; 7] = [
+            Keyword::SelfOrigin,
+            Keyword::UnsafeInline,
+            Keyword::UnsafeEval,
+            Keyword::WasmUnsafeEval,
+            Keyword::StrictDynamic,
+            Keyword::UnsafeHashes,
+            Keyword::ReportSample,
+        ];
+        ALL.iter().copied().find(|word| word.is_spelled(token))
+    }
+
+    fn is_spelled(self, token: &[u8]) -> bool
+        ensures { result ≡ bytes_eq (lower token.now) (spec.keyword_text self) }
+    {
+        token.eq_ignore_ascii_case(self.as_str().as_bytes())
+    }
 }
 
 /// The host of a host-source, in lower case.

@@ -1,8 +1,10 @@
 -- A token that is built as a kind is read as it, and back; "*" apart.
-use Rattle.std.proofs.Common.{arith, ◌≡◌, ◌∙◌, sym, ap, refl, subst, ℕ, ◌-◌, suc, false, length, take, List, [], ◌∷◌, ◌++◌, Some, None, Option, inl, inr}
-use Rattle.std.specs.Prelude.{codes, ◌⊎◌, ◌≢◌}
+use Rattle.std.proofs.Common.{arith, ◌≡◌, ◌∙◌, sym, ap, refl, subst, ℕ, ◌-◌, suc, false, length, take, drop, List, [], ◌∷◌, ◌++◌, Some, None, Option, inl, inr}
+use Rattle.std.specs.Prelude.{codes, ◌⊎◌, ◌≢◌, bytes_eq}
 use Rattle.std.specs.Char.{to_ascii_lowercase}
 use Rattle.std.specs.Option.{option_map}
+use Rattle.std.proofs.lemmas.List.{take-append-drop}
+use Rattle.std.proofs.lemmas.Slice.Eq.{bytes_eq-Decides}
 use Rattle.csp_model.specs.Ascii.{lower, without_last}
 use Rattle.csp_model.specs.Grammar.{is_scheme, IsKind, IsQuoted, keyword_text, algorithm_text, is_scheme_char, is_label_char, is_name, host_part_of}
 use Rattle.csp_model.specs.Reading.{first_of, kind_of, scheme_source, host_source, keyword_source, nonce_source, hash_source, quoted_value, authority, is_host_char}
@@ -10,9 +12,9 @@ use Rattle.csp_model.specs.declared.source.Algorithm.{Algorithm}
 use Rattle.csp_model.specs.declared.source.Algorithm.TheVariants.{Sha256, Sha384, Sha512}
 use Rattle.csp_model.specs.declared.source.Hash.{Hash}
 use Rattle.csp_model.specs.declared.source.Keyword.{Keyword}
-use Rattle.csp_model.specs.declared.source.Keyword.TheVariants as keyword
 use Rattle.csp_model.specs.declared.source.Source.{Source}
 use Rattle.csp_model.specs.declared.source.Source.TheVariants as source
+use Rattle.csp_model.proofs.Keywords.{each_keyword}
 use Rattle.csp_source.proofs.HostLaws.{and_false, host_again, host_takes}
 use Rattle.csp_source.proofs.SchemeLaws.{scheme_again, scheme_takes, no_host}
 use Rattle.csp_source.proofs.QuotedLaws.{keyword_is, keyword_from, keyword_again, keyword_takes, quoted_again, quoted_takes, quoted_lower, quoted_none}
@@ -93,13 +95,10 @@ digest_kind Sha512 value token h =
 
 -- the keywords begin with "'"
 keyword_begins : (word : Keyword) → (rest : List ℕ) × (keyword_text word ≡ 39 ∷ rest)
-keyword_begins keyword.SelfOrigin = (_, refl)
-keyword_begins keyword.UnsafeInline = (_, refl)
-keyword_begins keyword.UnsafeEval = (_, refl)
-keyword_begins keyword.WasmUnsafeEval = (_, refl)
-keyword_begins keyword.StrictDynamic = (_, refl)
-keyword_begins keyword.UnsafeHashes = (_, refl)
-keyword_begins keyword.ReportSample = (_, refl)
+keyword_begins word =
+    let first = each_keyword (λ w. bytes_eq (take 1 (keyword_text w)) (codes "'")) refl word in
+    let begins = (bytes_eq-Decides (take 1 (keyword_text word)) (codes "'")).0 first in
+    (drop 1 (keyword_text word), sym (take-append-drop 1 (keyword_text word)) ∙ ap (λ t. t ++ drop 1 (keyword_text word)) begins)
 
 word_kind : (token : List ℕ) (word : Keyword) → lower token ≡ keyword_text word → kind_of token ≡ Some (source.Word word)
 word_kind token word e =

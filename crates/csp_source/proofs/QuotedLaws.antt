@@ -8,13 +8,13 @@ use Rattle.std.proofs.Math.Seq.{drop-append_seam, take-append_seam}
 use Rattle.std.proofs.lemmas.List.{take-append-drop, map-append, take-map, length-map}
 use Rattle.std.proofs.lemmas.Slice.Eq.{bytes_eq-Decides}
 use Rattle.csp_model.specs.Ascii.{lower, ends_in, without_last}
-use Rattle.csp_model.specs.Grammar.{keyword_text, is_base64_value, IsQuoted}
-use Rattle.csp_model.specs.Reading.{keywords, keyword_source, quoted_value}
+use Rattle.csp_model.specs.Grammar.{keyword_text, keywords, is_base64_value, IsQuoted}
+use Rattle.csp_model.specs.Reading.{keyword_source, quoted_value}
 use Rattle.csp_model.specs.declared.source.Keyword.{Keyword}
-use Rattle.csp_model.specs.declared.source.Keyword.TheVariants as keyword
 use Rattle.csp_model.specs.declared.source.Source.{Source}
 use Rattle.csp_model.specs.declared.source.Source.TheVariants as source
 use Rattle.csp_model.proofs.FinalBytes.{ends_in-push, ends_in_front, without_last-push}
+use Rattle.csp_model.proofs.Keywords.{found}
 use Rattle.csp_source.proofs.HostLaws.{chosen}
 
 -- the source of the keyword that a text in lower case is
@@ -26,13 +26,7 @@ unfolding keyword_source
 keyword_is token = refl
 
 keyword_found : (word : Keyword) → keyword_from (keyword_text word) ≡ Some (source.Word word)
-keyword_found keyword.SelfOrigin = refl
-keyword_found keyword.UnsafeInline = refl
-keyword_found keyword.UnsafeEval = refl
-keyword_found keyword.WasmUnsafeEval = refl
-keyword_found keyword.StrictDynamic = refl
-keyword_found keyword.UnsafeHashes = refl
-keyword_found keyword.ReportSample = refl
+keyword_found word = ap (option_map (λ w. source.Word w)) (found word)
 
 pub keyword_again : (token : List ℕ) (word : Keyword) → lower token ≡ keyword_text word → keyword_source token ≡ Some (source.Word word)
 keyword_again token word e = keyword_is token ∙ ap keyword_from e ∙ keyword_found word

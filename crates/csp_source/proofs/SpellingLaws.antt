@@ -15,11 +15,11 @@ use Rattle.csp_model.specs.declared.source.PortPart.TheVariants as port
 use Rattle.csp_model.specs.declared.source.PathPart.{PathPart}
 use Rattle.csp_model.specs.declared.source.PathPart.TheVariants as path
 use Rattle.csp_model.specs.declared.source.Keyword.{Keyword}
-use Rattle.csp_model.specs.declared.source.Keyword.TheVariants as keyword
 use Rattle.csp_model.specs.declared.source.Source.{Source}
 use Rattle.csp_model.specs.declared.source.Source.TheVariants as source
 use Rattle.csp_source.specs.Spelling.{scheme_spelling, host_spelling, port_spelling, path_spelling, spelling, IsRead}
 use Rattle.csp_model.proofs.AsciiParts.{end_ascii}
+use Rattle.csp_model.proofs.Keywords.{each_keyword}
 use Rattle.csp_source.proofs.HostLaws.{chosen, host_again}
 use Rattle.csp_source.proofs.LowerLaws.{host_spelt, is_scheme-lower, lower-lower}
 use Rattle.csp_source.proofs.PortLaws.{port_spelt}
@@ -49,13 +49,8 @@ parts_spelt token scheme host_part port_part path_part ascii (a, b, c, d, e, sa,
 )
 
 keyword_spelt : (word : Keyword) → lower (keyword_text word) ≡ keyword_text word
-keyword_spelt keyword.SelfOrigin = refl
-keyword_spelt keyword.UnsafeInline = refl
-keyword_spelt keyword.UnsafeEval = refl
-keyword_spelt keyword.WasmUnsafeEval = refl
-keyword_spelt keyword.StrictDynamic = refl
-keyword_spelt keyword.UnsafeHashes = refl
-keyword_spelt keyword.ReportSample = refl
+keyword_spelt word =
+    (bytes_eq-Decides _ _).0 (each_keyword (λ w. bytes_eq (lower (keyword_text w)) (keyword_text w)) refl word)
 
 hash_word_spelt : (algorithm : Algorithm) → lower (39 ∷ algorithm_text algorithm ++ codes "-") ≡ 39 ∷ algorithm_text algorithm ++ codes "-"
 hash_word_spelt Sha256 = refl

@@ -1,7 +1,6 @@
 //! Keywords, nonces and hashes, which stand between apostrophes (Content Security Policy Level 3,
 //! section 2.3.1).
 ghost use Rattle.std.specs.Prelude.{◌≡◌, ◌++◌, ◌∷◌, ◌&&◌, if◌then◌else◌, IfOk, IfSome, IsTrue, Some, None, option_copied, codes};
-ghost use Rattle.std.specs.List.{find};
 ghost use Rattle.std.specs.Str.{bytes_eq};
 ghost use Rattle.csp_model.specs.Ascii.{code, is_ascii_text, lower, ends_in, without_last};
 ghost use Rattle.csp_model.specs.Grammar as grammar;
@@ -10,49 +9,12 @@ ghost use Rattle.csp_model.specs.Reading as spec;
 use csp_model::{Algorithm, Hash, Keyword, Memory, Source, Text, is_base64_value};
 use std::alloc::Global;
 
-// The keyword in lower case.
-pub(crate) fn keyword_text(word: Keyword) -> &'static str
-    ensures { result.now ≡ grammar.keyword_text word }
-{
-    match word {
-        Keyword::SelfOrigin => "'self'",
-        Keyword::UnsafeInline => "'unsafe-inline'",
-        Keyword::UnsafeEval => "'unsafe-eval'",
-        Keyword::WasmUnsafeEval => "'wasm-unsafe-eval'",
-        Keyword::StrictDynamic => "'strict-dynamic'",
-        Keyword::UnsafeHashes => "'unsafe-hashes'",
-        Keyword::ReportSample => "'report-sample'",
-    }
-}
-
-// The token is the keyword, in letters of either case.
-fn spells(token: &[u8], word: Keyword) -> bool
-    ensures { result ≡ bytes_eq (lower token.now) (grammar.keyword_text word) }
-{
-    token.eq_ignore_ascii_case(keyword_text(word).as_bytes())
-}
-
-fn keyword_of(token: &[u8]) -> Option<Keyword>
-    ensures { result ≡ find (λ word. bytes_eq (lower token.now) (grammar.keyword_text word)) spec.keywords }
-{
-    const KEYWORDS: [Keyword; 7] = [
-        Keyword::SelfOrigin,
-        Keyword::UnsafeInline,
-        Keyword::UnsafeEval,
-        Keyword::WasmUnsafeEval,
-        Keyword::StrictDynamic,
-        Keyword::UnsafeHashes,
-        Keyword::ReportSample,
-    ];
-    KEYWORDS.iter().copied().find(|word| spells(token, *word))
-}
-
 // The source that is a keyword.
 #[tactic(auto, unfolding(csp_model::specs::Reading::keyword_source))]
 pub(crate) fn keyword_source(token: &[u8]) -> Option<Source>
     ensures { result ≡ spec.keyword_source token.now }
 {
-    match keyword_of(token) {
+    match Keyword::from_token(token) {
         None => None,
         Some(word) => Some(Source::Word { word }),
     }

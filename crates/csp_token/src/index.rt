@@ -46,13 +46,13 @@ impl<'a> TokenIndex<'a> {
     pub fn new(alloc: Global, sources: &'a List<Source>) -> Result<TokenIndex<'a>, Memory>
         ensures sources { IfOk result (λ made. made ≡ sources.now) }
     {
-        let mut keywords = Keywords::none();
+        let mut keywords = Keywords::new(alloc);
         let mut nonces = BTreeSet::new(alloc);
         let mut pairs = PairSets::new(alloc);
         let mut digests = DigestSets::new(alloc);
         for source in sources.as_slice() {
             match source {
-                Source::Word { word } => keywords.add(*word),
+                Source::Word { word } => keywords.add(*word)?,
                 Source::Nonce { value } => {
                     nonces.insert(value.as_str())?;
                 }
