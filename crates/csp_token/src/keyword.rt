@@ -60,7 +60,7 @@ impl Keywords {
     }
 
     pub(crate) fn has(&self, word: Keyword) -> bool
-        ensures { result ≡ has word self }
+        ensures { result ≡ has word self.now }
     {
         self.words.as_slice().iter().any(|other| *other == word)
     }

@@ -23,7 +23,7 @@ loop-source-preserved c =
       | in-Word+in_ok-add-in-Word w ↦
           rw (w.keywords-is, w.nonces-is, w.pairs-is, w.digests-is, more, w.in-Word.is)
           (with_word before c.loop-source.keywords c.loop-source.nonces c.loop-source.pairs c.loop-source.digests was
-          w.in-Word.word w.add-in-Word.new.self w.in_ok-add-in-Word.ensures)
+          w.in-Word.word w.add.new.self w.in_ok-add-in-Word.ensures)
       | in-Nonce+in_ok-insert-in-Nonce w ↦
           rw (w.keywords-is, w.nonces-is, w.pairs-is, w.digests-is, more, w.in-Nonce.is, ← w.as_str.ensures.text)
           (with_nonce before c.loop-source.keywords c.loop-source.nonces c.loop-source.pairs c.loop-source.digests was
