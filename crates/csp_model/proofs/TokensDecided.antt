@@ -19,7 +19,7 @@ use Rattle.csp_model.specs.declared.source.Source.{Source}
 use Rattle.csp_model.specs.declared.source.Source.TheVariants as source
 use Rattle.csp_model.specs.declared.check.Digests.{Digests}
 
-is_keyword_decides : (word : Keyword) (s : Source) → Decides (is_keyword word s) (s ≡ source.Word word)
+pub is_keyword_decides : (word : Keyword) (s : Source) → Decides (is_keyword word s) (s ≡ source.Word word)
 is_keyword_decides word (source.Word other) =
     Decides-like (same_keyword other word) (ap source.Word) (λ (h : source.Word other ≡ source.Word word). cc)
     (same_keyword_decides other word)

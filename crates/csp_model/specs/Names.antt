@@ -1,6 +1,6 @@
 -- The names of directives, and what asks for which (Content Security Policy Level 3, sections 6.1 to 6.4,
 -- 6.8.1 and 6.8.2).
-use Rattle.std.specs.Prelude.{ℕ, List, [], ◌∷◌, Option, codes}
+use Rattle.std.specs.Prelude.{ℕ, List, Option, codes}
 use Rattle.std.specs.List.{find}
 use Rattle.std.specs.Str.{bytes_eq}
 use Rattle.csp_model.specs.declared.name.Name.{Name}
@@ -11,8 +11,15 @@ use Rattle.csp_model.specs.declared.check.InlineKind.{InlineKind}
 use Rattle.csp_model.specs.declared.check.InlineKind.TheVariants as kind
 use Rattle.csp_model.specs.declared.check.Capability.{Capability}
 use Rattle.csp_model.specs.declared.check.Capability.TheVariants as capability
+use Rattle.csp_model.specs.declared.check.TheConstants.Capability as every_capability
+use Rattle.csp_model.specs.declared.check.TheConstants.InlineKind as every_kind
+use Rattle.csp_model.specs.declared.name.TheConstants.Name as every_name
 use Rattle.csp_model.specs.declared.policy.Disposition.{Disposition}
 use Rattle.csp_model.specs.declared.policy.Disposition.TheVariants.{Enforce, Report}
+
+-- all names, in the order of their texts
+abbrev pub names : List Name
+names = every_name.ALL
 
 -- a name as it is written
 abbrev pub name_text : Name → List ℕ
@@ -50,6 +57,9 @@ group_directive group.StyleElem = StyleSrcElem
 group_directive group.ScriptElem = ScriptSrcElem
 group_directive group.Worker = WorkerSrc
 
+abbrev pub inline_kinds : List InlineKind
+inline_kinds = every_kind.ALL
+
 -- the effective directive of inline code or style
 abbrev pub inline_directive : InlineKind → Name
 inline_directive kind.Script = ScriptSrcElem
@@ -74,10 +84,7 @@ capability_text capability.Presentation = codes "presentation"
 capability_text capability.Downloads = codes "downloads"
 
 abbrev pub capabilities : List Capability
-capabilities = capability.Forms ∷ capability.Scripts ∷ capability.SameOrigin ∷ capability.Popups
-    ∷ capability.PopupsToEscapeSandbox ∷ capability.TopNavigation ∷ capability.TopNavigationByUserActivation
-    ∷ capability.Modals ∷ capability.PointerLock ∷ capability.OrientationLock ∷ capability.Presentation
-    ∷ capability.Downloads ∷ []
+capabilities = every_capability.ALL
 
 -- the capability that is so written
 abbrev pub capability_named : List ℕ → Option Capability

@@ -9,7 +9,7 @@ use Rattle.csp_model.specs.Grammar.{is_scheme_char, is_scheme, is_label_char, ho
 use Rattle.csp_model.specs.declared.source.Algorithm.{Algorithm}
 use Rattle.csp_model.specs.declared.source.Algorithm.TheVariants.{Sha256, Sha384, Sha512}
 use Rattle.csp_model.specs.declared.source.Keyword.{Keyword}
-use Rattle.csp_model.specs.declared.source.Keyword.TheVariants as keyword
+use Rattle.csp_model.specs.declared.source.TheConstants.Keyword as every_keyword
 use Rattle.csp_model.specs.declared.source.Source.{Source}
 use Rattle.csp_model.specs.declared.source.Source.TheVariants as source
 
@@ -42,9 +42,7 @@ scheme_source token =
 
 -- the keywords that act
 abbrev pub keywords : List Keyword
-keywords =
-    keyword.SelfOrigin ∷ keyword.UnsafeInline ∷ keyword.UnsafeEval ∷ keyword.WasmUnsafeEval
-    ∷ keyword.StrictDynamic ∷ keyword.UnsafeHashes ∷ keyword.ReportSample ∷ []
+keywords = every_keyword.ALL
 
 unfoldable pub keyword_source : List ℕ → Option Source
 keyword_source token =

@@ -2,9 +2,8 @@
 use Rattle.std.specs.Prelude.{ℕ, ◌+◌, Bool, if◌then◌else◌, List, [], ◌∷◌, ◌++◌, Option, Some, None, codes}
 use Rattle.std.specs.List.{filter_map, list_any}
 use Rattle.std.specs.Str.{bytes_eq}
-use Rattle.csp_match.specs.Candidates.{names}
 use Rattle.csp_model.specs.Ascii.{lower}
-use Rattle.csp_model.specs.Names.{name_text}
+use Rattle.csp_model.specs.Names.{name_text, names}
 use Rattle.csp_model.specs.Verdict.{is_enforce}
 use Rattle.csp_model.specs.declared.name.Name.{Name}
 use Rattle.csp_model.specs.declared.name.Name.TheVariants.{Sandbox}

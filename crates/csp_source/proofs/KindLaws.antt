@@ -1,5 +1,5 @@
 -- A token that is built as a kind is read as it, and back; "*" apart.
-use Rattle.std.proofs.Common.{arith, ◌≡◌, ◌∙◌, sym, ap, refl, subst, ℕ, ◌-◌, suc, false, length, take, List, [], ◌∷◌, ◌++◌, Some, None, Option, inl, inr}
+use Rattle.std.proofs.Common.{arith, ◌≡◌, ◌∙◌, sym, ap, refl, subst, ℕ, ◌-◌, suc, false, length, take, drop, List, [], ◌∷◌, ◌++◌, Some, None, Option, inl, inr}
 use Rattle.std.specs.Prelude.{codes, ◌⊎◌, ◌≢◌}
 use Rattle.std.specs.Char.{to_ascii_lowercase}
 use Rattle.std.specs.Option.{option_map}
@@ -10,7 +10,6 @@ use Rattle.csp_model.specs.declared.source.Algorithm.{Algorithm}
 use Rattle.csp_model.specs.declared.source.Algorithm.TheVariants.{Sha256, Sha384, Sha512}
 use Rattle.csp_model.specs.declared.source.Hash.{Hash}
 use Rattle.csp_model.specs.declared.source.Keyword.{Keyword}
-use Rattle.csp_model.specs.declared.source.Keyword.TheVariants as keyword
 use Rattle.csp_model.specs.declared.source.Source.{Source}
 use Rattle.csp_model.specs.declared.source.Source.TheVariants as source
 use Rattle.csp_source.proofs.HostLaws.{and_false, host_again, host_takes}
@@ -93,13 +92,7 @@ digest_kind Sha512 value token h =
 
 -- the keywords begin with "'"
 keyword_begins : (word : Keyword) → (rest : List ℕ) × (keyword_text word ≡ 39 ∷ rest)
-keyword_begins keyword.SelfOrigin = (_, refl)
-keyword_begins keyword.UnsafeInline = (_, refl)
-keyword_begins keyword.UnsafeEval = (_, refl)
-keyword_begins keyword.WasmUnsafeEval = (_, refl)
-keyword_begins keyword.StrictDynamic = (_, refl)
-keyword_begins keyword.UnsafeHashes = (_, refl)
-keyword_begins keyword.ReportSample = (_, refl)
+keyword_begins word = (drop 1 (keyword_text word), grind arith)
 
 word_kind : (token : List ℕ) (word : Keyword) → lower token ≡ keyword_text word → kind_of token ≡ Some (source.Word word)
 word_kind token word e =

@@ -11,7 +11,6 @@ use Rattle.csp_model.specs.Ascii.{lower, ends_in, without_last}
 use Rattle.csp_model.specs.Grammar.{keyword_text, is_base64_value, IsQuoted}
 use Rattle.csp_model.specs.Reading.{keywords, keyword_source, quoted_value}
 use Rattle.csp_model.specs.declared.source.Keyword.{Keyword}
-use Rattle.csp_model.specs.declared.source.Keyword.TheVariants as keyword
 use Rattle.csp_model.specs.declared.source.Source.{Source}
 use Rattle.csp_model.specs.declared.source.Source.TheVariants as source
 use Rattle.csp_model.proofs.FinalBytes.{ends_in-push, ends_in_front, without_last-push}
@@ -26,13 +25,7 @@ unfolding keyword_source
 keyword_is token = refl
 
 keyword_found : (word : Keyword) → keyword_from (keyword_text word) ≡ Some (source.Word word)
-keyword_found keyword.SelfOrigin = refl
-keyword_found keyword.UnsafeInline = refl
-keyword_found keyword.UnsafeEval = refl
-keyword_found keyword.WasmUnsafeEval = refl
-keyword_found keyword.StrictDynamic = refl
-keyword_found keyword.UnsafeHashes = refl
-keyword_found keyword.ReportSample = refl
+keyword_found word = grind arith
 
 pub keyword_again : (token : List ℕ) (word : Keyword) → lower token ≡ keyword_text word → keyword_source token ≡ Some (source.Word word)
 keyword_again token word e = keyword_is token ∙ ap keyword_from e ∙ keyword_found word

@@ -1,5 +1,5 @@
 -- What a source is written as reads back to it.
-use Rattle.std.proofs.Common.{◌≡◌, ◌∙◌, sym, ap, refl, subst, ℕ, Bool, true, not, ◌&&◌, List, [], ◌∷◌, ◌++◌, Some, None, Option, cond, false, drop, inl, inr, nat_eq}
+use Rattle.std.proofs.Common.{arith, ◌≡◌, ◌∙◌, sym, ap, refl, subst, ℕ, Bool, true, not, ◌&&◌, List, [], ◌∷◌, ◌++◌, Some, None, Option, cond, false, drop, inl, inr, nat_eq}
 use Rattle.std.specs.Prelude.{codes, ◌≢◌, ◌==◌, bytes_eq, nat_lt, if◌then◌else◌}
 use Rattle.std.specs.List.{starts_with}
 use Rattle.std.proofs.lemmas.Slice.Eq.{bytes_eq-Decides}
@@ -15,7 +15,6 @@ use Rattle.csp_model.specs.declared.source.PortPart.TheVariants as port
 use Rattle.csp_model.specs.declared.source.PathPart.{PathPart}
 use Rattle.csp_model.specs.declared.source.PathPart.TheVariants as path
 use Rattle.csp_model.specs.declared.source.Keyword.{Keyword}
-use Rattle.csp_model.specs.declared.source.Keyword.TheVariants as keyword
 use Rattle.csp_model.specs.declared.source.Source.{Source}
 use Rattle.csp_model.specs.declared.source.Source.TheVariants as source
 use Rattle.csp_source.specs.Spelling.{scheme_spelling, host_spelling, port_spelling, path_spelling, spelling, IsRead}
@@ -49,13 +48,7 @@ parts_spelt token scheme host_part port_part path_part ascii (a, b, c, d, e, sa,
 )
 
 keyword_spelt : (word : Keyword) → lower (keyword_text word) ≡ keyword_text word
-keyword_spelt keyword.SelfOrigin = refl
-keyword_spelt keyword.UnsafeInline = refl
-keyword_spelt keyword.UnsafeEval = refl
-keyword_spelt keyword.WasmUnsafeEval = refl
-keyword_spelt keyword.StrictDynamic = refl
-keyword_spelt keyword.UnsafeHashes = refl
-keyword_spelt keyword.ReportSample = refl
+keyword_spelt word = grind arith
 
 hash_word_spelt : (algorithm : Algorithm) → lower (39 ∷ algorithm_text algorithm ++ codes "-") ≡ 39 ∷ algorithm_text algorithm ++ codes "-"
 hash_word_spelt Sha256 = refl

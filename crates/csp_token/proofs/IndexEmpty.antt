@@ -18,7 +18,7 @@ use Rattle.csp_model.specs.declared.source.Hash.{Hash}
 use Rattle.csp_model.specs.declared.source.Source.{Source}
 use Rattle.csp_model.specs.declared.source.Source.TheVariants as source
 use Rattle.csp_token.specs.Algorithms.{is_of_algorithm, names}
-use Rattle.csp_token.specs.Index.{has_text, has_algorithm, has_pair, is_empty, values_of}
+use Rattle.csp_token.specs.Index.{has_text, has_pair, is_empty, values_of}
 use Rattle.csp_token.specs.declared.hash_sets.PairSets.{PairSets}
 use Rattle.csp_token.proofs.AnyOf.{any_of_two, any_of_three}
 
@@ -84,21 +84,12 @@ value_source : (a : Algorithm) (text : List ℕ) (s : Source) → is_pair a text
 value_source a text (source.Digest hash) h = (and_parts (same_algorithm hash.algorithm a) (bytes_eq hash.value text) h).0
 value_source a text s h = h
 
-twice : (t : Bool) → not (not t) ≡ t
-twice true = refl
-twice false = refl
-
 unnamed : (a : Algorithm) (sources : List Source) (pairs : PairSets)
     → ((pair : Hash) → has_pair pair pairs ≡ list_any (is_hash pair) sources)
     → (btree_set_len (values_of a pairs) == 0) ≡ not (names a sources)
 unnamed a sources pairs each =
     same_empty (is_pair a) (is_of_algorithm a) (some_value a) (value_source a) (values_of a pairs) sources
     (λ value. each (record { algorithm = a; value = value }))
-
-pub algorithm_known : (a : Algorithm) (sources : List Source) (pairs : PairSets)
-    → ((pair : Hash) → has_pair pair pairs ≡ list_any (is_hash pair) sources)
-    → has_algorithm a pairs ≡ names a sources
-algorithm_known a sources pairs each = ap not (unnamed a sources pairs each) ∙ twice (names a sources)
 
 -- a nonce-source, or a hash-source of one of the algorithms
 by_kind : (s : Source) → is_nonce_or_hash s

@@ -58,16 +58,6 @@ impl<'a> PairSets<'a> {
         self.sha256.is_empty() && self.sha384.is_empty() && self.sha512.is_empty()
     }
 
-    pub(crate) fn has_algorithm(&self, algorithm: Algorithm) -> bool
-        ensures { result ≡ spec.has_algorithm algorithm self.now }
-    {
-        match algorithm {
-            Algorithm::Sha256 => !self.sha256.is_empty(),
-            Algorithm::Sha384 => !self.sha384.is_empty(),
-            Algorithm::Sha512 => !self.sha512.is_empty(),
-        }
-    }
-
     fn has(&self, pair: &Hash) -> bool
         ensures { result ≡ spec.has_pair pair.now self.now }
     {

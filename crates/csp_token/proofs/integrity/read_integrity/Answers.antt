@@ -6,7 +6,7 @@ use Rattle.std.proofs.lemmas.Iterator.Consumers.{YieldsList-at, YieldsList-end}
 use Rattle.csp_model.specs.Validity.{IsIntegrityValue}
 use Rattle.csp_model.specs.declared.source.Hash.{Hash}
 use Rattle.csp_token.specs.Integrity.{hash_of_token}
-use Rattle.csp_token.proofs.Tokens.{dropped, kept}
+use Rattle.csp_token.proofs.PairsOfTokens.{dropped, kept}
 use Rattle.csp_token.proofs.Words.{YieldsList-words, solid}
 use Rattle.csp_token.proofs.integrity.read_integrity.Goals as goal
 

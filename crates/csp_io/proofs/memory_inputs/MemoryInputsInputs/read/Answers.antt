@@ -10,10 +10,10 @@ invariant_of-self-2 c =
     let P : List Start → Type 0 = λ log. MissingAreUnread (contents_of c.args.self.now.files) log in
     let Q : List Start → Type 0 = λ log. LastIsThere (contents_of c.args.self.now.files) log in
     let bytes : List ℕ = take c.copy_front-n.result c.copy_front-n.new.into in
-    let there : Q c.args.self.now.log.starts =
+    let there : Q c.args.self.now.log.items =
     c.args.self.now.there (let R : Option Opened → Type 0 = λ o. IsSome o in subst R (sym c.in-Some.is) refl) in
     record {
       some = c.args.self.now.some;
-      missing = subst P (sym c.give.ensures) (gave_unread (contents_of c.args.self.now.files) _ bytes (finds_end bytes c.copy_front-n.new.into) c.args.self.now.missing there);
-      there = λ _. subst Q (sym c.give.ensures) (gave_there (contents_of c.args.self.now.files) c.args.self.now.log.starts bytes (finds_end bytes c.copy_front-n.new.into) there);
+      missing = subst P (sym c.after_read-self.ensures) (gave_unread (contents_of c.args.self.now.files) _ bytes (finds_end bytes c.copy_front-n.new.into) c.args.self.now.missing there);
+      there = λ _. subst Q (sym c.after_read-self.ensures) (gave_there (contents_of c.args.self.now.files) c.args.self.now.log.items bytes (finds_end bytes c.copy_front-n.new.into) there);
     }
