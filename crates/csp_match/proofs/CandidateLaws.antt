@@ -6,8 +6,7 @@ use Rattle.std.proofs.lemmas.Bool.{false≢true}
 use Rattle.csp_model.specs.Governing.{Governor, governor_named, is_named, fallbacks}
 use Rattle.csp_model.specs.Names.{names}
 use Rattle.csp_model.specs.Reading.{first_of}
-use Rattle.csp_model.specs.declared.name.Name.{Name}
-use Rattle.csp_model.specs.declared.policy.Directive.{Directive}
+use Rattle.csp_match.specs.Types.{Name, Directive}
 use Rattle.csp_match.specs.Candidates.{can_govern, governor_among}
 use Rattle.csp_model.proofs.NamesListed.{place, within, at_place}
 use Rattle.csp_match.proofs.AnyLaws.{found}

@@ -9,11 +9,8 @@ use Rattle.csp_model.specs.DecideEquality.{same_host, same_port, same_algorithm,
 use Rattle.csp_model.specs.Grammar.{keyword_text}
 use Rattle.csp_model.specs.Reading.{keywords}
 use Rattle.csp_model.proofs.Deciding.{no, yes}
-use Rattle.csp_model.specs.declared.source.Algorithm.{Algorithm}
+use Rattle.csp_model.specs.Types.{Algorithm, Hash, Keyword, Host}
 use Rattle.csp_model.specs.declared.source.Algorithm.TheVariants.{Sha256, Sha384, Sha512}
-use Rattle.csp_model.specs.declared.source.Hash.{Hash}
-use Rattle.csp_model.specs.declared.source.Keyword.{Keyword}
-use Rattle.csp_model.specs.declared.url.Host.{Host}
 use Rattle.csp_model.specs.declared.url.Host.TheVariants.{Domain, Address}
 
 pub same_host_decides : (a b : Host) → Decides (same_host a b) (a ≡ b)

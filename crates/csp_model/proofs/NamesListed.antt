@@ -3,7 +3,7 @@ use Rattle.std.proofs.Common.{◌≡◌, ℕ, ◌<◌, arith, length, map, get_o
 use denote.Enum.Declared.{tag_of}
 use Rattle.std.specs.Prelude.{Contains}
 use Rattle.csp_model.specs.Names.{names}
-use Rattle.csp_model.specs.declared.name.Name.{Name}
+use Rattle.csp_model.specs.Types.{Name}
 use Rattle.csp_model.specs.contracts.name.Name.{the_type}
 
 abbrev pub place : Name → ℕ

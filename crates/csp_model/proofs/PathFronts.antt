@@ -17,7 +17,7 @@ use Rattle.percent_encoding.proofs.PercentLemmas.{IsByte, percent_decode-nil}
 use Rattle.csp_model.specs.Ascii.{split_at, without_last}
 use Rattle.csp_model.specs.Paths.{path_text, pieces_of, text_pieces, front_text, front_pieces}
 use Rattle.csp_model.specs.Validity.{is_piece}
-use Rattle.csp_model.specs.declared.memory.Memory.{Memory}
+use Rattle.csp_model.specs.Types.{Memory}
 use Rattle.csp_model.specs.declared.path.TheConstants.{ESCAPED}
 use Rattle.csp_model.proofs.FinalBytes.{without_last-push, last_view}
 use Rattle.csp_model.proofs.PathText.{split_at-path_text, decoded_again}

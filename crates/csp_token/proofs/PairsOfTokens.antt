@@ -4,7 +4,7 @@ use Rattle.std.specs.List.{flat_map, filter_map, cons_option}
 use Rattle.std.proofs.lemmas.List.{map-append}
 use Rattle.std.proofs.lemmas.List.Elements.{filter_map-append}
 use Rattle.csp_model.specs.Ascii.{code}
-use Rattle.csp_model.specs.declared.source.Hash.{Hash}
+use Rattle.csp_token.specs.Types.{Hash}
 use Rattle.csp_token.specs.Integrity.{hash_of_token, hash_text, integrity_text}
 use Rattle.csp_token.proofs.ReadsBack.{joined}
 

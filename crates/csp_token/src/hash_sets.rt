@@ -4,8 +4,7 @@ ghost use Rattle.std.specs.List.{list_all};
 ghost use Rattle.csp_model.specs.DecideTokens.{hash_matches};
 ghost use Rattle.csp_model.specs.DecideEquality.{same_hash};
 ghost use Rattle.csp_model.specs.Validity.{IsValidDigests};
-ghost use Rattle.csp_model.specs.declared.check.Digests.{Digests as DigestsValue};
-ghost use Rattle.csp_model.specs.declared.source.Hash.{Hash as HashValue};
+ghost use Rattle.csp_token.specs.Types.{Digests as DigestsValue, Hash as HashValue};
 ghost use Rattle.csp_token.specs.Index as spec;
 
 use crate::digest::hash_of;

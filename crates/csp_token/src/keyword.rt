@@ -2,7 +2,7 @@
 ghost use Rattle.std.specs.Prelude.{◌≡◌, ◌||◌, OnOk, false};
 ghost use Rattle.csp_model.specs.DecideTokens as spec;
 ghost use Rattle.csp_model.specs.DecideEquality.{same_keyword};
-ghost use Rattle.csp_model.specs.declared.source.Keyword.{Keyword as AnyKeyword};
+ghost use Rattle.csp_token.specs.Types.{Keyword as AnyKeyword};
 ghost use Rattle.csp_token.specs.Keywords.{has};
 
 use csp_model::{Keyword, List, Memory, Source};

@@ -1,7 +1,7 @@
 use Rattle.std.proofs.Common.{ℕ, List, IsSome, sym, subst, take, Option, refl}
 use Rattle.csp_io.specs.Files.{contents_of}
 use Rattle.csp_io.specs.Starts.{Start, LastIsThere, MissingAreUnread, finds_end}
-use Rattle.csp_io.specs.declared.memory_inputs.Opened.{Opened}
+use Rattle.csp_io.specs.Types.{Opened}
 use Rattle.csp_io.proofs.Missing.{gave_unread, gave_there}
 use Rattle.csp_io.proofs.memory_inputs.MemoryInputsInputs.read.Goals as goal
 
