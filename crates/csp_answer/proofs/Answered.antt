@@ -9,7 +9,8 @@ use Rattle.csp_formula.specs.Sentences.{Sentence, Known, Either, any_of}
 use Rattle.csp_formula.specs.Surely.{surely, maybe_or}
 use Rattle.csp_formula.proofs.Maybe.{maybe_or_assoc}
 use Rattle.csp_answer.specs.Answers.{AreThere, IsAmong, IsAnswer, IsIntegrityThere, SaysTheSame, answer_in, disjunction_in, integrity_in, sentence_in}
-use Rattle.csp_answer.specs.Asking.{AmountTo, Answers}
+use Rattle.csp_answer.specs.Asking.{AmountTo}
+use Rattle.csp_answer.specs.Tables.{Says}
 use Rattle.csp_answer.specs.declared.answer.Answer.{Answer}
 use Rattle.csp_answer.specs.declared.answer.Integrity.{Integrity}
 use Rattle.csp_answer.specs.declared.conjunction.Conjunction.{Conjunction}
@@ -22,9 +23,9 @@ module _ (atoms : List Atom) where
   pub plain : (sentence : Sentence) (conjunctions : List Conjunction) (made : Answer) → AmountTo atoms sentence conjunctions
       → SaysTheSame (sentence_in atoms made) (answer_in atoms conjunctions None) → IsAmong (sentence_in atoms made) (answer_in atoms conjunctions None)
       → (All (AreThere (length atoms)) conjunctions → IfSome {T = Integrity} None (IsIntegrityThere (length atoms)) → IsAnswer (length atoms) made)
-      → Answers atoms sentence made
+      → Says atoms sentence made
   plain sentence conjunctions made amount says among is = record {
-    said = λ ls. says ls ∙ or_false (surely ls (disjunction_in atoms conjunctions)) ∙ amount.says ls;
+    says = λ ls. says ls ∙ or_false (surely ls (disjunction_in atoms conjunctions)) ∙ amount.says ls;
     among = λ atom has. ended_among (disjunction_in atoms conjunctions) sentence false amount.among atom (among atom has);
     answer = is amount.there tt;
   }
@@ -52,11 +53,11 @@ module _ (atoms : List Atom) where
       → both ≡ ones ++ others → integrity_in atoms (Some rule) ≡ z → IsIntegrityThere (length atoms) rule
       → SaysTheSame (sentence_in atoms made) (answer_in atoms both (Some rule)) → IsAmong (sentence_in atoms made) (answer_in atoms both (Some rule))
       → (All (AreThere (length atoms)) both → IfSome (Some rule) (IsIntegrityThere (length atoms)) → IsAnswer (length atoms) made)
-      → Answers atoms (any_of (x ∷ z ∷ y ∷ [])) made
+      → Says atoms (any_of (x ∷ z ∷ y ∷ [])) made
   with_integrity x y z ones others both rule made of_ones of_others is same there says among answer =
       let amount = subst (AmountTo atoms (Either x y)) (sym is) (joined atoms x y ones others of_ones of_others) in
       record {
-        said = λ ls. says ls ∙ ap₂ maybe_or (amount.says ls) (ap (surely ls) same) ∙ last_but_one (surely ls x) (surely ls y) (surely ls z);
+        says = λ ls. says ls ∙ ap₂ maybe_or (amount.says ls) (ap (surely ls) same) ∙ last_but_one (surely ls x) (surely ls y) (surely ls z);
         among = λ atom has. among_three x y z atom
             (both_among (disjunction_in atoms both) (integrity_in atoms (Some rule)) (Either x y) z amount.among (among_same (integrity_in atoms (Some rule)) z same) atom
             (among atom has));
@@ -77,9 +78,9 @@ pub made_plain : {E : Type 0} (r : Result Answer E) (conjunctions : List Conjunc
     → IfOk r (λ made. (atoms : List Atom) → SaysTheSame (sentence_in atoms made) (answer_in atoms conjunctions None))
     → IfOk r (λ made. (atoms : List Atom) → IsAmong (sentence_in atoms made) (answer_in atoms conjunctions None))
     → IfOk r (λ made. (count : ℕ) → All (AreThere count) conjunctions → IfSome {T = Integrity} None (IsIntegrityThere count) → IsAnswer count made)
-    → IfOk r (λ made. (atoms : List Atom) (x y : Sentence) → AmountTo atoms x conjunctions → x ≡ y → Answers atoms y made)
+    → IfOk r (λ made. (atoms : List Atom) (x y : Sentence) → AmountTo atoms x conjunctions → x ≡ y → Says atoms y made)
 made_plain (Ok made) conjunctions says among is = λ atoms x y amount same.
-    subst (λ s. Answers atoms s made) same (plain atoms x conjunctions made amount (says atoms) (among atoms) (is (length atoms)))
+    subst (λ s. Says atoms s made) same (plain atoms x conjunctions made amount (says atoms) (among atoms) (is (length atoms)))
 made_plain (Err e) conjunctions says among is = tt
 
 pub made_with : {E : Type 0} (r : Result Answer E) (conjunctions : List Conjunction) (rule : Integrity)
@@ -87,7 +88,7 @@ pub made_with : {E : Type 0} (r : Result Answer E) (conjunctions : List Conjunct
     → IfOk r (λ made. (atoms : List Atom) → IsAmong (sentence_in atoms made) (answer_in atoms conjunctions (Some rule)))
     → IfOk r (λ made. (count : ℕ) → All (AreThere count) conjunctions → IfSome (Some rule) (IsIntegrityThere count) → IsAnswer count made)
     → IfOk r (λ made. (atoms : List Atom) (x y z : Sentence) (ones others : List Conjunction) → AmountTo atoms x ones → AmountTo atoms y others
-    → conjunctions ≡ ones ++ others → integrity_in atoms (Some rule) ≡ z → IsIntegrityThere (length atoms) rule → Answers atoms (any_of (x ∷ z ∷ y ∷ [])) made)
+    → conjunctions ≡ ones ++ others → integrity_in atoms (Some rule) ≡ z → IsIntegrityThere (length atoms) rule → Says atoms (any_of (x ∷ z ∷ y ∷ [])) made)
 made_with (Ok made) conjunctions rule says among is = λ atoms x y z ones others of_ones of_others joins same there.
     with_integrity atoms x y z ones others conjunctions rule made of_ones of_others joins same there (says atoms) (among atoms) (is (length atoms))
 made_with (Err e) conjunctions rule says among is = tt

@@ -28,8 +28,8 @@ use Rattle.csp_formula.specs.declared.outline.PathOutline.TheVariants as path
 use Rattle.csp_formula.specs.declared.outline.PortOutline.{PortOutline}
 use Rattle.csp_formula.specs.declared.outline.PortOutline.TheVariants as port
 use Rattle.csp_answer.specs.Answers.{fact_in}
-use Rattle.csp_answer.specs.Asking.{AmountTo, IsAsked, IsNameOf, IsPortNamed, conjunction_of, path_asked}
-use Rattle.csp_answer.specs.Naming.{host_atom, path_atom}
+use Rattle.csp_answer.specs.Asking.{AmountTo, IsAsked, IsPortNamed, conjunction_of, path_asked}
+use Rattle.csp_answer.specs.Naming.{IsNameOf, host_atom, path_atom}
 use Rattle.csp_answer.proofs.Among.{among_same}
 use Rattle.csp_answer.proofs.Amounts.{and_never, one, turned_to_never}
 

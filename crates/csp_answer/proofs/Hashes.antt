@@ -2,7 +2,7 @@
 use Rattle.std.proofs.Common.{sym, subst, ℕ, List, [], ◌∷◌, ◌++◌, get_or, map, All, Contains, IfSome, IsTrue}
 use Rattle.std.specs.Prelude.{Option, Some, None}
 use Rattle.std.specs.List.{cons_option, flat_map, filter_map}
-use Rattle.std.proofs.lemmas.List.Elements.{All-nil, All-cons, All-head, All-tail, All-append, All-contains, All-contains_itself, All-weaker}
+use Rattle.std.proofs.lemmas.List.Elements.{All-nil, All-cons, All-append, All-contains, All-contains_itself, All-weaker}
 use Rattle.csp_model.specs.Grammar.{IsSource, is_base64_value}
 use Rattle.csp_model.specs.Policies.{IsReadable, IsReadablePolicy}
 use Rattle.csp_model.specs.Reading.{source_of}
@@ -15,6 +15,7 @@ use Rattle.csp_model.specs.declared.source.Source.TheVariants as source
 use Rattle.csp_facts.specs.Vocabulary.{hash_of_source, hashes_of, vocabulary_hashes}
 use Rattle.csp_facts.proofs.VocabularyDistinct.{Contains-distinct}
 use Rattle.csp_formula.specs.Belonging.{HasBase64Values}
+use Rattle.csp_answer.proofs.Pieces.{of_flat_map}
 
 -- the hash-sources of a directive, and those of all directives of a policy
 abbrev hashes_in_directive : Directive → List Hash
@@ -25,11 +26,6 @@ hashes_in_policy p = flat_map hashes_in_directive p.directives
 
 abbrev IsBase64 : Hash → Type 0
 IsBase64 h = IsTrue (is_base64_value h.value)
-
-all_flat_map : {A : Type 0} (f : A → List Hash) (xs : List A) → All (λ x. All IsBase64 (f x)) xs → All IsBase64 (flat_map f xs)
-all_flat_map f [] each = All-nil IsBase64
-all_flat_map f (x ∷ xs) each =
-    All-append IsBase64 (f x) (flat_map f xs) (All-head (λ y. All IsBase64 (f y)) x xs each) (all_flat_map f xs (All-tail (λ y. All IsBase64 (f y)) x xs each))
 
 with_option : (o : Option Hash) (hashes : List Hash) → IfSome o IsBase64 → All IsBase64 hashes → All IsBase64 (cons_option o hashes)
 with_option None hashes here all = all
@@ -48,11 +44,11 @@ module _ (read : (token : List ℕ) → IsSource token (source_of token)) where
 
   of_policy : (p : Policy) → IsReadablePolicy p → All IsBase64 (hashes_in_policy p)
   of_policy p readable =
-      all_flat_map hashes_in_directive p.directives
+      of_flat_map IsBase64 hashes_in_directive p.directives
       (λ k d within. subst (λ (sources : List Source). All IsBase64 (filter_map hash_of_source sources)) (sym (readable.read k d within)) (of_tokens (get_or p.directives k d).tokens))
 
   of_list : (list : PolicyList) → IsReadable list → All IsBase64 (hashes_of list)
-  of_list list readable = all_flat_map hashes_in_policy list.policies (λ k d within. of_policy (get_or list.policies k d) (readable.each k d within))
+  of_list list readable = of_flat_map IsBase64 hashes_in_policy list.policies (λ k d within. of_policy (get_or list.policies k d) (readable.each k d within))
 
   pub vocabulary_base64 : (first second : PolicyList) → IsReadable first → IsReadable second → HasBase64Values (vocabulary_hashes first second)
   vocabulary_base64 first second one two =

@@ -18,8 +18,8 @@ pub mod Walking
 pub mod WordsNamed
 mod Digests
 mod ValidAtoms
-mod Collected
-mod Renamed
+mod Named
+mod Pieces
 mod SoFar
 mod SameAnswer
 pub mod SameQuestions

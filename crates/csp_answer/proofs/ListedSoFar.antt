@@ -10,7 +10,7 @@ use Rattle.csp_answer.specs.Asking.{AmountTo}
 use Rattle.csp_answer.specs.declared.conjunction.Conjunction.{Conjunction}
 use Rattle.csp_answer.proofs.Amounts.{one_more}
 
-zipped_at : {A B : Type 0} (R : A → B → Type 0) (xs : List A) (ys : List B) (i : ℕ) (x : A) (y : B) → AllZip R xs ys
+pub zipped_at : {A B : Type 0} (R : A → B → Type 0) (xs : List A) (ys : List B) (i : ℕ) (x : A) (y : B) → AllZip R xs ys
     → slice_get xs i ≡ Some x → slice_get ys i ≡ Some y → R x y
 zipped_at R [] ys i x y all at by = absurd cc
 zipped_at R (a ∷ xs) [] i x y all at by = absurd cc

@@ -2,7 +2,7 @@
 use Rattle.std.proofs.Common.{◌≡◌, ◌∙◌, refl, sym, ap, ap₂, subst, ℕ, ◌+◌, ◌<◌, ◌≤◌, zero, suc, List, [], ◌∷◌, ◌++◌, map, take, get_or, length, Option, Some, arith, length-append, ◌⊎◌, inl, inr}
 use Rattle.std.specs.Prelude.{IsSome, slice_get}
 use Rattle.std.specs.Option.{option_and_then}
-use Rattle.std.proofs.lemmas.List.{map_more}
+use Rattle.std.proofs.lemmas.List.{map_more, take_more}
 use Rattle.std.proofs.lemmas.Option.{slice_get_within}
 use Rattle.csp_answer.specs.Policies.{place_at}
 use Rattle.csp_model.specs.declared.policy.Policy.{Policy}
@@ -10,10 +10,8 @@ use Rattle.csp_model.specs.declared.source.Hash.{Hash}
 use Rattle.csp_facts.specs.declared.atom.Atom.{Atom}
 use Rattle.csp_facts.specs.Numbers.{number, shape_count}
 use Rattle.csp_facts.specs.declared.shape.Shape.{Shape}
-use Rattle.csp_answer.specs.Naming.{policies_of}
 use Rattle.csp_answer.specs.Tables.{AnswerTheSame, AreAnswers, AreKinds, IsAnswered, answer_at}
 use Rattle.csp_answer.specs.declared.answer.Answer.{Answer}
-use Rattle.csp_answer.specs.declared.naming.NamedPolicy.{NamedPolicy}
 use Rattle.csp_answer.specs.declared.policy.PolicyAnswers.{PolicyAnswers}
 
 -- answers at one place are the same
@@ -56,15 +54,12 @@ module _ (atoms : List Atom) (hashes : List Hash) where
     by n policy found (inr last) (inl too) =
         let within = slice_get_within made n found too in let e = last.0 in let f = before.long in absurd (omega arith)
 
-  pub one_policy : (list : List NamedPolicy) (i : ℕ) (named : NamedPolicy) (made : List PolicyAnswers) (answers : PolicyAnswers) → i < length list
-      → named ≡ get_or list i named → AreAnswers atoms hashes (policies_of (take i list)) made → IsAnswered atoms hashes named.policy.now answers
-      → AreAnswers atoms hashes (policies_of (take (i + 1) list)) (made ++ answers ∷ [])
-  one_policy list i named made answers inside at before here =
-      let policy_of = λ (n : NamedPolicy). n.policy.now in
-      let longer : policies_of (take i list) ++ named.policy.now ∷ [] ≡ policies_of (take (i + 1) list) =
-      ap (λ (p : Policy). policies_of (take i list) ++ p ∷ []) (ap policy_of at) ∙ sym (map_more policy_of list i named inside) in
-      subst (λ (ps : List Policy). AreAnswers atoms hashes ps (made ++ answers ∷ [])) longer
-      (pushed_answers (policies_of (take i list)) named.policy.now made answers before here)
+  pub one_policy : (policies : List Policy) (i : ℕ) (p : Policy) (made : List PolicyAnswers) (answers : PolicyAnswers) → i < length policies
+      → p ≡ get_or policies i p → AreAnswers atoms hashes (take i policies) made → IsAnswered atoms hashes p answers
+      → AreAnswers atoms hashes (take (i + 1) policies) (made ++ answers ∷ [])
+  one_policy policies i p made answers inside at before here =
+      subst (λ (ps : List Policy). AreAnswers atoms hashes ps (made ++ answers ∷ []))
+      (ap (λ (q : Policy). take i policies ++ q ∷ []) at ∙ sym (take_more policies i p inside)) (pushed_answers (take i policies) p made answers before here)
 
 module _ (first second : List PolicyAnswers) where
   -- the kinds of the shapes so far, each a shape at which all is answered the same

@@ -26,8 +26,8 @@ use Rattle.csp_formula.specs.declared.outline.Outline.{Outline}
 use Rattle.csp_formula.specs.declared.outline.Outline.TheVariants as outline
 use Rattle.csp_formula.specs.declared.outline.PathOutline.{PathOutline}
 use Rattle.csp_formula.specs.declared.outline.PortOutline.{PortOutline}
-use Rattle.csp_answer.specs.Asking.{AmountTo, HasPorts, IsAsked, IsNameOf, IsPortNamed, IsSourceNamed, conjunction_of, path_asked}
-use Rattle.csp_answer.specs.Naming.{HasOwnPort, HasPort, host_atom, own_atom, scheme_atom}
+use Rattle.csp_answer.specs.Asking.{AmountTo, IsAsked, IsPortNamed, conjunction_of, path_asked}
+use Rattle.csp_answer.specs.Naming.{HasOwnPort, HasPort, HasPorts, IsNameOf, IsSourceNamed, host_atom, own_atom, scheme_atom}
 use Rattle.csp_answer.specs.declared.conjunction.Conjunction.{Conjunction}
 use Rattle.csp_answer.specs.declared.naming.SourceNames.{SourceNames}
 use Rattle.csp_answer.proofs.Among.{among_same, ended_among}

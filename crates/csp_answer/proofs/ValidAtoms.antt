@@ -1,40 +1,47 @@
--- The atoms of a source that reading makes are valid.
-use Rattle.std.proofs.Common.{◌≡◌, ◌≢◌, sym, refl, subst, ℕ, Bool, true, false, ◌&&◌, ◌||◌, ◌==◌, not, List, [], ◌∷◌, map, length, Option, Some, None, All, IfSome}
+-- The atoms of policies that reading makes are valid, and those of their vocabulary.
+use Rattle.std.proofs.Common.{◌≡◌, ◌≢◌, sym, refl, subst, ℕ, Bool, true, false, ◌&&◌, ◌||◌, ◌==◌, not, List, [], ◌∷◌, ◌++◌, map, get_or, length, Option, Some, None, All, IfSome, lit<}
 use Rattle.std.specs.Prelude.{if◌then◌else◌, codes, is_some, IsNone}
-use Rattle.std.specs.List.{list_all}
-use Rattle.std.specs.Option.{option_map, option_and_then}
+use Rattle.std.specs.List.{flat_map, list_all}
+use Rattle.std.specs.Option.{option_map, option_and_then, option_to_list}
 use Rattle.std.specs.Str.{bytes_eq}
 use Rattle.std.proofs.lemmas.Bool.{and_from, and_parts, eqb-true, or_left, false≢true}
-use Rattle.std.proofs.lemmas.List.Elements.{All-map}
+use Rattle.std.proofs.lemmas.List.Elements.{All-append, All-cons, All-map, All-nil}
 use Rattle.csp_model.specs.Ascii.{is_nonempty}
 use Rattle.csp_model.specs.DecideEquality.{same_keyword}
 use Rattle.csp_model.specs.Grammar.{IsSource, is_base64_value}
 use Rattle.csp_model.specs.Reading.{source_of}
-use Rattle.csp_model.specs.Schemes.{scheme_named}
+use Rattle.csp_model.specs.Policies.{IsReadablePolicy}
+use Rattle.csp_model.specs.Schemes.{default_port, scheme_named}
 use Rattle.csp_model.specs.Tokens.{size_of}
 use Rattle.csp_model.specs.Validity.{is_domain, is_four_numbers, is_bracketed, is_address, is_piece, are_bytes, IsValidOrigin}
 use Rattle.csp_model.specs.declared.policy.Directive.{Directive}
+use Rattle.csp_model.specs.declared.policy.Policy.{Policy}
 use Rattle.csp_model.specs.declared.source.Algorithm.{Algorithm}
 use Rattle.csp_model.specs.declared.source.Algorithm.TheVariants.{Sha256, Sha384, Sha512}
+use Rattle.csp_model.specs.declared.source.Hash.{Hash}
 use Rattle.csp_model.specs.declared.source.HostPart.{HostPart}
 use Rattle.csp_model.specs.declared.source.HostPart.TheVariants as host_part
 use Rattle.csp_model.specs.declared.source.Keyword.TheVariants as keyword
 use Rattle.csp_model.specs.declared.source.PathPart.{PathPart}
 use Rattle.csp_model.specs.declared.source.PathPart.TheVariants as path_part
+use Rattle.csp_model.specs.declared.source.PortPart.TheVariants as port_part
 use Rattle.csp_model.specs.declared.source.Source.{Source}
 use Rattle.csp_model.specs.declared.source.Source.TheVariants as source
 use Rattle.csp_model.specs.declared.url.Host.TheVariants.{Domain, Address}
 use Rattle.csp_model.specs.declared.url.Origin.{Origin}
 use Rattle.csp_model.specs.declared.url.Origin.TheVariants as origin
 use Rattle.csp_model.specs.declared.url.Scheme.{Scheme}
+use Rattle.csp_model.specs.declared.url.Scheme.TheVariants.{Http, Https, Ftp}
 use Rattle.csp_facts.specs.Atoms.{IsValidAtom, IsValidDigest}
-use Rattle.csp_facts.specs.declared.atom.Atom.TheVariants.{HostIs, HostUnder, PathIs, PathUnder, SchemeIs, DigestIs}
+use Rattle.csp_facts.specs.declared.atom.Atom.{Atom}
+use Rattle.csp_facts.specs.declared.atom.Atom.TheVariants.{HostIs, HostUnder, PortIs, PathIs, PathUnder, SchemeIs, IntegrityHas, IntegrityOutside, DigestIs}
+use Rattle.csp_formula.specs.Belonging.{HasBase64Values}
 use Rattle.csp_formula.specs.Compiled.{digest_of, digest_with, is_of_size}
 use Rattle.csp_formula.specs.Sources.{has_dots, is_dots}
 use Rattle.csp_formula.proofs.AtomsOfSources.{ReadsPath, ReadsSource}
 use Rattle.csp_formula.proofs.ReadParts.{reads}
-use Rattle.csp_answer.specs.Collecting.{HasValidAtoms, HaveValidAtoms}
-use Rattle.csp_answer.specs.Naming.{host_atom, own_atom, path_atom, lead_atom, rest_atom}
+use Rattle.csp_answer.specs.Naming.{all_atoms, directive_atoms, host_atom, own_atom, own_port, pair_atoms, path_atom, lead_atom, policy_atoms, port_atom, port_atoms, rest_atom, source_atoms}
+use Rattle.csp_answer.proofs.Pieces.{of_flat_map, of_option}
 
 -- what follows of a choice from each way
 chosen : {A : Type 0} (P : A → Type 0) (test : Bool) (x y : Option A) → (test ≡ true → IfSome x P) → (test ≡ false → IfSome y P)
@@ -62,6 +69,15 @@ host_valid (host_part.Exact text) =
 own_valid : (self : Origin) → IsValidOrigin self → IfSome (own_atom self) IsValidAtom
 own_valid origin.Opaque valid = tt
 own_valid (origin.Tuple scheme host port) valid = valid.1
+
+own_port_valid : (self : Origin) → IsValidOrigin self → IfSome (own_port self) IsValidAtom
+own_port_valid origin.Opaque valid = tt
+own_port_valid (origin.Tuple scheme host None) valid = tt
+own_port_valid (origin.Tuple scheme host (Some n)) valid = valid.2.0
+
+port_valid : (s : Source) → ReadsSource s → IfSome (port_atom s) IsValidAtom
+port_valid (source.Hosted scheme host (port_part.Number n) path) read = read.0
+port_valid other read = tt
 
 no_scheme : (o : Option Scheme) → is_some o ≡ false → IsNone o
 no_scheme None e = refl
@@ -150,16 +166,48 @@ module _ (self : Origin) (valid : IsValidOrigin self) where
   rest_valid (source.Nonce value) read = tt
   rest_valid (source.Other token) read = tt
 
+  ports_valid : All IsValidAtom (port_atoms self)
+  ports_valid =
+      let own = option_to_list (own_port self) in
+      let one = All-cons IsValidAtom (PortIs (default_port Ftp)) own (lit< tt) (of_option IsValidAtom (own_port self) (own_port_valid self valid)) in
+      let two = All-cons IsValidAtom (PortIs (default_port Https)) (PortIs (default_port Ftp) ∷ own) (lit< tt) one in
+      All-cons IsValidAtom (PortIs (default_port Http)) (PortIs (default_port Https) ∷ PortIs (default_port Ftp) ∷ own) (lit< tt) two
+
   module _ (tokens_read : (token : List ℕ) → IsSource token (source_of token)) where
-    token_valid : (token : List ℕ) → HasValidAtoms self (source_of token)
+    token_valid : (token : List ℕ) → All IsValidAtom (source_atoms self (source_of token))
     token_valid token =
+        let s = source_of token in
         let is = tokens_read token in
-        let read = reads token (source_of token) is in
-        record { lead = lead_valid (source_of token) read (reads_hash token (source_of token) is); rest = rest_valid (source_of token) read }
+        let read = reads token s is in
+        All-append IsValidAtom (option_to_list (port_atom s) ++ option_to_list (lead_atom self s)) (option_to_list (rest_atom s))
+        (All-append IsValidAtom (option_to_list (port_atom s)) (option_to_list (lead_atom self s)) (of_option IsValidAtom (port_atom s) (port_valid s read))
+        (of_option IsValidAtom (lead_atom self s) (lead_valid s read (reads_hash token s is))))
+        (of_option IsValidAtom (rest_atom s) (rest_valid s read))
 
-    tokens_valid : (tokens : List (List ℕ)) → All (λ token. HasValidAtoms self (source_of token)) tokens
-    tokens_valid tokens k d inside = token_valid _
+    tokens_valid : (tokens : List (List ℕ)) → All IsValidAtom (flat_map (source_atoms self) (map source_of tokens))
+    tokens_valid [] = All-nil IsValidAtom
+    tokens_valid (t ∷ ts) =
+        All-append IsValidAtom (source_atoms self (source_of t)) (flat_map (source_atoms self) (map source_of ts)) (token_valid t) (tokens_valid ts)
 
-    pub all_valid : (ds : List Directive) → All (λ (d : Directive). d.sources ≡ map source_of d.tokens) ds → All (HaveValidAtoms self) ds
-    all_valid ds read k d inside =
-        subst (All (HasValidAtoms self)) (sym (read k d inside)) (All-map (HasValidAtoms self) source_of _ (tokens_valid _))
+    directives_valid : (ds : List Directive) → All (λ (d : Directive). d.sources ≡ map source_of d.tokens) ds → All IsValidAtom (flat_map (directive_atoms self) ds)
+    directives_valid ds read =
+        of_flat_map IsValidAtom (directive_atoms self) ds
+        (λ k d inside. subst (λ (ss : List Source). All IsValidAtom (flat_map (source_atoms self) ss)) (sym (read k d inside)) (tokens_valid (get_or ds k d).tokens))
+
+-- Policies
+
+module _ (tokens_read : (token : List ℕ) → IsSource token (source_of token)) where
+  policies_valid : (policies : List Policy) → All IsReadablePolicy policies → All IsValidAtom (flat_map policy_atoms policies)
+  policies_valid policies readable = of_flat_map IsValidAtom policy_atoms policies (λ k d inside.
+      let p = get_or policies k d in
+      let is = readable k d inside in
+      All-append IsValidAtom (port_atoms p.origin) (flat_map (directive_atoms p.origin) p.directives) (ports_valid p.origin is.origin)
+      (directives_valid p.origin is.origin tokens_read p.directives is.read))
+
+  pub all_valid : (hashes : List Hash) (ours theirs : List Policy) (others : List Atom) → HasBase64Values hashes → All IsReadablePolicy ours → All IsReadablePolicy theirs
+      → All IsValidAtom others → All IsValidAtom (all_atoms hashes ours theirs others)
+  all_valid hashes ours theirs others base64 first second rest =
+      let pairs = All-cons IsValidAtom IntegrityOutside (map (λ (h : Hash). IntegrityHas h) hashes) tt (All-map IsValidAtom (λ (h : Hash). IntegrityHas h) hashes base64) in
+      let two = All-append IsValidAtom (pair_atoms hashes) (flat_map policy_atoms ours) pairs (policies_valid ours first) in
+      let three = All-append IsValidAtom (pair_atoms hashes ++ flat_map policy_atoms ours) (flat_map policy_atoms theirs) two (policies_valid theirs second) in
+      All-append IsValidAtom (pair_atoms hashes ++ flat_map policy_atoms ours ++ flat_map policy_atoms theirs) others three rest

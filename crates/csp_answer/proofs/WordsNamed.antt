@@ -19,14 +19,13 @@ use Rattle.csp_facts.specs.Vocabulary.{hash_of_source}
 use Rattle.csp_facts.specs.declared.atom.Atom.{Atom}
 use Rattle.csp_facts.specs.declared.atom.Atom.TheVariants.{DigestIs, IntegrityHas, IntegrityOutside, NonceIs}
 use Rattle.csp_branch.specs.Numbers.{AreInOrder}
-use Rattle.csp_branch.specs.Sorting.{StandAt}
 use Rattle.csp_formula.specs.Compiled.{digest_fact, digest_of, has_pair, integrity_sentence, nonce_fact, other_hashes, pairs_sentence}
 use Rattle.csp_formula.specs.Sentences.{Sentence, Fact, Not, all_of, any_of}
 use Rattle.csp_formula.specs.Surely.{surely}
 use Rattle.csp_formula.proofs.MembersOf.{own_has}
 use Rattle.csp_answer.specs.Answers.{IsIntegrityThere, denial_in, integrity_in, name_in}
-use Rattle.csp_answer.specs.Asking.{AmountTo, IsSourceNamed, names_but, word_name, word_names, word_sentence}
-use Rattle.csp_answer.specs.Naming.{ArePairs}
+use Rattle.csp_answer.specs.Asking.{AmountTo, names_but, word_name, word_names, word_sentence}
+use Rattle.csp_answer.specs.Naming.{ArePairs, IsSourceNamed, StandAt}
 use Rattle.csp_answer.specs.declared.answer.Integrity.{Integrity}
 use Rattle.csp_answer.specs.declared.conjunction.Conjunction.{Conjunction}
 use Rattle.csp_answer.specs.declared.naming.PairNames.{PairNames}

@@ -2,12 +2,9 @@
 use Rattle.std.specs.Prelude.{◌≡◌, ⊤, ℕ, ◌==◌, not, true, false, List, filter, length, Option, Some, None, All, IfSome, Contains, slice_get}
 use Rattle.std.specs.List.{AllZip, filter_map, list_any, zip}
 use Rattle.std.specs.Option.{option_map}
-use Rattle.csp_model.specs.Schemes.{default_port}
 use Rattle.csp_model.specs.declared.policy.Directive.{Directive}
 use Rattle.csp_model.specs.declared.source.Source.{Source}
 use Rattle.csp_model.specs.declared.source.Source.TheVariants as source
-use Rattle.csp_model.specs.declared.url.Origin.{Origin}
-use Rattle.csp_model.specs.declared.url.Scheme.{Scheme}
 use Rattle.csp_facts.specs.declared.atom.Atom.{Atom}
 use Rattle.csp_facts.specs.declared.atom.Atom.TheVariants.{PortIs}
 use Rattle.csp_formula.specs.Compiled.{digests_sentence, nonces_sentence, pairs_sentence}
@@ -16,9 +13,8 @@ use Rattle.csp_formula.specs.declared.outline.PathOutline.{PathOutline}
 use Rattle.csp_formula.specs.declared.outline.PathOutline.TheVariants as path
 use Rattle.csp_formula.specs.declared.outline.PortOutline.{PortOutline}
 use Rattle.csp_formula.specs.declared.outline.PortOutline.TheVariants as port
-use Rattle.csp_answer.specs.Answers.{AreThere, IsAmong, IsAnswer, IsThere, SaysTheSame, disjunction_in, fact_in, sentence_in}
-use Rattle.csp_answer.specs.Naming.{HasOwnPort, HasPort, lead_atom, rest_atom}
-use Rattle.csp_answer.specs.declared.answer.Answer.{Answer}
+use Rattle.csp_answer.specs.Answers.{AreThere, IsAmong, IsThere, SaysTheSame, disjunction_in, fact_in}
+use Rattle.csp_answer.specs.Naming.{HasPorts, IsSourceNamed}
 use Rattle.csp_answer.specs.declared.conjunction.Conjunction.{Conjunction}
 use Rattle.csp_answer.specs.declared.listed.NamedList.{NamedList}
 use Rattle.csp_answer.specs.declared.naming.NamedPolicy.{NamedPolicy}
@@ -27,21 +23,6 @@ use Rattle.csp_answer.specs.declared.words.Word.{Word}
 use Rattle.csp_answer.specs.declared.words.Word.TheVariants as word
 
 -- Named lists
-
--- the name is that of the atom, and there is one where there is an atom
-abbrev pub IsNameOf : List Atom → Option Atom → Option ℕ → Type 0
-IsNameOf atoms atom name = option_map (slice_get atoms) name ≡ option_map Some atom
-
--- the names are those of the source of a policy of this origin
-pub record IsSourceNamed (atoms : List Atom) (self : Origin) (s : Source) (names : SourceNames) : Type 0 where
-  pub lead : IsNameOf atoms (lead_atom self s) names.lead
-  pub rest : IsNameOf atoms (rest_atom s) names.rest
-  pub port : HasPort atoms s
-
--- the ports that no source names but that may be asked for have names
-pub record HasPorts (atoms : List Atom) (self : Origin) : Type 0 where
-  pub own : HasOwnPort atoms self
-  pub defaults : (scheme : Scheme) → Contains atoms (PortIs (default_port scheme))
 
 pub record IsListNamed (atoms : List Atom) (list : NamedList) : Type 0 where
   pub sources : AllZip (IsSourceNamed atoms list.origin.now) list.sources.now list.names.now
@@ -88,12 +69,6 @@ abbrev pub conjunction_of : Option ℕ → Option (Option ℕ) → Option (Optio
 conjunction_of (Some lead) (Some port) (Some path) =
     Some (record { lead = Some lead; port = port; path = path })
 conjunction_of lead port path = None
-
--- the answer says what the sentence does, and speaks of no other atoms, by names that are there
-pub record Answers (atoms : List Atom) (sentence : Sentence) (made : Answer) : Type 0 where
-  pub said : SaysTheSame (sentence_in atoms made) sentence
-  pub among : IsAmong (sentence_in atoms made) sentence
-  pub answer : IsAnswer (length atoms) made
 
 -- Words
 

@@ -2,7 +2,6 @@ pub mod Answers
 pub mod Deciding
 pub mod Naming
 pub mod Asking
-pub mod Collecting
 pub mod Growing
 pub mod Policies
 pub mod Tables

@@ -1,13 +1,13 @@
 -- The atoms that the sources of policies speak of, and their names.
-use Rattle.std.specs.Prelude.{◌≡◌, ◌<◌, ⊤, ℕ, not, ◌||◌, is_some, if◌then◌else◌, List, length, map, Option, Some, None, All, IfSome, Contains, slice_get}
-use Rattle.std.specs.Option.{option_and_then, option_map}
+use Rattle.std.specs.Prelude.{◌≡◌, ℕ, not, ◌||◌, is_some, if◌then◌else◌, List, ◌∷◌, ◌++◌, map, Option, Some, None, IfSome, Contains, slice_get}
+use Rattle.std.specs.List.{AllZip, flat_map}
+use Rattle.std.specs.Option.{option_map, option_to_list}
 use Rattle.csp_model.specs.Ascii.{is_nonempty}
 use Rattle.csp_model.specs.DecideEquality.{same_keyword}
 use Rattle.csp_model.specs.Schemes.{scheme_named, default_port}
 use Rattle.csp_model.specs.Validity.{is_domain, is_four_numbers}
 use Rattle.csp_model.specs.declared.policy.Directive.{Directive}
 use Rattle.csp_model.specs.declared.policy.Policy.{Policy}
-use Rattle.csp_model.specs.declared.policy.PolicyList.{PolicyList}
 use Rattle.csp_model.specs.declared.source.Hash.{Hash}
 use Rattle.csp_model.specs.declared.source.HostPart.{HostPart}
 use Rattle.csp_model.specs.declared.source.HostPart.TheVariants as host_part
@@ -21,6 +21,7 @@ use Rattle.csp_model.specs.declared.url.Host.TheVariants.{Domain, Address}
 use Rattle.csp_model.specs.declared.url.Origin.{Origin}
 use Rattle.csp_model.specs.declared.url.Origin.TheVariants as origin
 use Rattle.csp_model.specs.declared.url.Scheme.{Scheme}
+use Rattle.csp_model.specs.declared.url.Scheme.TheVariants.{Http, Https, Ftp}
 use Rattle.csp_facts.specs.declared.atom.Atom.{Atom}
 use Rattle.csp_facts.specs.declared.atom.Atom.TheVariants.{HostIs, HostUnder, HostDomain, PortIs, PathIs, PathUnder, SchemeIs, NonceIs, IntegrityHas, IntegrityOutside, DigestIs}
 use Rattle.csp_formula.specs.Compiled.{digest_of}
@@ -79,55 +80,79 @@ abbrev pub rest_atom : Source → Option Atom
 rest_atom (source.Hosted scheme host port path) = path_atom path
 rest_atom other = digest_atom other
 
--- what a source's names stand for
-pub record NamedAtoms : Type 0 where
-  pub lead : Option Atom
-  pub rest : Option Atom
+-- the port that it names
+abbrev pub port_atom : Source → Option Atom
+port_atom (source.Hosted scheme host (port_part.Number n) path) = Some (PortIs n)
+port_atom other = None
 
-abbrev pub atoms_of : Origin → Source → NamedAtoms
-atoms_of self s = record { lead = lead_atom self s; rest = rest_atom s }
+abbrev pub source_atoms : Origin → Source → List Atom
+source_atoms self s =
+    option_to_list (port_atom s) ++ option_to_list (lead_atom self s) ++ option_to_list (rest_atom s)
+
+-- Atoms of policies
+
+abbrev pub own_port : Origin → Option Atom
+own_port (origin.Tuple scheme host (Some n)) = Some (PortIs n)
+own_port self = None
+
+-- the ports that may be asked for though no source names them: ws has that of http, and wss that of https
+abbrev pub port_atoms : Origin → List Atom
+port_atoms self = PortIs (default_port Http) ∷ PortIs (default_port Https) ∷ PortIs (default_port Ftp)
+    ∷ option_to_list (own_port self)
+
+abbrev pub directive_atoms : Origin → Directive → List Atom
+directive_atoms self d = flat_map (source_atoms self) d.sources
+
+abbrev pub policy_atoms : Policy → List Atom
+policy_atoms p = port_atoms p.origin ++ flat_map (directive_atoms p.origin) p.directives
+
+-- the pairs of a vocabulary, and that there is another
+abbrev pub pair_atoms : List Hash → List Atom
+pair_atoms hashes = IntegrityOutside ∷ map (λ (h : Hash). IntegrityHas h) hashes
+
+-- those of a vocabulary and of two lists of policies, and these others
+abbrev pub all_atoms : List Hash → List Policy → List Policy → List Atom → List Atom
+all_atoms hashes ours theirs others =
+    pair_atoms hashes ++ flat_map policy_atoms ours ++ flat_map policy_atoms theirs ++ others
 
 -- Names
 
-abbrev pub named_in : List Atom → SourceNames → NamedAtoms
-named_in atoms names = record {
-  lead = option_and_then (slice_get atoms) names.lead;
-  rest = option_and_then (slice_get atoms) names.rest;
-}
+-- the name is that of the atom, and there is one where there is an atom
+abbrev pub IsNameOf : List Atom → Option Atom → Option ℕ → Type 0
+IsNameOf atoms atom name = option_map (slice_get atoms) name ≡ option_map Some atom
 
--- the names are there
-pub record AreNamesThere (count : ℕ) (names : SourceNames) : Type 0 where
-  pub lead : IfSome names.lead (λ name. name < count)
-  pub rest : IfSome names.rest (λ name. name < count)
+-- these are the names of the given atoms, one after another
+abbrev pub StandAt : List Atom → List ℕ → List Atom → Type 0
+StandAt atoms names given = map (slice_get atoms) names ≡ map Some given
 
 -- the port that a source asks for has a name
 abbrev pub HasPort : List Atom → Source → Type 0
-HasPort atoms (source.Hosted scheme host (port_part.Number n) path) = Contains atoms (PortIs n)
-HasPort atoms other = ⊤
+HasPort atoms s = IfSome (port_atom s) (Contains atoms)
 
 abbrev pub HasOwnPort : List Atom → Origin → Type 0
-HasOwnPort atoms (origin.Tuple scheme host (Some n)) = Contains atoms (PortIs n)
-HasOwnPort atoms self = ⊤
+HasOwnPort atoms self = IfSome (own_port self) (Contains atoms)
 
--- the names of each directive's sources are those of their atoms, and all ports that may be asked for have
--- one
-pub record IsNamed (atoms : List Atom) (named : NamedPolicy) : Type 0 where
-  pub sources : map (map (named_in atoms)) named.directives
-      ≡ map (λ (d : Directive). map (atoms_of named.policy.now.origin) d.sources) named.policy.now.directives
-  pub there : All (All (AreNamesThere (length atoms))) named.directives
-  pub ports : All (λ (d : Directive). All (HasPort atoms) d.sources) named.policy.now.directives
-  pub own : HasOwnPort atoms named.policy.now.origin
+-- the names are those of the source of a policy of this origin
+pub record IsSourceNamed (atoms : List Atom) (self : Origin) (s : Source) (names : SourceNames) : Type 0 where
+  pub lead : IsNameOf atoms (lead_atom self s) names.lead
+  pub rest : IsNameOf atoms (rest_atom s) names.rest
+  pub port : HasPort atoms s
+
+-- the ports that no source names but that may be asked for have names
+pub record HasPorts (atoms : List Atom) (self : Origin) : Type 0 where
+  pub own : HasOwnPort atoms self
   pub defaults : (scheme : Scheme) → Contains atoms (PortIs (default_port scheme))
+
+-- the names are those of the directive's sources
+abbrev pub IsDirectiveNamed : List Atom → Origin → Directive → List SourceNames → Type 0
+IsDirectiveNamed atoms self d names = AllZip (IsSourceNamed atoms self) d.sources names
+
+-- the names are those of the policy's directives
+pub record IsNamed (atoms : List Atom) (named : NamedPolicy) : Type 0 where
+  pub sources : AllZip (IsDirectiveNamed atoms named.policy.now.origin) named.policy.now.directives named.directives
+  pub ports : HasPorts atoms named.policy.now.origin
 
 -- the names of the vocabulary's pairs, in its order
 pub record ArePairs (atoms : List Atom) (hashes : List Hash) (names : PairNames) : Type 0 where
   pub outside : slice_get atoms names.outside ≡ Some IntegrityOutside
   pub pairs : map (slice_get atoms) names.pairs.items ≡ map (λ (h : Hash). Some (IntegrityHas h)) hashes
-
-abbrev pub policies_of : List NamedPolicy → List Policy
-policies_of named = map (λ (n : NamedPolicy). n.policy.now) named
-
--- each policy of the list is named, in order
-pub record AreNamed (atoms : List Atom) (list : PolicyList) (named : List NamedPolicy) : Type 0 where
-  pub policies : policies_of named ≡ list.policies
-  pub each : All (IsNamed atoms) named

@@ -1,15 +1,16 @@
 //! The answer of a policy to a question.
-ghost use Rattle.std.specs.Prelude.{◌≡◌, ◌++◌, IfOk, List as Items, length};
+ghost use Rattle.std.specs.Prelude.{◌≡◌, ◌++◌, IfOk, List as Items};
 ghost use Rattle.csp_model.specs.declared.check.FetchRule.TheVariants as rule;
 ghost use Rattle.csp_model.specs.declared.source.Hash.{Hash as HashValue};
 ghost use Rattle.csp_facts.specs.declared.atom.Atom.{Atom as AtomValue};
 ghost use Rattle.csp_formula.specs.Compiled as compiled;
-ghost use Rattle.csp_formula.specs.Questions.{answer_of_list, question_sentence, shape_asked};
+ghost use Rattle.csp_formula.specs.Questions.{answer_of_list, shape_asked};
 ghost use Rattle.csp_formula.specs.Sentences.{Known};
 ghost use Rattle.csp_formula.specs.Sources.{list_sentence};
-ghost use Rattle.csp_answer.specs.Answers as spec;
 ghost use Rattle.csp_answer.specs.Asking as parts;
 ghost use Rattle.csp_answer.specs.Naming.{ArePairs, IsNamed};
+ghost use Rattle.csp_answer.specs.Policies.{IsAnswerTo};
+ghost use Rattle.csp_answer.specs.Tables.{Says};
 
 use crate::answer::Answer;
 use crate::conjunction::Conjunction;
@@ -37,17 +38,8 @@ pub(crate) fn answer_to(
     question: Question,
 ) -> Result<Answer, Memory>
     requires { IsNamed naming.names.now named.now }
-    ensures said { IfOk result (λ made. (hashes : Items HashValue)
-        → ArePairs naming.entry.names.now hashes naming.entry.pairs.now
-        → spec.SaysTheSame (spec.sentence_in naming.entry.names.now made)
-        (question_sentence named.now.policy.now hashes question)) }
-    ensures among { IfOk result (λ made. (hashes : Items HashValue)
-        → ArePairs naming.entry.names.now hashes naming.entry.pairs.now
-        → spec.IsAmong (spec.sentence_in naming.entry.names.now made)
-        (question_sentence named.now.policy.now hashes question)) }
-    ensures answer { IfOk result (λ made. (hashes : Items HashValue)
-        → ArePairs naming.entry.names.now hashes naming.entry.pairs.now
-        → spec.IsAnswer (length naming.entry.names.now) made) }
+    ensures { IfOk result (IsAnswerTo naming.entry.names.now naming.entry.pairs.now named.now.policy.now
+        question) }
 {
     match question {
         Question::Known(known) => known_answer(alloc, known),
@@ -64,7 +56,7 @@ pub(crate) fn answer_to(
 
 // The answer that holds always or never.
 fn known_answer(alloc: Global, known: bool) -> Result<Answer, Memory>
-    ensures { IfOk result (λ made. (atoms : Items AtomValue) → parts.Answers atoms (Known known) made) }
+    ensures { IfOk result (λ made. (atoms : Items AtomValue) → Says atoms (Known known) made) }
 {
     Answer::new(constant(alloc, known)?, None)
 }
@@ -91,7 +83,7 @@ fn list_answer(
     requires { parts.IsListNamed naming.names.now list }
     ensures { IfOk result (λ made. (hashes : Items HashValue)
         → ArePairs naming.entry.names.now hashes naming.entry.pairs.now
-        → parts.Answers naming.entry.names.now
+        → Says naming.entry.names.now
         (answer_of_list list.entry.origin.now hashes asked list.entry.sources.now) made) }
 {
     match asked.rule {
@@ -115,7 +107,7 @@ fn script_answer(
     requires { parts.IsListNamed naming.names.now list }
     ensures { IfOk result (λ made. (hashes : Items HashValue)
         → ArePairs naming.entry.names.now hashes naming.entry.pairs.now
-        → parts.Answers naming.entry.names.now
+        → Says naming.entry.names.now
         (compiled.fetch_sentence rule.Script hashes list.entry.sources.now asked.parser_inserted
         (list_sentence list.entry.origin.now (shape_asked asked) list.entry.sources.now)) made) }
 {
@@ -147,7 +139,7 @@ fn dynamic_or_listed(
 // The answer of a list on inline code or style of a kind.
 fn inline_answer(alloc: Global, list: NamedList, kind: InlineKind) -> Result<Answer, Memory>
     ensures { IfOk result (λ made. (atoms : Items AtomValue) → parts.IsListNamed atoms list.entry
-        → parts.Answers atoms (compiled.inline_sentence kind list.entry.sources.now) made) }
+        → Says atoms (compiled.inline_sentence kind list.entry.sources.now) made) }
 {
     if allows_all_inline(kind, list.sources) {
         return known_answer(alloc, true);

@@ -89,7 +89,6 @@ fn led_from(branch: &Branch, conjunctions: &[Conjunction], from: usize) -> Optio
         unreachable!()
     };
     let names = branch.names();
-    names.are_in_order();
     let part = names.atoms()[lead].part();
     let end = names.start(part_number(part) + 1);
     match branch.place(part) {
@@ -140,7 +139,6 @@ fn led_around(branch: &Branch, conjunctions: &[Conjunction], place: usize) -> Op
         (λ name. around_in branch.now.atoms name place ≡ true) result }
 {
     let names = branch.names();
-    names.are_in_order();
     let mut known = Some(false);
     let mut next = Some(place);
     while let Some(name) = next {

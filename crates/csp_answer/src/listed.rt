@@ -5,7 +5,7 @@ ghost use Rattle.csp_facts.specs.declared.atom.Atom.{Atom as AtomValue};
 ghost use Rattle.csp_formula.specs.Outlines.{port_said};
 ghost use Rattle.csp_formula.specs.Sources.{list_sentence, source_sentence};
 ghost use Rattle.csp_answer.specs.Asking as spec;
-ghost use Rattle.csp_answer.specs.Naming.{IsNamed};
+ghost use Rattle.csp_answer.specs.Naming.{HasPorts, IsNamed, IsSourceNamed};
 
 use crate::conjunction::Conjunction;
 use crate::naming::{NamedPolicy, SourceNames};
@@ -66,8 +66,8 @@ fn source_conjunction(
     source: &Source,
     named: SourceNames,
 ) -> Option<Conjunction>
-    requires source { spec.IsSourceNamed names.now origin.now source.now named }
-    requires ports { spec.HasPorts names.now origin.now }
+    requires source { IsSourceNamed names.now origin.now source.now named }
+    requires ports { HasPorts names.now origin.now }
     ensures { spec.AmountTo names.now (source_sentence origin.now shape source.now)
         (option_to_list result) }
 {

@@ -1,17 +1,12 @@
-//! The names of all that two lists of policies speak of.
-ghost use Rattle.std.specs.Prelude.{◌≡◌, ◌++◌, ◌<◌, All, Contains, IfOk, Some, length, map, slice_get};
-ghost use Rattle.std.specs.Option.{option_and_then};
-ghost use Rattle.csp_facts.specs.Atoms.{IsValidAtom};
-ghost use Rattle.csp_formula.specs.Belonging.{HasBase64Values};
-ghost use Rattle.csp_model.specs.Policies.{IsReadable};
-ghost use Rattle.csp_branch.specs.Sorting.{referred};
-ghost use Rattle.csp_answer.specs.Collecting as collected;
+//! The names of the atoms that a policy's sources speak of.
+ghost use Rattle.std.specs.Prelude.{◌≡◌, All, Contains, IfOk, IfSome, Some, slice_get};
+ghost use Rattle.std.specs.List.{AllZip, flat_map};
 ghost use Rattle.csp_answer.specs.Naming as spec;
 
-use crate::collecting::collect;
-use csp_branch::{Names, name_atoms};
-use csp_facts::{Atom, Vocabulary};
-use csp_model::{List, Memory, Policy, PolicyList};
+use crate::source::{lead_atom, rest_atom};
+use csp_branch::Names;
+use csp_facts::Atom;
+use csp_model::{Duplicate, Hash, List, Memory, Origin, Policy, Source};
 use std::alloc::Global;
 
 // The names of the atoms of a source, where it has them.
@@ -36,136 +31,81 @@ pub(crate) struct PairNames {
     pub(crate) pairs: Vec<usize>,
 }
 
-// Two lists of policies by names.
-#[derive(Drop)]
-pub(crate) struct NamedLists<'l> {
-    pub(crate) names: Names,
-    pub(crate) pairs: PairNames,
-    pub(crate) first: List<NamedPolicy<'l>>,
-    pub(crate) second: List<NamedPolicy<'l>>,
-}
-
-// Names the atoms of two lists of policies and these others. The vocabulary is that of the lists.
-pub(crate) fn name_lists<'l>(
-    alloc: Global,
-    first: &'l PolicyList,
-    second: &'l PolicyList,
-    vocabulary: &Vocabulary,
-    others: &[&Atom],
-) -> Result<NamedLists<'l>, Memory>
-    requires first { IsReadable first.now }
-    requires second { IsReadable second.now }
-    requires hashes { HasBase64Values vocabulary.now.hashes }
-    requires others { All IsValidAtom (referred others.now) }
-    ensures first { IfOk result (λ made. spec.AreNamed made.names first.now made.first) }
-    ensures second { IfOk result (λ made. spec.AreNamed made.names second.now made.second) }
-    ensures pairs { IfOk result (λ made. spec.ArePairs made.names vocabulary.now.hashes made.pairs) }
-    ensures others { IfOk result (λ made. All (Contains made.names) (referred others.now)) }
-{
-    let collected = collect(alloc, first, second, vocabulary)?;
-    let given = all_given(alloc, collected.atoms.as_slice(), others)?;
-    let named = name_atoms(alloc, &given)?;
-    let pairs = rename_pairs(alloc, &collected.pairs, &named.given)?;
-    let first = rename_policies(alloc, collected.first.as_slice(), &named.given)?;
-    let second = rename_policies(alloc, collected.second.as_slice(), &named.given)?;
-    Ok(NamedLists {
-        names: named.names,
-        pairs,
-        first,
-        second,
-    })
-}
-
-// The atoms that are named: those that were collected, and the others behind them.
-fn all_given<'a, 'o: 'a>(
-    alloc: Global,
-    atoms: &'a [Atom],
-    others: &[&'o Atom],
-) -> Result<Vec<&'a Atom>, Memory>
-    ensures { IfOk result (λ made. referred made.items ≡ atoms.now ++ referred others.now) }
-{
-    let mut given: Vec<&'a Atom> = atoms.iter().collect(alloc)?;
-    for other in others {
-        given.push(*other)?;
+impl NamedPolicy<'_> {
+    pub(crate) fn new<'p>(
+        alloc: Global,
+        names: &Names,
+        policy: &'p Policy,
+    ) -> Result<NamedPolicy<'p>, Memory>
+        requires { All (Contains names.now) (spec.policy_atoms policy.now) }
+        ensures policy { IfOk result (λ made. made.policy.now ≡ policy.now) }
+        ensures named { IfOk result (spec.IsNamed names.now) }
+    {
+        let mut directives = List::new(alloc);
+        for directive in policy.directives.as_slice() {
+            let sources = directive.sources.as_slice();
+            directives.push(names_of_sources(alloc, names, &policy.origin, sources)?)?;
+        }
+        Ok(NamedPolicy { policy, directives })
     }
-    Ok(given)
 }
 
-// Puts names in place of the places of policies' atoms among those that were given.
-fn rename_policies<'l>(
-    alloc: Global,
-    placed: &[NamedPolicy<'l>],
-    given: &[usize],
-) -> Result<List<NamedPolicy<'l>>, Memory>
-    ensures { IfOk result (λ made. made ≡ map (collected.renamed_policy given.now) placed.now) }
-{
-    let mut named = List::new(alloc);
-    for one in placed {
-        let directives = rename_directives(alloc, one.directives.as_slice(), given)?;
-        named.push(NamedPolicy {
-            policy: one.policy,
-            directives,
-        })?;
+impl PairNames {
+    pub(crate) fn new(alloc: Global, names: &Names, hashes: &[Hash]) -> Result<PairNames, Memory>
+        requires { All (Contains names.now) (spec.pair_atoms hashes.now) }
+        ensures { IfOk result (spec.ArePairs names.now hashes.now) }
+    {
+        let mut pairs = Vec::with_capacity(alloc, hashes.len())?;
+        for hash in hashes {
+            let pair = Atom::IntegrityHas(hash.copy(alloc)?);
+            pairs.push(name_of(names, &pair))?;
+        }
+        Ok(PairNames {
+            outside: name_of(names, &Atom::IntegrityOutside),
+            pairs,
+        })
     }
-    Ok(named)
 }
 
-fn rename_directives(
+// The names of sources of a policy of this origin.
+fn names_of_sources(
     alloc: Global,
-    placed: &[List<SourceNames>],
-    given: &[usize],
-) -> Result<List<List<SourceNames>>, Memory>
-    ensures { IfOk result (λ made. made ≡ map (map (collected.renamed given.now)) placed.now) }
-{
-    let mut named = List::new(alloc);
-    for sources in placed {
-        named.push(rename_sources(alloc, sources.as_slice(), given)?)?;
-    }
-    Ok(named)
-}
-
-fn rename_sources(
-    alloc: Global,
-    placed: &[SourceNames],
-    given: &[usize],
+    names: &Names,
+    origin: &Origin,
+    sources: &[Source],
 ) -> Result<List<SourceNames>, Memory>
-    ensures { IfOk result (λ made. made ≡ map (collected.renamed given.now) placed.now) }
+    requires { All (Contains names.now) (flat_map (spec.source_atoms origin.now) sources.now) }
+    ensures { IfOk result (AllZip (spec.IsSourceNamed names.now origin.now) sources.now) }
 {
     let mut named = List::new(alloc);
-    for places in placed {
+    for source in sources {
+        let lead = lead_atom(alloc, origin, source)?;
+        let rest = rest_atom(alloc, source)?;
         named.push(SourceNames {
-            lead: name_at(places.lead, given),
-            rest: name_at(places.rest, given),
+            lead: name_of_some(names, &lead),
+            rest: name_of_some(names, &rest),
         })?;
     }
     Ok(named)
 }
 
-// The name of the atom that was given at this place, if there is one.
-fn name_at(place: Option<usize>, given: &[usize]) -> Option<usize>
-    ensures { result ≡ option_and_then (slice_get given.now) place }
+// The name of an atom, where there is one.
+fn name_of_some(names: &Names, atom: &Option<Atom>) -> Option<usize>
+    requires { IfSome atom.now (Contains names.now) }
+    ensures { spec.IsNameOf names.now atom.now result }
 {
-    given.get(place?).copied()
-}
-
-// Puts names in place of the places of pairs.
-fn rename_pairs(alloc: Global, placed: &PairNames, given: &[usize]) -> Result<PairNames, Memory>
-    requires { collected.ArePairsThere (length given.now) placed.now }
-    ensures { IfOk result (collected.AreRenamed given.now placed.now) }
-{
-    Ok(PairNames {
-        outside: given[placed.outside],
-        pairs: names_at(alloc, &placed.pairs, given)?,
-    })
-}
-
-fn names_at(alloc: Global, places: &[usize], given: &[usize]) -> Result<Vec<usize>, Memory>
-    requires { All (λ place. place < length given.now) places.now }
-    ensures { IfOk result (λ made. map (slice_get given.now) places.now ≡ map Some made.items) }
-{
-    let mut names = Vec::with_capacity(alloc, places.len())?;
-    for place in places {
-        names.push(given[*place])?;
+    match atom {
+        Some(atom) => Some(name_of(names, atom)),
+        None => None,
     }
-    Ok(names)
+}
+
+fn name_of(names: &Names, atom: &Atom) -> usize
+    requires { Contains names.now atom.now }
+    ensures { slice_get names.now result ≡ Some atom.now }
+{
+    match names.find(atom) {
+        Some(name) => name,
+        None => unreachable!(),
+    }
 }

@@ -1,14 +1,40 @@
-//! The atoms that a source speaks of, whatever the shape, but for ports.
+//! The atoms that a source speaks of, whatever the shape.
 ghost use Rattle.std.specs.Prelude.{◌≡◌, IfOk};
 ghost use Rattle.csp_answer.specs.Naming as spec;
 
 use csp_facts::Atom;
 use csp_formula::source_digest;
 use csp_model::{
-    Duplicate, Host, HostPart, Keyword, Memory, Origin, PathPart, Scheme, Source, Text, is_domain,
-    is_four_numbers,
+    Duplicate, Host, HostPart, Keyword, Memory, Origin, PathPart, PortPart, Scheme, Source, Text,
+    is_domain, is_four_numbers,
 };
 use std::alloc::Global;
+
+// The atom of the port that a source names, where it names one.
+pub(crate) fn port_atom(source: &Source) -> Option<Atom>
+    ensures { result ≡ spec.port_atom source.now }
+{
+    match source {
+        Source::Hosted {
+            port: PortPart::Number(number),
+            ..
+        } => Some(Atom::PortIs(*number)),
+        _ => None,
+    }
+}
+
+// The atom of the port that an origin names, where it names one.
+pub(crate) fn own_port(origin: &Origin) -> Option<Atom>
+    ensures { result ≡ spec.own_port origin.now }
+{
+    match origin {
+        Origin::Tuple {
+            port: Some(number),
+            ..
+        } => Some(Atom::PortIs(*number)),
+        _ => None,
+    }
+}
 
 // The atom of the host, the scheme, the nonce or the pair of integrity metadata of a source, whose policy has
 // this origin, unless no check has it.

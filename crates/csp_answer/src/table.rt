@@ -1,21 +1,23 @@
 //! A table of the answers of two lists of policies at each shape.
 ghost use Rattle.std.specs.Prelude.{◌≡◌, All, Contains, IfOk, IfSome, IsTrue, List as Items, map};
+ghost use Rattle.std.specs.List.{flat_map};
 ghost use Rattle.csp_answer.specs.Policies.{place_at};
 ghost use Rattle.csp_facts.specs.Atoms.{IsValidAtom};
 ghost use Rattle.csp_facts.specs.Vocabulary.{vocabulary_hashes};
 ghost use Rattle.csp_model.specs.Policies.{IsReadable};
 ghost use Rattle.csp_model.specs.declared.source.Hash.{Hash as HashValue};
 ghost use Rattle.csp_branch.specs.Sorting.{referred};
-ghost use Rattle.csp_answer.specs.Naming.{ArePairs, IsNamed, policies_of};
+ghost use Rattle.csp_answer.specs.Naming.{ArePairs, policy_atoms};
 ghost use Rattle.csp_answer.specs.Tables as spec;
 
 use crate::asking::Naming;
-use crate::naming::{NamedPolicy, name_lists};
+use crate::collecting::collect;
+use crate::naming::{NamedPolicy, PairNames};
 use crate::policy::PolicyAnswers;
 use csp_branch::Names;
 use csp_facts::shape_laws::each_number_is_one_shape;
 use csp_facts::{Atom, Vocabulary, shape_at};
-use csp_model::{List, Memory, PolicyList};
+use csp_model::{List, Memory, Policy, PolicyList};
 use csp_source::laws::each_token_has_one_source;
 use std::alloc::Global;
 
@@ -58,16 +60,18 @@ pub fn answers_of(
     ensures others { IfOk result (λ made. All (Contains made.names) (referred others.now)) }
 {
     each_token_has_one_source();
-    let named = name_lists(alloc, first, second, vocabulary, others)?;
+    let atoms = collect(alloc, vocabulary, first, second, others)?;
+    let names = Names::new(alloc, atoms)?;
+    let pairs = PairNames::new(alloc, &names, vocabulary.hashes.as_slice())?;
     let naming = Naming {
-        names: &named.names,
-        pairs: &named.pairs,
+        names: &names,
+        pairs: &pairs,
     };
-    let first = answers_of_each(alloc, naming, named.first.as_slice())?;
-    let second = answers_of_each(alloc, naming, named.second.as_slice())?;
+    let first = answers_of_each(alloc, naming, first.policies.as_slice())?;
+    let second = answers_of_each(alloc, naming, second.policies.as_slice())?;
     let kinds = kinds_of(alloc, first.as_slice(), second.as_slice())?;
     Ok(NamedAnswers {
-        names: named.names,
+        names,
         table: AnswerTable {
             first,
             second,
@@ -76,20 +80,21 @@ pub fn answers_of(
     })
 }
 
-// The answers of each policy of a list whose sources have names.
+// The answers of each of these policies.
 fn answers_of_each(
     alloc: Global,
     naming: Naming,
-    list: &[NamedPolicy],
+    policies: &[Policy],
 ) -> Result<List<PolicyAnswers>, Memory>
-    requires { All (IsNamed naming.names.now) list.now }
+    requires { All (Contains naming.names.now) (flat_map policy_atoms policies.now) }
     ensures { IfOk result (λ made. (hashes : Items HashValue)
         → ArePairs naming.entry.names.now hashes naming.entry.pairs.now
-        → spec.AreAnswers naming.entry.names.now hashes (policies_of list.now) made) }
+        → spec.AreAnswers naming.entry.names.now hashes policies.now made) }
 {
     let mut made = List::new(alloc);
-    for policy in list {
-        made.push(PolicyAnswers::new(alloc, naming, policy)?)?;
+    for policy in policies {
+        let named = NamedPolicy::new(alloc, naming.names, policy)?;
+        made.push(PolicyAnswers::new(alloc, naming, &named)?)?;
     }
     Ok(made)
 }

@@ -9,7 +9,7 @@ use Rattle.csp_facts.specs.Follows.{decided}
 use Rattle.csp_facts.specs.declared.atom.Atom.{Atom}
 use Rattle.csp_facts.specs.declared.atom.Atom.TheVariants.{HostDomain}
 use Rattle.csp_facts.specs.declared.atom.Literal.{Literal}
-use Rattle.csp_branch.specs.Numbers.{AreInOrder, around_in}
+use Rattle.csp_branch.specs.Numbers.{around_in}
 use Rattle.csp_branch.specs.Order.{part_number}
 use Rattle.csp_branch.specs.Changes.{IsLast}
 use Rattle.csp_branch.specs.Groups.{group_in, groups_in}
@@ -33,12 +33,12 @@ pub path_push : (atoms : List Atom) (steps : List Step) (step : Step)
 path_push atoms steps step =
     ap (λ (ls : List Literal). record { atoms = atoms; literals = ls }) (map-append (literal_of atoms) steps (step ∷ []))
 
-module _ (atoms : List Atom) (order : AreInOrder atoms) (steps : List Step) (groups : List Group) (denied : List Bool) (are : AreMarks atoms steps groups denied) where
+module _ (atoms : List Atom) (steps : List Step) (groups : List Group) (denied : List Bool) (are : AreMarks atoms steps groups denied) where
   abbrev marks : Marks
   marks = record { groups = groups; denied = denied }
 
   pub tells : Tells atoms (path_of atoms steps).literals marks
-  tells = subst (λ (m : Marks). Tells atoms (path_of atoms steps).literals m) (sym are.are) (tells_path atoms order steps are.named)
+  tells = subst (λ (m : Marks). Tells atoms (path_of atoms steps).literals m) (sym are.are) (tells_path atoms are.order steps are.named)
 
   pub groups_long : length groups ≡ groups_in atoms
   groups_long = tells.sound.groups
@@ -79,7 +79,7 @@ module _ (atoms : List Atom) (order : AreInOrder atoms) (steps : List Step) (gro
       → IfSome group.place (IsPlace (path_of atoms steps) p)
   places_here p single number group is at =
       let low = below_nine p in
-      are_places atoms order (path_of atoms steps).literals marks tells p single group.place
+      are_places atoms are.order (path_of atoms steps).literals marks tells p single group.place
       (ap (λ (n : ℕ). (get_or groups n blank).place) (sym is) ∙ ap (λ (g : Group). g.place) (sym (group_read number group (omega (arith, low, is)) at)))
 
   -- one literal more
@@ -101,6 +101,7 @@ module _ (atoms : List Atom) (order : AreInOrder atoms) (steps : List Step) (gro
         → mark ≡ after known step was → AreMarks atoms now (set groups number mark.group) (set denied name mark.denied)
     one_more there known mark same told is =
         subst (λ (ss : List Step). AreMarks atoms ss (set groups number mark.group) (set denied name mark.denied)) (sym grown) (record {
+          order = are.order;
           named = named_more;
           are = ap (λ (n : ℕ). record { groups = set groups n mark.group; denied = set denied name mark.denied }) at
               ∙ ap (λ (m : Mark). with_mark atoms marks name m) (is ∙ ap₂ (λ (k : Option Bool) (m : Mark). after k step m) (known_here there number group name known same low at group_is told) was_is)
@@ -124,7 +125,7 @@ module _ (atoms : List Atom) (order : AreInOrder atoms) (steps : List Step) (gro
     here_named = subst (λ (ats : List Atom). AreNamed ats (last.before ++ change.step ∷ [])) there last.named
 
     pub steps_are : steps ≡ last.before ++ change.step ∷ []
-    steps_are = same_steps atoms order steps (last.before ++ change.step ∷ []) are.named here_named
+    steps_are = same_steps atoms are.order steps (last.before ++ change.step ∷ []) are.named here_named
         (ap (λ (p : Path). p.literals) (same ∙ last.literals ∙ ap (λ (ats : List Atom). path_of ats (last.before ++ change.step ∷ [])) there))
 
     pub front_is : take (length steps - 1) steps ≡ last.before
@@ -140,6 +141,7 @@ module _ (atoms : List Atom) (order : AreInOrder atoms) (steps : List Step) (gro
         → AreMarks atoms now (set groups number change.was.group) (set denied change.step.name change.was.denied)
     one_less number now at shrunk =
         subst (λ (ss : List Step). AreMarks atoms ss (set groups number change.was.group) (set denied change.step.name change.was.denied)) (sym (shrunk ∙ front_is)) (record {
+          order = are.order;
           named = subst (λ (ss : List Step). AreNamed atoms ss) (take_at last.before (change.step ∷ []) (length last.before) refl)
               (All-take (λ (s : Step). s.name < length atoms) (length last.before) (last.before ++ change.step ∷ []) here_named);
           are = ap (λ (n : ℕ). record { groups = set groups n change.was.group; denied = set denied change.step.name change.was.denied }) at

@@ -1,6 +1,5 @@
 pub mod Changing
 pub mod Denials
-pub mod Fieldless
 pub mod Grouping
 pub mod Keeping
 pub mod Literals
@@ -19,7 +18,7 @@ pub mod HostOrder
 pub mod NameExact
 pub mod NameOrder
 pub mod Nesting
-pub mod Numbering
 pub mod PartOrder
 pub mod Prefixes
 pub mod Rows
+pub mod SortedOnce

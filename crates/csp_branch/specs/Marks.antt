@@ -3,7 +3,7 @@ use Rattle.std.specs.Prelude.{◌≡◌, ℕ, zero, suc, ◌&&◌, ◌||◌, Boo
 use Rattle.std.specs.List.{slice_index_or}
 use Rattle.csp_facts.specs.Follows.{or_else}
 use Rattle.csp_facts.specs.declared.atom.Atom.{Atom}
-use Rattle.csp_branch.specs.Numbers.{around_in}
+use Rattle.csp_branch.specs.Numbers.{AreInOrder, around_in}
 use Rattle.csp_branch.specs.Branching.{known_at, sealed}
 use Rattle.csp_branch.specs.Groups.{group_in, groups_in}
 use Rattle.csp_branch.specs.Paths.{AreNamed}
@@ -97,5 +97,6 @@ marks_of atoms steps = marked_by atoms (no_marks atoms) steps
 -- the literals leave these marks
 pub record AreMarks (atoms : List Atom) (steps : List Step) (groups : List Group) (denied : List Bool)
     : Type 0 where
+  pub order : AreInOrder atoms
   pub named : AreNamed atoms steps
   pub are : record { groups = groups; denied = denied } ≡ marks_of atoms steps

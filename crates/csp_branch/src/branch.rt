@@ -4,6 +4,7 @@ ghost use Rattle.std.specs.List.{slice_index_or};
 ghost use Rattle.csp_facts.specs.Follows.{decided};
 ghost use Rattle.csp_facts.specs.declared.atom.Atom.{Atom as AtomValue};
 ghost use Rattle.csp_branch.specs.Changes.{IsLast};
+ghost use Rattle.csp_branch.specs.Numbers.{AreInOrder};
 ghost use Rattle.csp_branch.specs.Paths.{literal_in};
 ghost use Rattle.csp_branch.specs.Places.{IsPlace};
 
@@ -12,8 +13,7 @@ use crate::mark::{Group, Mark, known_of};
 use crate::names::Names;
 use crate::order::part_number;
 use crate::step::Step;
-use crate::steps::Steps;
-use csp_model::{CheckPart, Memory};
+use csp_model::{CheckPart, Memory, Trace};
 use std::alloc::Global;
 use std::marker::Model;
 
@@ -28,7 +28,7 @@ pub struct Branch {
     groups: Vec<Group>,
     // Of each name whether it was denied while it was open.
     denied: Vec<bool>,
-    path: Steps,
+    path: Trace<Step>,
 }
 
 impl Model for Branch {
@@ -66,13 +66,14 @@ impl Branch {
             names,
             groups,
             denied,
-            path: Steps::new(),
+            path: Trace::new(),
         })
     }
 
     /// The names that the literals speak of.
     pub fn names(&self) -> &Names
-        ensures { result.now ≡ self.now.atoms }
+        ensures names { result.now ≡ self.now.atoms }
+        ensures order { AreInOrder self.now.atoms }
     {
         &self.names
     }
@@ -83,7 +84,6 @@ impl Branch {
     pub fn place(&self, part: CheckPart) -> Option<usize>
         ensures { IfSome result (IsPlace self.now part) }
     {
-        self.names.are_in_order();
         match part {
             CheckPart::Integrity => None,
             _ => self.groups[part_number(part) as usize].place,
@@ -96,7 +96,6 @@ impl Branch {
         ensures { (d : AtomValue)
             → result ≡ decided self.now.literals (slice_index_or self.now.atoms asked d) }
     {
-        self.names.are_in_order();
         let group = self.groups[group_of(&self.names, asked)];
         known_of(&self.names, group, &self.denied, asked)
     }
@@ -111,7 +110,6 @@ impl Branch {
         ensures step { result.step ≡ record { name = name; positive = positive } }
         ensures last { IsLast result self.new }
     {
-        self.names.are_in_order();
         let number = group_of(&self.names, name);
         let was = Mark {
             group: self.groups[number],
@@ -135,7 +133,6 @@ impl Branch {
               ++ literal_in self.new.atoms change.step.name change.step.positive ∷ [];
         } }
     {
-        self.names.are_in_order();
         let name = change.step.name;
         let number = group_of(&self.names, name);
         self.groups[number] = change.was.group;

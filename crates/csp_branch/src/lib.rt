@@ -20,11 +20,10 @@ mod order;
 mod ranges;
 mod sorting;
 mod step;
-mod steps;
 mod walker;
 
 pub use branch::{Branch, Change};
-pub use names::{Named, Names, name_atoms};
+pub use names::Names;
 pub use order::part_number;
 pub use step::Step;
 pub use walker::Walker;

@@ -6,7 +6,6 @@ ghost use Rattle.csp_facts.specs.Atoms.{IsValidAtom};
 ghost use Rattle.csp_facts.specs.declared.atom.Atom.{Atom as AtomValue};
 ghost use Rattle.csp_branch.specs.Numbers.{AreInOrder, IsOuterOr, around_in};
 ghost use Rattle.csp_branch.specs.Order.{number_of};
-ghost use Rattle.csp_branch.specs.Sorting.{StandAt, referred};
 
 use crate::order::{compare_names, part_number};
 use crate::ranges::Ranges;
@@ -37,36 +36,16 @@ impl Model for Names {
     ghost invariant = { λ v. AreOutersTo v.ranges v.outers.items (length v.ranges) };
 }
 
-/// Names, and the name of each atom that was given.
-#[derive(Drop)]
-pub struct Named {
-    pub names: Names,
-    pub given: Vec<usize>,
-}
-
-/// Names valid atoms, which may stand in any order and more than once: those of two lists of policies, or
-/// also those of a proof.
-pub fn name_atoms(alloc: Global, given: &[&Atom]) -> Result<Named, Memory>
-    requires { All IsValidAtom (referred given.now) }
-    ensures given { IfOk result (λ made. StandAt made.names made.given.items (referred given.now)) }
-    ensures only { IfOk result (λ made. (atom : AtomValue)
-        → Contains made.names atom → Contains (referred given.now) atom) }
-{
-    let sorted = sort_atoms(alloc, given)?;
-    let names = Names::new(alloc, sorted.atoms)?;
-    Ok(Named {
-        names,
-        given: sorted.places,
-    })
-}
-
 impl Names {
-    // Names of atoms that stand in order.
-    fn new(alloc: Global, atoms: List<Atom>) -> Result<Names, Memory>
-        requires { AreInOrder atoms }
-        ensures { IfOk result (λ made. made ≡ atoms) }
+    /// Names valid atoms, which may stand in any order and more than once: those of two lists of policies, or
+    /// also those of a proof.
+    pub fn new(alloc: Global, atoms: List<Atom>) -> Result<Names, Memory>
+        requires { All IsValidAtom atoms }
+        ensures each { IfOk result (λ made. All (Contains made) atoms) }
+        ensures only { IfOk result (λ made. All (Contains atoms) made) }
     {
-        let ranges = Ranges::new(alloc, atoms)?;
+        let sorted = sort_atoms(atoms)?;
+        let ranges = Ranges::new(alloc, sorted)?;
         let outers = ranges.outers(alloc)?;
         Ok(Names { ranges, outers })
     }
@@ -75,12 +54,13 @@ impl Names {
     pub fn are_in_order(&self)
         ensures { AreInOrder self.now }
     {
-        self.ranges.are_in_order();
+        let _ = self.atoms();
     }
 
     /// The atoms, in the order of their names.
     pub fn atoms(&self) -> &[Atom]
-        ensures { result.now ≡ self.now }
+        ensures atoms { result.now ≡ self.now }
+        ensures order { AreInOrder self.now }
     {
         self.ranges.atoms()
     }
@@ -90,7 +70,6 @@ impl Names {
         ensures { MatchOption result (¬ Contains self.now atom.now)
             (λ name. slice_get self.now name ≡ Some atom.now) }
     {
-        self.are_in_order();
         let atoms = self.atoms();
         let name = atoms.partition_point(|named| compare_names(named, atom).is_lt());
         let found = atoms.get(name)?;
@@ -109,7 +88,6 @@ impl Names {
         ensures from { (k : ℕ) (d : AtomValue) → result ≤ k → k < length self.now
             → part ≤ number_of (slice_index_or self.now k d) }
     {
-        self.are_in_order();
         self.atoms()
             .partition_point(|atom| part_number(atom.part()) < part)
     }

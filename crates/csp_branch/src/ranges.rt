@@ -38,15 +38,9 @@ impl Ranges {
         Ok(Ranges { atoms, ends })
     }
 
-    // They are in order.
-    pub(crate) fn are_in_order(&self)
-        ensures { AreInOrder self.now }
-    {
-        let _ = &self.atoms;
-    }
-
     pub(crate) fn atoms(&self) -> &[Atom]
-        ensures { result.now ≡ self.now }
+        ensures atoms { result.now ≡ self.now }
+        ensures order { AreInOrder self.now }
     {
         self.atoms.as_slice()
     }

@@ -63,14 +63,16 @@ impl Cell {
     /// port, on the path, on the scheme of a URL without a host, on the nonce and on the digest of each
     /// algorithm.
     pub fn placing(&self) -> &[Literal]
-        ensures { result.now ≡ filter places self.now.literals }
+        ensures cell { IsCell self.now }
+        ensures placing { result.now ≡ filter places self.now.literals }
     {
         &self.placing
     }
 
     /// The denials, and the literals on integrity metadata.
     pub fn others(&self) -> &[Literal]
-        ensures { result.now ≡ filter (λ literal. not (places literal)) self.now.literals }
+        ensures cell { IsCell self.now }
+        ensures others { result.now ≡ filter (λ literal. not (places literal)) self.now.literals }
     {
         &self.others
     }

@@ -10,7 +10,7 @@ use Rattle.csp_facts.specs.Numbers.{number, shape_count}
 use Rattle.csp_facts.specs.Shapes.{is_shape}
 use Rattle.csp_facts.specs.declared.shape.Shape.{Shape}
 use Rattle.csp_proof.specs.Pairs.{Pair, shapes, enforced}
-use Rattle.csp_proof.proofs.ShapesListed.{numbered as numbers_of_shapes}
+use Rattle.csp_facts.proofs.Listed.{numbered as numbers_of_shapes}
 use Rattle.csp_checker.specs.Asked.{due, numbered}
 use Rattle.csp_checker.specs.declared.asked.NumberedPair.{NumberedPair}
 

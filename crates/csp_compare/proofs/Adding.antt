@@ -18,7 +18,7 @@ use Rattle.csp_proof.specs.declared.proof.Format.TheVariants.{Two}
 use Rattle.csp_proof.specs.declared.proof.Node.{Node}
 use Rattle.csp_proof.specs.declared.proof.Tree.{Tree}
 use Rattle.csp_proof.proofs.CasesRead.{cases_back}
-use Rattle.csp_proof.proofs.ShapesListed.{within_count}
+use Rattle.csp_facts.proofs.Listed.{within_count}
 use Rattle.csp_proof.proofs.Steps.{trees_push}
 use Rattle.csp_search.specs.Answers.{ShowsInclusion}
 use Rattle.csp_compare.specs.Drafts.{tree_behind, IsBodyOf, IsAdded, Shows, at_shape, IsShown, Adds}

@@ -1,8 +1,8 @@
 -- Where no shape shows a difference, there is none.
-use Rattle.std.proofs.Common.{arith, ◌≡◌, ◌∙◌, sym, ap, subst, refl, ℕ, zero, suc, ◌+◌, ◌<◌, ◌≤◌, List, length, All, inl, inr}
+use Rattle.std.proofs.Common.{arith, ◌≡◌, ◌∙◌, sym, ap, subst, refl, ℕ, zero, suc, ◌+◌, ◌<◌, ◌≤◌, List, length, inl, inr}
 use Rattle.std.specs.Prelude.{Contains, ◌⊎◌}
-use Rattle.std.proofs.lemmas.List.Elements.{All-weaker}
-use Rattle.csp_facts.specs.declared.atom.Atom.{Atom}
+use Rattle.std.specs.List.{AllZip}
+use Rattle.csp_branch.specs.Walks.{Position}
 use Rattle.csp_model.specs.Names.{group_directive, inline_directive}
 use Rattle.csp_model.specs.Verdict.{effective_name}
 use Rattle.csp_model.specs.declared.check.Check.{Check}
@@ -18,11 +18,12 @@ use Rattle.csp_facts.specs.declared.shape.Shape.{Shape}
 use Rattle.csp_facts.proofs.Apart.{one_shape}
 use Rattle.csp_facts.proofs.Checks.{shape_of, shaped, is_listed, is_only}
 use Rattle.csp_proof.proofs.ReadableSaid.{AllSaid, are_said}
-use Rattle.csp_proof.proofs.ShapesListed.{within_count}
-use Rattle.csp_compare.specs.Differences.{HasNodes, HasNoneAt, IsAmongAt, IsIncludedAt, IsIncludedBelow, SubsumesAmong, effective_names, effective_of}
-use Rattle.csp_compare.specs.Tasks.{lists_of, IsTask}
-use Rattle.csp_compare.specs.declared.task.Task.{Task}
-use Rattle.csp_compare.proofs.OneShape.{HasCases, included_at}
+use Rattle.csp_facts.proofs.Listed.{within_count}
+use Rattle.csp_compare.specs.Differences.{HasNoneAt, IsAmongAt, IsIncludedAt, IsIncludedBelow, SubsumesAmong, effective_names, effective_of}
+use Rattle.csp_compare.specs.Drafts.{IsShown, at_shape}
+use Rattle.csp_compare.specs.Comparisons.{lists_of, IsReady}
+use Rattle.csp_compare.specs.declared.comparison.Comparison.{Comparison}
+use Rattle.csp_compare.proofs.OneShape.{included_at}
 
 -- Effective directives
 
@@ -78,16 +79,16 @@ shape_effective asked kind has = sym (ap effective_of (is_only asked kind has) �
 
 -- Shapes without a difference
 
-pub none_differs : AllSaid → (task : Task) (names : List Atom) (effective : List Name) → IsTask task names → (n : ℕ) → shape_count ≤ n → IsIncludedBelow task effective n
-    → SubsumesAmong effective task.first.now task.second.now
-none_differs law task names effective is n past below asked valid among allowed =
+pub none_differs : AllSaid → (on : Comparison) {walker : Position} (effective : List Name) → IsReady on walker → (n : ℕ) → shape_count ≤ n → IsIncludedBelow on effective n
+    → SubsumesAmong effective on.lists.first.now on.lists.second.now
+none_differs law on effective is n past below asked valid among allowed =
     let kind = shape_of asked in
-    let lists = lists_of task in
+    let lists = lists_of on in
     let at : IsAmongAt effective (number kind) kind = record { listed = is_listed asked; number = refl; among = subst (Contains effective) (sym (effective_shape asked)) among } in
     let small = within_count kind in
     let here = below (number kind) kind (omega (arith, small, past)) at in
-    let shown = subst (All (HasCases lists kind)) is.policies (All-weaker (HasNodes lists kind) (HasCases lists kind) (λ n has. (has.1.cases, has.1.accepted)) task.policies.now here) in
-    included_at lists kind (are_said law task.first.now task.second.now is.first is.second) asked valid (shaped asked) allowed shown
+    let shown = subst (λ (policies : List ℕ). AllZip (λ policy m. IsShown lists here.0 (at_shape kind policy) m) policies here.1) is.policies here.2 in
+    included_at lists kind here.0 (are_said law on.lists.first.now on.lists.second.now is.lists.first is.lists.second) asked valid (shaped asked) allowed here.1 shown
 
 last_or_before : (m n : ℕ) → m < n + 1 → (m < n) ⊎ (m ≡ n)
 last_or_before zero zero small = inr refl
@@ -98,19 +99,19 @@ last_or_before (suc m) (suc n) small = elim (last_or_before m n (omega (arith, s
   | inr last ↦ inr (ap suc last)
 ]
 
-below_more : (task : Task) (effective : List Name) (n : ℕ) → ((kind : Shape) → IsAmongAt effective n kind → IsIncludedAt task kind)
-    → IsIncludedBelow task effective n → IsIncludedBelow task effective (n + 1)
-below_more task effective n included below place kind small at = elim (last_or_before place n small) [
+below_more : (on : Comparison) (effective : List Name) (n : ℕ) → ((kind : Shape) → IsAmongAt effective n kind → IsIncludedAt on kind)
+    → IsIncludedBelow on effective n → IsIncludedBelow on effective (n + 1)
+below_more on effective n included below place kind small at = elim (last_or_before place n small) [
   | inl before ↦ below place kind before at
   | inr last ↦ included kind (subst (λ (p : ℕ). IsAmongAt effective p kind) last at)
 ]
 
 -- where no shape of the next number has one of the directives, and where the one that has is included
 
-pub below_none : (task : Task) (effective : List Name) (n : ℕ) → HasNoneAt effective n → IsIncludedBelow task effective n → IsIncludedBelow task effective (n + 1)
-below_none task effective n none = below_more task effective n (λ kind at. absurd (none kind at))
+pub below_none : (on : Comparison) (effective : List Name) (n : ℕ) → HasNoneAt effective n → IsIncludedBelow on effective n → IsIncludedBelow on effective (n + 1)
+below_none on effective n none = below_more on effective n (λ kind at. absurd (none kind at))
 
-pub below_one : (task : Task) (effective : List Name) (n : ℕ) (shape : Shape) → IsAmongAt effective n shape → IsIncludedAt task shape
-    → IsIncludedBelow task effective n → IsIncludedBelow task effective (n + 1)
-below_one task effective n shape is included =
-    below_more task effective n (λ kind at. subst (IsIncludedAt task) (one_shape shape kind is.listed at.listed (is.number ∙ sym at.number)) included)
+pub below_one : (on : Comparison) (effective : List Name) (n : ℕ) (shape : Shape) → IsAmongAt effective n shape → IsIncludedAt on shape
+    → IsIncludedBelow on effective n → IsIncludedBelow on effective (n + 1)
+below_one on effective n shape is included =
+    below_more on effective n (λ kind at. subst (IsIncludedAt on) (one_shape shape kind is.listed at.listed (is.number ∙ sym at.number)) included)

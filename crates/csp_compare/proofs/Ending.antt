@@ -16,7 +16,7 @@ use Rattle.csp_proof.specs.declared.proof.Format.{Format}
 use Rattle.csp_proof.specs.declared.proof.Format.TheVariants.{Two}
 use Rattle.csp_proof.specs.declared.proof.Proof.{Proof}
 use Rattle.csp_proof.specs.declared.proof.Tree.{Tree}
-use Rattle.csp_proof.proofs.ShapesListed.{at_number}
+use Rattle.csp_facts.proofs.Listed.{at_number}
 use Rattle.csp_compare.specs.Answers.{SharesNodes, IsPrinted}
 use Rattle.csp_compare.specs.Drafts.{Shows, Adds, at_shape}
 

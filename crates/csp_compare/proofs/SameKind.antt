@@ -3,11 +3,11 @@ use Rattle.std.proofs.Common.{arith, ◌≡◌, ◌∙◌, sym, ap, subst, refl,
 use Rattle.std.specs.Prelude.{Option, Some, None, MatchOption, IsTrue, slice_get}
 use Rattle.std.specs.List.{AllZip}
 use Rattle.std.specs.Option.{option_map}
-use Rattle.std.proofs.lemmas.List.Elements.{All-weaker}
 use Rattle.std.proofs.lemmas.Option.{same_Some, slice_get-map, slice_get_cases, slice_get_within}
 use Rattle.csp_model.specs.Verdict.{is_enforce}
 use Rattle.csp_model.specs.declared.policy.Policy.{Policy}
 use Rattle.csp_model.specs.declared.source.Hash.{Hash}
+use Rattle.csp_branch.specs.Walks.{Position}
 use Rattle.csp_facts.specs.declared.atom.Atom.{Atom}
 use Rattle.csp_facts.specs.declared.atom.Literal.{Literal}
 use Rattle.csp_facts.specs.Numbers.{number}
@@ -24,10 +24,10 @@ use Rattle.csp_proof.specs.WellFormed.{Cases, Splits, IsBlocked, IsMet, preorder
 use Rattle.csp_proof.specs.declared.proof.Body.{Body}
 use Rattle.csp_proof.specs.declared.proof.Body.TheVariants as body
 use Rattle.csp_proof.specs.declared.proof.Tree.{Tree}
-use Rattle.csp_compare.specs.Differences.{HasNodes, IsIncludedAt}
+use Rattle.csp_compare.specs.Differences.{IsIncludedAt}
 use Rattle.csp_compare.specs.Drafts.{IsShown, at_shape}
-use Rattle.csp_compare.specs.Tasks.{AreShown, IsOfKind, IsTask, lists_of}
-use Rattle.csp_compare.specs.declared.task.Task.{Task}
+use Rattle.csp_compare.specs.Comparisons.{AreShown, IsOfKind, IsReady, lists_of}
+use Rattle.csp_compare.specs.declared.comparison.Comparison.{Comparison}
 
 -- One policy
 
@@ -88,39 +88,26 @@ module _ (lists : Lists) (kind other : Shape) (policy : ℕ)
   shown_same : (trees : List Tree) (n : ℕ) → IsShown lists trees (at_shape kind policy) n → IsShown lists trees (at_shape other policy) n
   shown_same trees n is line = sym (shared_same line (body_at trees n)) ∙ is line
 
-  nodes_same : HasNodes lists kind policy → HasNodes lists other policy
-  nodes_same has = (
-    has.0,
-    record {
-      cases = has.1.cases;
-      preorder = has.1.preorder;
-      valid = has.1.valid;
-      accepted = λ line. sym (case_same has.1.cases [] line) ∙ has.1.accepted line;
-    },
-  )
-
 -- All policies
 
-module _ (task : Task) (names : List Atom) (is : IsTask task names) (kind : ℕ) (one other : Shape) (here : IsOfKind task kind one) (there : IsOfKind task kind other) where
-  by_first : AreToldTheSame (hashes_in (lists_of task)) one other task.first.now.policies
-  by_first = told_same names (hashes_in (lists_of task)) task.first.now.policies task.table.now.first
-      (subst (λ (hs : List Hash). AreAnswers names hs task.first.now.policies task.table.now.first) is.hashes is.first_answers) one other here.listed there.listed
-      (is.kinds.same (number one) (number other) kind here.is there.is).0
+module _ (on : Comparison) (walker : Position) (is : IsReady on walker) (kind : ℕ) (one other : Shape) (here : IsOfKind on kind one) (there : IsOfKind on kind other) where
+  by_first : AreToldTheSame (hashes_in (lists_of on)) one other on.lists.first.now.policies
+  by_first = told_same walker.atoms (hashes_in (lists_of on)) on.lists.first.now.policies on.lists.table.first
+      (subst (λ (hs : List Hash). AreAnswers walker.atoms hs on.lists.first.now.policies on.lists.table.first) is.lists.hashes is.lists.first_answers) one other here.listed there.listed
+      (is.lists.kinds.same (number one) (number other) kind here.is there.is).0
 
-  by_second : AreToldTheSame (hashes_in (lists_of task)) one other task.second.now.policies
-  by_second = told_same names (hashes_in (lists_of task)) task.second.now.policies task.table.now.second
-      (subst (λ (hs : List Hash). AreAnswers names hs task.second.now.policies task.table.now.second) is.hashes is.second_answers) one other here.listed there.listed
-      (is.kinds.same (number one) (number other) kind here.is there.is).1
+  by_second : AreToldTheSame (hashes_in (lists_of on)) one other on.lists.second.now.policies
+  by_second = told_same walker.atoms (hashes_in (lists_of on)) on.lists.second.now.policies on.lists.table.second
+      (subst (λ (hs : List Hash). AreAnswers walker.atoms hs on.lists.second.now.policies on.lists.table.second) is.lists.hashes is.lists.second_answers) one other here.listed there.listed
+      (is.lists.kinds.same (number one) (number other) kind here.is there.is).1
 
-  pub all_shown_same : (trees : List Tree) (numbers : List ℕ) → AreShown task trees one numbers → AreShown task trees other numbers
-  all_shown_same trees numbers = by task.policies.now numbers where
-    by : (ps ns : List ℕ) → AllZip (λ policy n. IsShown (lists_of task) trees (at_shape one policy) n) ps ns → AllZip (λ policy n. IsShown (lists_of task) trees (at_shape other policy) n) ps ns
+  pub all_shown_same : (trees : List Tree) (numbers : List ℕ) → AreShown on trees one numbers → AreShown on trees other numbers
+  all_shown_same trees numbers = by on.policies.items numbers where
+    by : (ps ns : List ℕ) → AllZip (λ policy n. IsShown (lists_of on) trees (at_shape one policy) n) ps ns → AllZip (λ policy n. IsShown (lists_of on) trees (at_shape other policy) n) ps ns
     by [] [] shown = tt
     by [] (n ∷ ns) shown = shown
     by (p ∷ ps) [] shown = shown
-    by (p ∷ ps) (n ∷ ns) shown = (shown_same (lists_of task) one other p by_first by_second trees n shown.0, by ps ns shown.1)
+    by (p ∷ ps) (n ∷ ns) shown = (shown_same (lists_of on) one other p by_first by_second trees n shown.0, by ps ns shown.1)
 
-  pub included_same : IsIncludedAt task one → IsIncludedAt task other
-  included_same included =
-      All-weaker (HasNodes (lists_of task) one) (HasNodes (lists_of task) other)
-      (λ n has. nodes_same (lists_of task) one other n by_first by_second has) task.policies.now included
+  pub included_same : IsIncludedAt on one → IsIncludedAt on other
+  included_same included = (included.0, included.1, all_shown_same included.0 included.1 included.2)

@@ -13,18 +13,15 @@ use Rattle.csp_model.specs.declared.check.Check.{Check}
 use Rattle.csp_model.specs.declared.name.Name.{Name}
 use Rattle.csp_model.specs.declared.name.Name.TheVariants.{ConnectSrc, FontSrc, FrameSrc, ImgSrc, ManifestSrc, MediaSrc, ObjectSrc, StyleSrcElem, ScriptSrcElem, WorkerSrc, ScriptSrcAttr, StyleSrcAttr, ScriptSrc, BaseUri, FormAction, FrameAncestors, Sandbox}
 use Rattle.csp_model.specs.declared.policy.PolicyList.{PolicyList}
-use Rattle.csp_proof.specs.Accepts.{Lists}
-use Rattle.csp_proof.specs.declared.proof.Node.{Node}
-use Rattle.csp_search.specs.Answers.{ShowsInclusion}
+use Rattle.csp_proof.specs.declared.proof.Tree.{Tree}
 use Rattle.csp_facts.specs.Numbers.{number}
 use Rattle.csp_facts.specs.Shapes.{is_shape}
 use Rattle.csp_facts.specs.declared.shape.Shape.{Shape}
 use Rattle.csp_facts.specs.declared.shape.Shape.TheVariants as shape
 use Rattle.csp_compare.specs.Answers.{IsCounterexample}
-use Rattle.csp_compare.specs.Drafts.{at_shape}
-use Rattle.csp_compare.specs.Tasks.{IsOfKind, lists_of}
+use Rattle.csp_compare.specs.Comparisons.{AreShown, IsOfKind}
 use Rattle.csp_compare.specs.declared.differences.Difference.{Difference}
-use Rattle.csp_compare.specs.declared.task.Task.{Task}
+use Rattle.csp_compare.specs.declared.comparison.Comparison.{Comparison}
 
 -- the effective directives that checks have, in the order of their names
 abbrev pub effective_names : List Name
@@ -85,23 +82,19 @@ effective_of shape.Wasm = ScriptSrc
 effective_of (shape.Capability capability) = Sandbox
 effective_of shape.WorkerStart = Sandbox
 
--- there are nodes that show the pair
-abbrev pub HasNodes : Lists → Shape → ℕ → Type 0
-HasNodes lists shape policy = (nodes : List Node) × ShowsInclusion lists (at_shape shape policy) nodes
-
--- so it is for each enforced policy of the second list
-abbrev pub IsIncludedAt : Task → Shape → Type 0
-IsIncludedAt task shape = All (HasNodes (lists_of task) shape) task.policies.now
+-- there are trees that show the pairs of the shape
+abbrev pub IsIncludedAt : Comparison → Shape → Type 0
+IsIncludedAt on shape = (trees : List Tree) × (numbers : List ℕ) × AreShown on trees shape numbers
 
 -- a check of the shape that the second list refuses
-abbrev pub DiffersAt : Task → Shape → Check → Type 0
-DiffersAt task shape asked =
-    IsCounterexample task.first.now task.second.now asked × (effective_name asked ≡ effective_of shape)
+abbrev pub DiffersAt : Comparison → Shape → Check → Type 0
+DiffersAt on shape asked =
+    IsCounterexample on.lists.first.now on.lists.second.now asked × (effective_name asked ≡ effective_of shape)
 
 -- at each shape of a known kind
-abbrev pub AreIncluded : Task → BTreeSet ℕ → Type 0
-AreIncluded task known = (kind : ℕ) (shape : Shape)
-    → IsTrue (contains nat_cmp known kind) → IsOfKind task kind shape → IsIncludedAt task shape
+abbrev pub AreIncluded : Comparison → BTreeSet ℕ → Type 0
+AreIncluded on known = (kind : ℕ) (shape : Shape)
+    → IsTrue (contains nat_cmp known kind) → IsOfKind on kind shape → IsIncludedAt on shape
 
 -- the shape of this number, which has one of these effective directives
 pub record IsAmongAt (effective : List Name) (place : ℕ) (shape : Shape) : Type 0 where
@@ -114,6 +107,6 @@ abbrev pub HasNoneAt : List Name → ℕ → Type 0
 HasNoneAt effective place = (shape : Shape) → IsAmongAt effective place shape → ⊥
 
 -- at the shapes with these effective directives that have a number below this one
-abbrev pub IsIncludedBelow : Task → List Name → ℕ → Type 0
-IsIncludedBelow task effective count = (place : ℕ) (shape : Shape) → place < count
-    → IsAmongAt effective place shape → IsIncludedAt task shape
+abbrev pub IsIncludedBelow : Comparison → List Name → ℕ → Type 0
+IsIncludedBelow on effective count = (place : ℕ) (shape : Shape) → place < count
+    → IsAmongAt effective place shape → IsIncludedAt on shape

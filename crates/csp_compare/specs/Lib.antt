@@ -1,4 +1,4 @@
 pub mod Answers
+pub mod Comparisons
 pub mod Differences
 pub mod Drafts
-pub mod Tasks

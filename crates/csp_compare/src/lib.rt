@@ -3,17 +3,14 @@
 #![tactic(auto)]
 
 mod comparing;
+mod comparison;
 mod difference;
 mod differences;
 mod directives;
 mod draft;
-mod kinds;
 pub mod laws;
 mod natural;
 mod numbers;
-mod probing;
-mod task;
-mod trees;
 
 pub use comparing::{Answer, compare};
 pub use difference::find_difference_among;

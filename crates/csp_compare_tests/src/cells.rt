@@ -73,7 +73,7 @@ const PICKED: [(u8, &str, &str); 16] = [
     (
         38,
         "-domain;",
-        r#"{"destination":"image","integrity":"","kind":"fetch","nonce":"","parser-inserted":false,"redirects":0,"url":{"host":"10.0.0.1","path":"/","port":null,"scheme":"https"}}"#,
+        r#"{"destination":"image","integrity":"","kind":"fetch","nonce":"","parser-inserted":false,"redirects":0,"url":{"host":"[2001:db8::1]","path":"/","port":null,"scheme":"https"}}"#,
     ),
     (
         38,
@@ -98,7 +98,7 @@ const PICKED: [(u8, &str, &str); 16] = [
     (
         98,
         "outside;",
-        r#"{"destination":"script","integrity":"sha256-AAAA","kind":"fetch","nonce":"","parser-inserted":false,"redirects":0,"url":{"host":"other.example","path":"/","port":null,"scheme":"https"}}"#,
+        r#"{"destination":"script","integrity":"sha256-other","kind":"fetch","nonce":"","parser-inserted":false,"redirects":0,"url":{"host":"other.example","path":"/","port":null,"scheme":"https"}}"#,
     ),
     (
         169,
@@ -128,13 +128,13 @@ const PICKED: [(u8, &str, &str); 16] = [
     ),
     (
         38,
-        "-under example;-host a;",
-        r#"{"destination":"image","integrity":"","kind":"fetch","nonce":"","parser-inserted":false,"redirects":0,"url":{"host":"b","path":"/","port":null,"scheme":"https"}}"#,
+        "-under example;-host other;",
+        r#"{"destination":"image","integrity":"","kind":"fetch","nonce":"","parser-inserted":false,"redirects":0,"url":{"host":"other2","path":"/","port":null,"scheme":"https"}}"#,
     ),
     (
         38,
         "-path x/;",
-        r#"{"destination":"image","integrity":"","kind":"fetch","nonce":"","parser-inserted":false,"redirects":0,"url":{"host":"other.example","path":"/x","port":null,"scheme":"https"}}"#,
+        r#"{"destination":"image","integrity":"","kind":"fetch","nonce":"","parser-inserted":false,"redirects":0,"url":{"host":"other.example","path":"/2","port":null,"scheme":"https"}}"#,
     ),
 ];
 

@@ -1,5 +1,5 @@
-//! Tests of the crates that compare two lists of policies: formulas, proofs, their checker, cells and the
-//! search.
+//! Tests of the crates that compare two lists of policies, where no command shows what they give: formulas,
+//! cells, and fields of embedded responses.
 //!
 //! Nothing stands on this crate. What a proved clause says of every input is not tested again.
 #![tactic(auto)]
@@ -9,18 +9,8 @@ mod asked;
 #[cfg(test)]
 mod cells;
 #[cfg(test)]
-mod comparing;
-#[cfg(test)]
-mod differ;
-#[cfg(test)]
-mod differences;
-#[cfg(test)]
 mod embedding;
 #[cfg(test)]
 mod formulas;
-#[cfg(test)]
-mod generated;
-#[cfg(test)]
-mod natural;
 #[cfg(test)]
 mod values;

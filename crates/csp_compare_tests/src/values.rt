@@ -1,12 +1,10 @@
 //! Builders of values, so that a row of a table is short.
 ghost use Rattle.std.specs.Prelude.{IfOk};
 ghost use Rattle.csp_model.specs.Policies.{IsReadable};
-ghost use Rattle.csp_proof.specs.WellFormed.{IsWellFormed};
 
 use csp_facts::{Atom, Literal};
 use csp_model::{Algorithm, Digest, Hash, Host, List, Memory, Path, PolicyList, Text};
 use csp_policy::{BlockError, read_block};
-use csp_proof::{Proof, ProofError, read_proof};
 use csp_url::read_origin;
 use std::alloc::Global;
 use std::process::Abort;
@@ -18,31 +16,12 @@ pub(crate) fn policies(
 ) -> Result<PolicyList, BlockError>
     ensures { IfOk result IsReadable }
 {
-    policies_at(rt, "https://a.example", block)
-}
-
-// Those of this origin.
-pub(crate) fn policies_at(
-    rt: &(impl Abort + AllocGlobal),
-    origin: &str,
-    block: &str,
-) -> Result<PolicyList, BlockError>
-    ensures { IfOk result IsReadable }
-{
     let bytes = block.as_bytes();
     assert!(rt; bytes.len() < 4_000_000_000);
-    match read_origin(rt.alloc(), origin) {
+    match read_origin(rt.alloc(), "https://a.example") {
         Ok(origin) => read_block(rt.alloc(), bytes, &origin),
         Err(_) => Err(BlockError::Memory),
     }
-}
-
-pub(crate) fn proof(rt: &(impl Abort + AllocGlobal), text: &str) -> Result<Proof, ProofError>
-    ensures { IfOk result IsWellFormed }
-{
-    let bytes = text.as_bytes();
-    assert!(rt; bytes.len() < 4_000_000_000);
-    read_proof(rt.alloc(), bytes)
 }
 
 // The atom of a kind and a text behind a space.

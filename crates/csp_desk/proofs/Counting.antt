@@ -8,7 +8,8 @@ use Rattle.csp_model.specs.declared.name.Name.{Name}
 use Rattle.csp_model.specs.declared.verdict.Violation.{Violation}
 use Rattle.csp_desk.specs.NameOrder.{names_in_order, place_of, counted}
 use Rattle.csp_desk.specs.Texts.{is_of, counts_of, count_line, line_at, tally_line, tally_text}
-use Rattle.csp_desk.proofs.Names.{get_or-place_of, set-place_of}
+use Rattle.csp_model.proofs.NamesListed.{kept_at_place}
+use Rattle.csp_desk.proofs.Names.{set-place_of}
 
 map_same : {A B : Type 0} (f g : A → B) → ((x : A) → f x ≡ g x) → (xs : List A) → map f xs ≡ map g xs
 map_same f g same [] = refl
@@ -23,7 +24,7 @@ count_by-then p xs x false is = rw (sum_by-append (λ y. cond (p y) 1 0) xs (x �
 pub counts_then : (held : List Violation) (v : Violation) (counts : List ℕ) → counts ≡ counts_of held
     → counted v.effective counts ≡ counts_of (held ++ v ∷ [])
 counts_then held v counts so_far =
-    rw (so_far, get_or-place_of (λ name. count_by (is_of name) held) v.effective)
+    rw (so_far, kept_at_place (λ name. count_by (is_of name) held) v.effective 0)
     (set-place_of (λ name. count_by (is_of name) held) v.effective
     ∙ map_same _ _ (λ name. count_by-then (is_of name) held v (is_of name v) refl) names_in_order)
 
@@ -35,7 +36,7 @@ flat_map_same f g same (x ∷ xs) = rw (same x, flat_map_same f g same xs) refl
 -- the count at the place of a name
 pub count_is : (held : List Violation) (counts : List ℕ) (name : Name) → counts ≡ counts_of held
     → get_or counts (place_of name) 0 ≡ count_by (is_of name) held
-count_is held counts name all = rw all (get_or-place_of (λ n. count_by (is_of n) held) name)
+count_is held counts name all = rw all (kept_at_place (λ n. count_by (is_of n) held) name 0)
 
 -- the lines by the counts are the lines of the violations
 line_at-counts : (held : List Violation) (counts : List ℕ) → counts ≡ counts_of held → (name : Name)

@@ -1,25 +1,20 @@
 -- The names of directives in byte order, as a tally prints them.
 use Rattle.std.specs.Prelude.{ℕ, ◌+◌, List, [], ◌∷◌, Bool, true, ◌&&◌, slice_index, slice_set}
-use Rattle.std.specs.List.{position_or_len}
+use denote.Enum.Declared.{tag_of}
 use Rattle.std.specs.Str.{bytes_eq}
 use Rattle.std.specs.Cmp.Lexicographic.{slice_cmp}
 use Rattle.std.specs.Ordering.{is_lt, nat_cmp}
 use Rattle.csp_model.specs.Names.{name_text}
+pub use Rattle.csp_model.specs.Names.{names as names_in_order}
+use Rattle.csp_model.specs.contracts.name.Name.{the_type}
 use Rattle.csp_model.specs.declared.name.Name.{Name}
-use Rattle.csp_model.specs.declared.name.Name.TheVariants.{ConnectSrc, FontSrc, FrameSrc, ImgSrc, ManifestSrc, MediaSrc, ObjectSrc, StyleSrcElem, ScriptSrcElem, WorkerSrc, ScriptSrcAttr, StyleSrcAttr, ScriptSrc, StyleSrc, ChildSrc, DefaultSrc, BaseUri, FormAction, FrameAncestors, Sandbox}
-
-abbrev pub names_in_order : List Name
-names_in_order =
-    BaseUri ∷ ChildSrc ∷ ConnectSrc ∷ DefaultSrc ∷ FontSrc ∷ FormAction ∷ FrameAncestors ∷ FrameSrc ∷ ImgSrc
-    ∷ ManifestSrc ∷ MediaSrc ∷ ObjectSrc ∷ Sandbox ∷ ScriptSrc ∷ ScriptSrcAttr ∷ ScriptSrcElem ∷ StyleSrc
-    ∷ StyleSrcAttr ∷ StyleSrcElem ∷ WorkerSrc ∷ []
 
 abbrev pub same_name : Name → Name → Bool
 same_name name other = bytes_eq (name_text name) (name_text other)
 
 -- the place of a name among them
 abbrev pub place_of : Name → ℕ
-place_of name = position_or_len (same_name name) names_in_order
+place_of name = tag_of the_type name
 
 -- counts of all names after one more of a name
 abbrev pub counted : Name → List ℕ → List ℕ

@@ -7,60 +7,18 @@ ghost use Rattle.csp_desk.specs.Texts as spec;
 use csp_model::{Bytes, Memory, Name, Violation, name_text};
 use std::alloc::Global;
 
-// The names of directives in byte order.
-const NAMES: [Name; 20] = [
-    Name::BaseUri,
-    Name::ChildSrc,
-    Name::ConnectSrc,
-    Name::DefaultSrc,
-    Name::FontSrc,
-    Name::FormAction,
-    Name::FrameAncestors,
-    Name::FrameSrc,
-    Name::ImgSrc,
-    Name::ManifestSrc,
-    Name::MediaSrc,
-    Name::ObjectSrc,
-    Name::Sandbox,
-    Name::ScriptSrc,
-    Name::ScriptSrcAttr,
-    Name::ScriptSrcElem,
-    Name::StyleSrc,
-    Name::StyleSrcAttr,
-    Name::StyleSrcElem,
-    Name::WorkerSrc,
-];
+// How many names there are.
+pub(crate) const NAMES: usize = Name::ALL.len();
 
-// The place of a name among them.
+// The place of a name among all names.
 fn place_of(name: Name) -> usize
     ensures { result ≡ order.place_of name }
 {
-    match name {
-        Name::BaseUri => 0,
-        Name::ChildSrc => 1,
-        Name::ConnectSrc => 2,
-        Name::DefaultSrc => 3,
-        Name::FontSrc => 4,
-        Name::FormAction => 5,
-        Name::FrameAncestors => 6,
-        Name::FrameSrc => 7,
-        Name::ImgSrc => 8,
-        Name::ManifestSrc => 9,
-        Name::MediaSrc => 10,
-        Name::ObjectSrc => 11,
-        Name::Sandbox => 12,
-        Name::ScriptSrc => 13,
-        Name::ScriptSrcAttr => 14,
-        Name::ScriptSrcElem => 15,
-        Name::StyleSrc => 16,
-        Name::StyleSrcAttr => 17,
-        Name::StyleSrcElem => 18,
-        Name::WorkerSrc => 19,
-    }
+    name as usize
 }
 
 // Counts a violation of this name, where its count stays below 2^64.
-pub(crate) fn count(counts: &mut [usize; 20], name: Name) -> Result<(), Memory>
+pub(crate) fn count(counts: &mut [usize; NAMES], name: Name) -> Result<(), Memory>
     ensures ok { OnOk result (counts.new ≡ order.counted name counts.old) }
     ensures full { OnErr result (slice_index counts.old (order.place_of name) ≡ 2 ^ 64 - 1) }
     ensures err { OnErr result (counts.new ≡ counts.old) }
@@ -76,10 +34,10 @@ pub(crate) fn count(counts: &mut [usize; 20], name: Name) -> Result<(), Memory>
 }
 
 // How many violations there are of each name, in one pass.
-fn counts_of(held: &[Violation]) -> [usize; 20]
+fn counts_of(held: &[Violation]) -> [usize; NAMES]
     ensures { result ≡ spec.counts_of held.now }
 {
-    let mut counts = [0; 20];
+    let mut counts = [0; NAMES];
     for violation in held {
         counts[place_of(violation.effective)] += 1;
     }
@@ -96,7 +54,7 @@ fn line_of(alloc: Global, name: Name, count: usize) -> Result<String, Memory>
     Ok(format!(in alloc; "{name} {count}\n")?)
 }
 
-fn lines_of(alloc: Global, names: &[Name], counts: &[usize; 20]) -> Result<Bytes, Memory>
+fn lines_of(alloc: Global, names: &[Name], counts: &[usize; NAMES]) -> Result<Bytes, Memory>
     ensures { IfOk result (λ text. text ≡ flat_map (spec.line_at counts.now) names.now) }
 {
     let mut text = Vec::new(alloc);
@@ -108,10 +66,10 @@ fn lines_of(alloc: Global, names: &[Name], counts: &[usize; 20]) -> Result<Bytes
 }
 
 // The lines of all names that occur.
-pub(crate) fn counts_text(alloc: Global, counts: &[usize; 20]) -> Result<Bytes, Memory>
+pub(crate) fn counts_text(alloc: Global, counts: &[usize; NAMES]) -> Result<Bytes, Memory>
     ensures { IfOk result (λ text. text ≡ flat_map (spec.line_at counts.now) order.names_in_order) }
 {
-    lines_of(alloc, &NAMES, counts)
+    lines_of(alloc, &Name::ALL, counts)
 }
 
 pub(crate) fn tally_text(alloc: Global, held: &[Violation]) -> Result<Bytes, Memory>

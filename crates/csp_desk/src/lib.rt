@@ -7,7 +7,6 @@ mod desk;
 mod ending;
 mod failing_lines;
 mod front;
-mod history;
 pub mod laws;
 mod lines;
 mod recent;

@@ -2,11 +2,10 @@
 ghost use Rattle.std.specs.Prelude.{◌≡◌, ◌∷◌, ◌++◌, [], false, OnOk, OnErr, IsErrOf};
 ghost use Rattle.csp_desk.specs.declared.reporter.Kind.TheVariants as kinds;
 
-use crate::history::History;
 use crate::reporter::{AcceptError, Kind, Reporter};
 use crate::telling::{Telling, joined};
 use crate::weave::Weave;
-use csp_model::{Bytes, Memory, Violation};
+use csp_model::{Bytes, Memory, Trace, Violation};
 use std::alloc::Global;
 use std::marker::Model;
 
@@ -17,7 +16,7 @@ use std::marker::Model;
 #[derive(Debug, Drop)]
 pub struct Lines {
     text: Weave,
-    history: History,
+    history: Trace<Violation>,
 }
 
 impl Model for Lines {
@@ -43,7 +42,7 @@ impl Lines {
     {
         Lines {
             text: Weave::new(alloc),
-            history: History::new(),
+            history: Trace::new(),
         }
     }
 

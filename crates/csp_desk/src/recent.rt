@@ -2,10 +2,9 @@
 ghost use Rattle.std.specs.Prelude.{◌≡◌, ◌∷◌, ◌++◌, [], false, OnOk, OnErr, IsErrOf};
 ghost use Rattle.csp_desk.specs.declared.reporter.Kind.TheVariants as kinds;
 
-use crate::history::History;
 use crate::reporter::{AcceptError, Kind, Reporter};
 use crate::texts::latest_text;
-use csp_model::{Bytes, Duplicate, Memory, Violation};
+use csp_model::{Bytes, Duplicate, Memory, Trace, Violation};
 use std::alloc::Global;
 use std::collections::VecDeque;
 use std::marker::Model;
@@ -19,7 +18,7 @@ pub struct Recent {
     latest: VecDeque<Violation>,
     earlier: usize,
     limit: u32,
-    history: History,
+    history: Trace<Violation>,
 }
 
 impl Model for Recent {
@@ -44,7 +43,7 @@ impl Recent {
             latest: VecDeque::new(alloc),
             earlier: 0,
             limit,
-            history: History::new(),
+            history: Trace::new(),
         }
     }
 

@@ -4,10 +4,9 @@ ghost use Rattle.std.specs.Prelude.{◌≡◌, ◌∷◌, ◌++◌, ◌-◌, ◌
 ghost use Rattle.csp_desk.specs.Texts.{is_of};
 ghost use Rattle.csp_desk.specs.declared.reporter.Kind.TheVariants as kinds;
 
-use crate::counts::{count, counts_text};
-use crate::history::History;
+use crate::counts::{NAMES, count, counts_text};
 use crate::reporter::{AcceptError, Kind, Reporter};
-use csp_model::{Bytes, Memory, Violation};
+use csp_model::{Bytes, Memory, Trace, Violation};
 use std::alloc::Global;
 use std::marker::Model;
 
@@ -18,8 +17,8 @@ use std::marker::Model;
 #[derive(Debug, Drop)]
 pub struct Tally {
     // One for each name, in byte order of the names.
-    counts: [usize; 20],
-    history: History,
+    counts: [usize; NAMES],
+    history: Trace<Violation>,
 }
 
 impl Model for Tally {
@@ -44,8 +43,8 @@ impl Tally {
         ensures may_refuse { ⟦<Tally as Reporter>⟧.may_refuse result ≡ false }
     {
         Tally {
-            counts: [0; 20],
-            history: History::new(),
+            counts: [0; NAMES],
+            history: Trace::new(),
         }
     }
 

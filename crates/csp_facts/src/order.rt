@@ -87,8 +87,8 @@ fn algorithm_rank(algorithm: Algorithm) -> u8
     }
 }
 
-/// The place of an atom's kind in the order, from 0 to 10.
-pub fn rank(atom: &Atom) -> u8
+// The place of an atom's kind in the order, from 0 to 10.
+fn rank(atom: &Atom) -> u8
     ensures { result ≡ spec.rank atom.now }
 {
     match atom {

@@ -74,7 +74,6 @@ fn is_port(port: u16) -> bool
     ensures value { result ≡ true }
     ensures fits { port < 2 ^ 16 }
 {
-    let _ = port;
     true
 }
 

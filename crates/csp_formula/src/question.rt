@@ -17,7 +17,7 @@ use csp_rules::{
     allows_all_inline, capability_allows, eval_allows, opaque_ancestor_allows, wasm_allows,
     worker_start_allows,
 };
-use csp_token::has_keyword;
+use csp_token::Tokens;
 
 /// What a policy is asked at a shape of checks: all that its formula there depends on. Shapes at which a
 /// policy is asked the same have one formula.
@@ -209,7 +209,7 @@ fn has_path(source: &Source) -> bool
 pub fn is_dynamic(rule: FetchRule, sources: &List<Source>) -> bool
     ensures { result ≡ spec.is_dynamic rule sources.now }
 {
-    matches!(rule, FetchRule::Script) && has_keyword(sources, Keyword::StrictDynamic)
+    matches!(rule, FetchRule::Script) && sources.has_keyword(Keyword::StrictDynamic)
 }
 
 // What the policy is asked of inline code or style of a kind. All of it is allowed where `'unsafe-inline'`

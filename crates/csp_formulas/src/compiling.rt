@@ -18,7 +18,7 @@ use csp_formula::laws::a_formula_is_what_the_policy_allows;
 use csp_formula::{ListQuestion, Question, question_at, sources_at};
 use csp_model::{FetchRule, InlineKind, Keyword, List, Memory, Origin, Policy, Source};
 use csp_rules::{allows_all_inline, hash_counts, is_element_kind};
-use csp_token::has_keyword;
+use csp_token::Tokens;
 use std::alloc::Global;
 
 /// The formula of a policy at a shape: it is true of a valid check of the shape exactly where the policy
@@ -125,7 +125,7 @@ fn dynamic_or_listed(sources: &List<Source>, parser_inserted: bool, listed: Form
     ensures { sentence_of result
         ≡ spec.dynamic_sentence sources.now parser_inserted (sentence_of listed) }
 {
-    if has_keyword(sources, Keyword::StrictDynamic) {
+    if sources.has_keyword(Keyword::StrictDynamic) {
         Formula::Constant(!parser_inserted)
     } else {
         listed

@@ -5,7 +5,7 @@ use Rattle.std.specs.Prelude.{is_some, option_map, MatchOption}
 use Rattle.serde_json.specs.Data.{Data}
 use Rattle.csp_json.specs.Arrays.{IsPassed, fits_in}
 use Rattle.csp_json.specs.View.{view}
-use Rattle.csp_json.specs.declared.value.Value.{Value}
+use Rattle.csp_json.specs.Types.{Value}
 
 -- whether all fitted so far, and what is left fits in the room that is left
 abbrev pub still_fits : Bool → ℕ → Option (List Data) → Option Bool

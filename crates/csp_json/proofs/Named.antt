@@ -7,7 +7,7 @@ use Rattle.serde_json.specs.Data.{no_members, put}
 use Rattle.serde_json.specs.Find.{get_member}
 use Rattle.serde_json.proofs.Views.{get_member-put, get_member-put_other}
 use Rattle.csp_json.specs.View.{view, members_view}
-use Rattle.csp_json.specs.declared.value.Value.{Value}
+use Rattle.csp_json.specs.Types.{Value}
 use Rattle.csp_json.proofs.Reading.{members_push}
 
 -- the last one has it

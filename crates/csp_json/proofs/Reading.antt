@@ -8,7 +8,8 @@ use Rattle.json.specs.Json.{parse_map}
 use Rattle.json.specs.Token.{Token}
 use Rattle.serde_json.specs.Data.{Num, Data, number, array, object, Items, no_items, item, Members, no_members, put}
 use Rattle.csp_json.specs.View.{view, items_view, members_view, number_data}
-use Rattle.csp_json.specs.declared.value.Value.{Value, Array, Object, the_lemmas}
+use Rattle.csp_json.specs.Types.{Value}
+use Rattle.csp_json.specs.declared.value.Value.{Array, Object, the_lemmas}
 
 pub view-Array : (v : Vec Value Global) → view (Array v) ≡ array (items_view v.items)
 view-Array v = search (rules, the_lemmas)

@@ -1,3 +1,4 @@
 pub mod Arrays
 pub mod Json
+pub mod Types
 pub mod View

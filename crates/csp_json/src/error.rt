@@ -16,7 +16,7 @@ pub enum JsonError {
 
 impl From<Invalid> for JsonError {
     ghost use Rattle.std.specs.Prelude.{◌≡◌};
-    ghost use Rattle.csp_json.specs.declared.error.JsonError.{JsonError};
+    ghost use Rattle.csp_json.specs.Types.{JsonError};
 
     ghost from_gives = { λ _ e. e ≡ JsonError.NotJson };
 
@@ -27,7 +27,7 @@ impl From<Invalid> for JsonError {
 
 impl From<AllocError> for JsonError {
     ghost use Rattle.std.specs.Prelude.{◌≡◌};
-    ghost use Rattle.csp_json.specs.declared.error.JsonError.{JsonError};
+    ghost use Rattle.csp_json.specs.Types.{JsonError};
 
     ghost from_gives = { λ _ e. e ≡ JsonError.Memory };
 
@@ -38,7 +38,7 @@ impl From<AllocError> for JsonError {
 
 impl<T: Drop> From<AllocFailed<T>> for JsonError {
     ghost use Rattle.std.specs.Prelude.{◌≡◌};
-    ghost use Rattle.csp_json.specs.declared.error.JsonError.{JsonError};
+    ghost use Rattle.csp_json.specs.Types.{JsonError};
 
     ghost from_gives = { λ _ e. e ≡ JsonError.Memory };
 

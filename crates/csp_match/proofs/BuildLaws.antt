@@ -2,10 +2,7 @@
 use Rattle.std.proofs.Common.{◌≡◌, ℕ, Bool, true, ◌&&◌, List, Option, map, sym, ◌∙◌, ap, ap₂, All, Any, Contains}
 use Rattle.std.specs.List.{list_any}
 use Rattle.std.proofs.lemmas.List.Elements.{All-map}
-use Rattle.csp_model.specs.declared.source.HostPart.{HostPart}
-use Rattle.csp_model.specs.declared.source.PortPart.{PortPart}
-use Rattle.csp_match.specs.declared.host_key.HostKey.{HostKey}
-use Rattle.csp_match.specs.declared.host_source.Way.{Way}
+use Rattle.csp_match.specs.Types.{HostPart, PortPart, HostKey, Way}
 use Rattle.csp_match.specs.Entries.{Entry, entry_parts, IsEntry, scheme_of, way_port}
 use Rattle.csp_match.specs.Keys.{host_of, IsHostKey, Parts}
 use Rattle.csp_match.proofs.AnyLaws.{any_map, any_once, first, second}

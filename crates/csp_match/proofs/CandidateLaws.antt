@@ -4,64 +4,17 @@ use Rattle.std.specs.List.{find}
 use Rattle.std.specs.Option.{option_map}
 use Rattle.std.proofs.lemmas.Bool.{false≢true}
 use Rattle.csp_model.specs.Governing.{Governor, governor_named, is_named, fallbacks}
+use Rattle.csp_model.specs.Names.{names}
 use Rattle.csp_model.specs.Reading.{first_of}
-use Rattle.csp_model.specs.declared.name.Name.{Name}
-use Rattle.csp_model.specs.declared.name.Name.TheVariants.{ConnectSrc, FontSrc, FrameSrc, ImgSrc, ManifestSrc, MediaSrc, ObjectSrc, StyleSrcElem, ScriptSrcElem, WorkerSrc, ScriptSrcAttr, StyleSrcAttr, ScriptSrc, StyleSrc, ChildSrc, DefaultSrc, BaseUri, FormAction, FrameAncestors, Sandbox}
-use Rattle.csp_model.specs.declared.policy.Directive.{Directive}
-use Rattle.csp_match.specs.Candidates.{names, can_govern, governor_among}
+use Rattle.csp_match.specs.Types.{Name, Directive}
+use Rattle.csp_match.specs.Candidates.{can_govern, governor_among}
+use Rattle.csp_model.proofs.NamesListed.{place, within, at_place}
 use Rattle.csp_match.proofs.AnyLaws.{found}
-
--- each name is one of the names
-abbrev place : Name → ℕ
-place ConnectSrc = 0
-place FontSrc = 1
-place FrameSrc = 2
-place ImgSrc = 3
-place ManifestSrc = 4
-place MediaSrc = 5
-place ObjectSrc = 6
-place StyleSrcElem = 7
-place ScriptSrcElem = 8
-place WorkerSrc = 9
-place ScriptSrcAttr = 10
-place StyleSrcAttr = 11
-place ScriptSrc = 12
-place StyleSrc = 13
-place ChildSrc = 14
-place DefaultSrc = 15
-place BaseUri = 16
-place FormAction = 17
-place FrameAncestors = 18
-place Sandbox = 19
-
-listed : (name : Name) → (place name < length names) × (get_or names (place name) name ≡ name)
-listed ConnectSrc = (search arith, refl)
-listed FontSrc = (search arith, refl)
-listed FrameSrc = (search arith, refl)
-listed ImgSrc = (search arith, refl)
-listed ManifestSrc = (search arith, refl)
-listed MediaSrc = (search arith, refl)
-listed ObjectSrc = (search arith, refl)
-listed StyleSrcElem = (search arith, refl)
-listed ScriptSrcElem = (search arith, refl)
-listed WorkerSrc = (search arith, refl)
-listed ScriptSrcAttr = (search arith, refl)
-listed StyleSrcAttr = (search arith, refl)
-listed ScriptSrc = (search arith, refl)
-listed StyleSrc = (search arith, refl)
-listed ChildSrc = (search arith, refl)
-listed DefaultSrc = (search arith, refl)
-listed BaseUri = (search arith, refl)
-listed FormAction = (search arith, refl)
-listed FrameAncestors = (search arith, refl)
-listed Sandbox = (search arith, refl)
 
 -- a directive of one of the names can govern
 can : (d : Directive) (name : Name) → is_named name d ≡ true → can_govern d ≡ true
 unfolding can_govern
-can d name named =
-    let l = listed name in
-    found (λ n. is_named n d) names (place name) name l.0 l.1 named
+can d name named = found (λ n. is_named n d) names (place name) name (within name) (at_place name name) named
 
 -- a search for what a test finds passes by what another test leaves out
 kept : {X : Type 0} (p q : X → Bool) (x : X) (xs : List X) (a b : Bool) → p x ≡ a → q x ≡ b → (a ≡ true → b ≡ true)

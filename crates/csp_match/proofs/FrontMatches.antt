@@ -8,9 +8,7 @@ use Rattle.csp_model.specs.Paths.{front_text}
 use Rattle.csp_model.proofs.EndLaws.{beyond_Decides}
 use Rattle.csp_model.proofs.MatchingDecided.{pieces_decide}
 use Rattle.csp_model.proofs.PathFronts.{IsRead, begun_from_text, beyond_by_text, further, further_text, longer_beyond, is_read}
-use Rattle.csp_match.specs.declared.asked.Asked.{Asked}
-use Rattle.csp_match.specs.declared.path_key.PathKind.{PathKind}
-use Rattle.csp_match.specs.declared.path_key.PathKind.TheVariants as kind
+use Rattle.csp_match.specs.Types.{Asked, PathKind}
 use Rattle.csp_match.specs.Entries.{Entry, entry_pieces, entry_text, front_fits, scheme_of, target_fits, way_fits, way_port, IsEntry}
 use Rattle.csp_match.specs.Fronts.{Begins}
 use Rattle.csp_match.specs.Keys.{path_of, IsPath, takes}
@@ -19,9 +17,9 @@ use Rattle.csp_match.proofs.AnyLaws.{second}
 -- the pieces of a path that matches begin the URL's
 begun : (k : PathKind) (pieces path : List (List ℕ)) → IsPath k pieces → path_matches (path_of k pieces) path ≡ true
     → (more : List (List ℕ)) × (path ≡ pieces ++ more)
-begun kind.Absent pieces path shape h = (path, rw shape refl)
-begun kind.Exact pieces path shape h = ([], sym ((pieces_decide pieces path).0 h) ∙ sym (append-nil pieces))
-begun kind.Prefix pieces path shape h = let (more, some, e) = (beyond_Decides path pieces).0 h in (more, e)
+begun PathKind.Absent pieces path shape h = (path, rw shape refl)
+begun PathKind.Exact pieces path shape h = ([], sym ((pieces_decide pieces path).0 h) ∙ sym (append-nil pieces))
+begun PathKind.Prefix pieces path shape h = let (more, some, e) = (beyond_Decides path pieces).0 h in (more, e)
 
 -- so does its text
 pub fitting_begins : (asked : Asked) (e : Entry) → IsEntry e → target_fits asked e ≡ true → Begins (front_text asked.path.now) (entry_text e)
@@ -65,9 +63,9 @@ module _ (pieces path : List (List ℕ)) (begins : (more : List (List ℕ)) × (
         ]
 
   pub begun_matches : (k : PathKind) → takes k (length (front_text pieces) == length (front_text path)) ≡ path_matches (path_of k pieces) path
-  begun_matches kind.Absent = refl
-  begun_matches kind.Exact = same_from_decides _ _ ends_Decides (pieces_decide pieces path)
-  begun_matches kind.Prefix = same_from_decides _ _ behind_Decides (beyond_Decides path pieces)
+  begun_matches PathKind.Absent = refl
+  begun_matches PathKind.Exact = same_from_decides _ _ ends_Decides (pieces_decide pieces path)
+  begun_matches PathKind.Prefix = same_from_decides _ _ behind_Decides (beyond_Decides path pieces)
 
 and_swapped : (a b : Bool) → (a && b) ≡ (b && a)
 and_swapped true true = refl

@@ -9,8 +9,7 @@ use Rattle.std.proofs.lemmas.List.Folds.{list_any_none}
 use Rattle.csp_model.specs.Paths.{front_text}
 use Rattle.csp_model.proofs.PathFronts.{IsRead}
 use Rattle.csp_match.specs.contracts.host_key.HostKeyOrd.TheImpl.Laws.{total-law as host_total}
-use Rattle.csp_match.specs.declared.asked.Asked.{Asked}
-use Rattle.csp_match.specs.declared.host_key.HostKey.{HostKey}
+use Rattle.csp_match.specs.Types.{Asked, HostKey}
 use Rattle.csp_match.specs.Entries.{Entry, entry_text, front_fits, target_fits, IsEntry}
 use Rattle.csp_match.specs.Fronts.{host_cmp, is_up_to, place, within_fits, AreOutersTo, IsLastOuter, IsOuter, IsOuterAt, IsShared, Place, Rises}
 use Rattle.csp_match.proofs.AnyLaws.{first, found, not_true, second}

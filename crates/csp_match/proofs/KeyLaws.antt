@@ -10,21 +10,12 @@ use Rattle.std.proofs.lemmas.Bool.Decides.{Decides-eqb}
 use Rattle.std.proofs.lemmas.Map.Text.{is_eq-slice_cmp}
 use Rattle.std.proofs.lemmas.Slice.Eq.{bytes_eq-Decides}
 use Rattle.csp_model.proofs.Deciding.{same_bool}
-use Rattle.csp_model.specs.declared.source.HostPart.{HostPart}
-use Rattle.csp_model.specs.declared.source.HostPart.TheVariants as host_part
+use Rattle.csp_match.specs.Types.{HostPart, HostKey, PathKind, PortKey, Target, Way}
 use Rattle.csp_match.specs.contracts.host_key.HostKeyPartialEq.TheImpl as host_equal
 use Rattle.csp_match.specs.contracts.path_key.PathKindPartialEq.TheImpl as kind_equal
 use Rattle.csp_match.specs.contracts.host_source.PortKeyPartialEq.TheImpl as port_equal
 use Rattle.csp_match.specs.contracts.host_source.TargetPartialEq.TheImpl as target_equal
 use Rattle.csp_match.specs.contracts.host_source.WayPartialEq.TheImpl as way_equal
-use Rattle.csp_match.specs.declared.host_key.HostKey.{HostKey}
-use Rattle.csp_match.specs.declared.host_key.HostKey.TheVariants as host_key
-use Rattle.csp_match.specs.declared.path_key.PathKind.{PathKind}
-use Rattle.csp_match.specs.declared.path_key.PathKind.TheVariants as kind
-use Rattle.csp_match.specs.declared.host_source.PortKey.{PortKey}
-use Rattle.csp_match.specs.declared.host_source.PortKey.TheVariants as port
-use Rattle.csp_match.specs.declared.host_source.Target.{Target}
-use Rattle.csp_match.specs.declared.host_source.Way.{Way}
 use Rattle.csp_match.specs.Entries.{entry_parts, Entry, scheme_of, way_port}
 use Rattle.csp_match.specs.Fronts.{host_cmp}
 use Rattle.csp_match.specs.Keys.{host_of, hash_of, IsHostKey, port_of}
@@ -66,35 +57,35 @@ numbered_texts number m n s t p q = numbered m n s t ∙ of_number number m n s 
 
 -- keys are level where they are equal
 pub level_host : (a b : HostKey) → is_eq (host_cmp a b) ≡ host_eq a b
-level_host host_key.Any host_key.Any = refl
-level_host (host_key.Under m s) (host_key.Under n t) = numbered m n s.now t.now
-level_host (host_key.Exact m s) (host_key.Exact n t) = numbered m n s.now t.now
+level_host HostKey.Any HostKey.Any = refl
+level_host (HostKey.Under m s) (HostKey.Under n t) = numbered m n s.now t.now
+level_host (HostKey.Exact m s) (HostKey.Exact n t) = numbered m n s.now t.now
 level_host a b = refl
 
 pub same_host_key : (a b : HostKey) → IsHostKey a → IsHostKey b → is_eq (host_cmp a b) ≡ same_part (host_of a) (host_of b)
-same_host_key host_key.Any host_key.Any p q = refl
-same_host_key (host_key.Under m s) (host_key.Under n t) p q = numbered_texts length m n s.now t.now p q
-same_host_key (host_key.Exact m s) (host_key.Exact n t) p q = numbered_texts hash_of m n s.now t.now p q
+same_host_key HostKey.Any HostKey.Any p q = refl
+same_host_key (HostKey.Under m s) (HostKey.Under n t) p q = numbered_texts length m n s.now t.now p q
+same_host_key (HostKey.Exact m s) (HostKey.Exact n t) p q = numbered_texts hash_of m n s.now t.now p q
 same_host_key a b p q = refl
 
 pub one_host : (a b : HostKey) → host_eq a b ≡ true → host_of a ≡ host_of b
-one_host host_key.Any host_key.Any h = refl
-one_host (host_key.Under m s) (host_key.Under n t) h =
-    ap host_part.Under ((bytes_eq-Decides s.now t.now).0 (second (m == n) (bytes_eq s.now t.now) h))
-one_host (host_key.Exact m s) (host_key.Exact n t) h =
-    ap host_part.Exact ((bytes_eq-Decides s.now t.now).0 (second (m == n) (bytes_eq s.now t.now) h))
+one_host HostKey.Any HostKey.Any h = refl
+one_host (HostKey.Under m s) (HostKey.Under n t) h =
+    ap HostPart.Under ((bytes_eq-Decides s.now t.now).0 (second (m == n) (bytes_eq s.now t.now) h))
+one_host (HostKey.Exact m s) (HostKey.Exact n t) h =
+    ap HostPart.Exact ((bytes_eq-Decides s.now t.now).0 (second (m == n) (bytes_eq s.now t.now) h))
 one_host a b h = absurd (false≢true h)
 
 pub same_part_is : (a b : HostPart) → same_part a b ≡ true → a ≡ b
-same_part_is host_part.Any host_part.Any h = refl
-same_part_is (host_part.Under s) (host_part.Under t) h = ap host_part.Under ((bytes_eq-Decides s t).0 h)
-same_part_is (host_part.Exact s) (host_part.Exact t) h = ap host_part.Exact ((bytes_eq-Decides s t).0 h)
+same_part_is HostPart.Any HostPart.Any h = refl
+same_part_is (HostPart.Under s) (HostPart.Under t) h = ap HostPart.Under ((bytes_eq-Decides s t).0 h)
+same_part_is (HostPart.Exact s) (HostPart.Exact t) h = ap HostPart.Exact ((bytes_eq-Decides s t).0 h)
 same_part_is a b h = absurd (false≢true h)
 
 pub same_part_itself : (a : HostPart) → same_part a a ≡ true
-same_part_itself host_part.Any = refl
-same_part_itself (host_part.Under s) = (bytes_eq-Decides s s).1 refl
-same_part_itself (host_part.Exact s) = (bytes_eq-Decides s s).1 refl
+same_part_itself HostPart.Any = refl
+same_part_itself (HostPart.Under s) = (bytes_eq-Decides s s).1 refl
+same_part_itself (HostPart.Exact s) = (bytes_eq-Decides s s).1 refl
 
 -- Entries
 
@@ -104,9 +95,9 @@ option_is (Some x) (Some y) h = ap Some ((bytes_eq-Decides x y).0 h)
 option_is a b h = absurd (false≢true h)
 
 one_port : (a b : PortKey) → (port_equal.ghosts).eq a b ≡ true → a ≡ b
-one_port port.Absent port.Absent h = refl
-one_port port.Any port.Any h = refl
-one_port (port.Number m) (port.Number n) h = ap port.Number ((Decides-eqb m n).0 h)
+one_port PortKey.Absent PortKey.Absent h = refl
+one_port PortKey.Any PortKey.Any h = refl
+one_port (PortKey.Number m) (PortKey.Number n) h = ap PortKey.Number ((Decides-eqb m n).0 h)
 one_port a b h = absurd (false≢true h)
 
 pub one_scheme : (v w : Way) → way_eq v w ≡ true → scheme_of v ≡ scheme_of w
@@ -117,9 +108,9 @@ one_way_port v w h =
     ap port_of (one_port v.port w.port (second (option_eq bytes_eq v.scheme.now w.scheme.now) ((port_equal.ghosts).eq v.port w.port) h))
 
 one_kind : (a b : PathKind) → (kind_equal.ghosts).eq a b ≡ true → a ≡ b
-one_kind kind.Absent kind.Absent h = refl
-one_kind kind.Exact kind.Exact h = refl
-one_kind kind.Prefix kind.Prefix h = refl
+one_kind PathKind.Absent PathKind.Absent h = refl
+one_kind PathKind.Exact PathKind.Exact h = refl
+one_kind PathKind.Prefix PathKind.Prefix h = refl
 one_kind a b h = absurd (false≢true h)
 
 pub one_target : (a b : Target) → target_eq a b ≡ true

@@ -10,14 +10,7 @@ use Rattle.csp_model.specs.DecideMatching.{scheme_matches, own_scheme_matches, h
 use Rattle.csp_model.specs.Matching.{url_scheme, ListMatches}
 use Rattle.csp_model.proofs.MatchingDecided.{list_decides}
 use Rattle.csp_model.specs.Schemes.{scheme_text}
-use Rattle.csp_model.specs.declared.url.Origin.{Origin}
-use Rattle.csp_model.specs.declared.url.Url.{Url}
-use Rattle.csp_model.specs.declared.url.Url.TheVariants as url
-use Rattle.csp_model.specs.declared.source.HostPart.{HostPart}
-use Rattle.csp_model.specs.declared.source.PathPart.{PathPart}
-use Rattle.csp_model.specs.declared.source.PortPart.TheVariants as port_part
-use Rattle.csp_model.specs.declared.source.Source.{Source}
-use Rattle.csp_model.specs.declared.source.Source.TheVariants as source
+use Rattle.csp_match.specs.Types.{Origin, Url, HostPart, PathPart, PortPart, Source}
 use Rattle.csp_match.specs.Keys.{parts_of, Parts}
 use Rattle.csp_match.specs.Split.{is_star, is_self, scheme_part, any_host_source, by_star_or_self, by_scheme_or_host}
 use Rattle.csp_match.proofs.AnyLaws.{or_false, any_or, any_alike, any_once, any_map}
@@ -52,9 +45,9 @@ never false b = refl
 
 -- a port that is no port matches nothing
 no_port : (scheme : Option (List ℕ)) (host : HostPart) (path : PathPart) (self : Origin) (there : Url) (redirected : Bool)
-    → host_source_matches scheme host port_part.TooLarge path self there redirected ≡ false
-no_port scheme host path self (url.Plain own) redirected = refl
-no_port scheme host path self (url.Hosted own there port pieces) redirected =
+    → host_source_matches scheme host PortPart.TooLarge path self there redirected ≡ false
+no_port scheme host path self (Url.Plain own) redirected = refl
+no_port scheme host path self (Url.Hosted own there port pieces) redirected =
     never (own_scheme_matches scheme self (scheme_text own)) (host_matches host there)
 
 module _ (self : Origin) (there : Url) (redirected : Bool) where
@@ -67,13 +60,13 @@ module _ (self : Origin) (there : Url) (redirected : Bool) where
   by_kind : (s : Source) → matches s self there redirected
       ≡ (((is_star s && is_network_scheme (url_scheme there)) || (is_self s && self_matches self there))
       || (passes by_scheme (scheme_part s) || passes by_host (parts_of s)))
-  by_kind source.Star = sym (or_false _ ∙ or_false _)
-  by_kind (source.SchemeOnly scheme) = sym (or_false _)
-  by_kind (source.Hosted scheme host port_part.Absent path) = refl
-  by_kind (source.Hosted scheme host port_part.Any path) = refl
-  by_kind (source.Hosted scheme host (port_part.Number n) path) = refl
-  by_kind (source.Hosted scheme host port_part.TooLarge path) = no_port scheme host path self there redirected
-  by_kind (source.Word word) = sym (or_false _)
+  by_kind Source.Star = sym (or_false _ ∙ or_false _)
+  by_kind (Source.SchemeOnly scheme) = sym (or_false _)
+  by_kind (Source.Hosted scheme host PortPart.Absent path) = refl
+  by_kind (Source.Hosted scheme host PortPart.Any path) = refl
+  by_kind (Source.Hosted scheme host (PortPart.Number n) path) = refl
+  by_kind (Source.Hosted scheme host PortPart.TooLarge path) = no_port scheme host path self there redirected
+  by_kind (Source.Word word) = sym (or_false _)
   by_kind s = refl
 
   pub list_by_kind : (sources : List Source) → list_matches sources self there redirected
@@ -107,7 +100,7 @@ module _ {X Y : Type 0} (h : X → Option Y) (xs : List X) (i : ℕ) (x : X) (wi
 
 -- no URL without a host is matched by a host-source
 pub none_plain : (scheme : List ℕ) (sources : List Parts) (self : Origin) (redirected : Bool)
-    → any_host_source sources self (url.Plain scheme) redirected ≡ false
+    → any_host_source sources self (Url.Plain scheme) redirected ≡ false
 none_plain scheme [] self redirected = refl
 none_plain scheme (s ∷ sources) self redirected = none_plain scheme sources self redirected
 

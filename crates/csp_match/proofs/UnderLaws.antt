@@ -2,8 +2,7 @@
 use Rattle.std.proofs.Common.{◌≡◌, Bool, true, false, ◌&&◌, ◌||◌, List, refl, sym, ◌∙◌, ap}
 use Rattle.std.specs.List.{list_any}
 use Rattle.csp_model.specs.DecideMatching.{path_matches}
-use Rattle.csp_model.specs.declared.source.HostPart.{HostPart}
-use Rattle.csp_match.specs.declared.asked.Asked.{Asked}
+use Rattle.csp_match.specs.Types.{HostPart, Asked}
 use Rattle.csp_match.specs.Entries.{way_fits}
 use Rattle.csp_match.specs.Keys.{Parts}
 use Rattle.csp_match.specs.Under.{same_part, any_under, rest_matches}

@@ -1,17 +1,12 @@
 -- Words of private contracts: the directives that can govern a check.
-use Rattle.std.specs.Prelude.{Bool, List, [], ◌∷◌, map, Option}
+use Rattle.std.specs.Prelude.{Bool, List, map, Option}
 use Rattle.std.specs.List.{list_any}
 use Rattle.csp_model.specs.Governing.{Governor, governor_named, fallbacks, is_named}
+-- they have one of these names
+pub use Rattle.csp_model.specs.Names.{names}
 use Rattle.csp_model.specs.Reading.{first_of}
 use Rattle.csp_model.specs.declared.name.Name.{Name}
-use Rattle.csp_model.specs.declared.name.Name.TheVariants.{ConnectSrc, FontSrc, FrameSrc, ImgSrc, ManifestSrc, MediaSrc, ObjectSrc, StyleSrcElem, ScriptSrcElem, WorkerSrc, ScriptSrcAttr, StyleSrcAttr, ScriptSrc, StyleSrc, ChildSrc, DefaultSrc, BaseUri, FormAction, FrameAncestors, Sandbox}
 use Rattle.csp_model.specs.declared.policy.Directive.{Directive}
-
--- the names, in the order in which they are declared
-abbrev pub names : List Name
-names = ConnectSrc ∷ FontSrc ∷ FrameSrc ∷ ImgSrc ∷ ManifestSrc ∷ MediaSrc ∷ ObjectSrc ∷ StyleSrcElem
-    ∷ ScriptSrcElem ∷ WorkerSrc ∷ ScriptSrcAttr ∷ StyleSrcAttr ∷ ScriptSrc ∷ StyleSrc ∷ ChildSrc ∷ DefaultSrc
-    ∷ BaseUri ∷ FormAction ∷ FrameAncestors ∷ Sandbox ∷ []
 
 -- a directive has one of the names
 unfoldable pub can_govern : Directive → Bool

@@ -6,4 +6,5 @@ pub mod Index
 pub mod Keys
 pub mod Shown
 pub mod Split
+pub mod Types
 pub mod Under

@@ -7,21 +7,20 @@ use Rattle.csp_model.specs.DecideEquality.{same_keyword}
 use Rattle.csp_model.specs.declared.url.Origin.{Origin}
 use Rattle.csp_model.specs.declared.url.Url.{Url}
 use Rattle.csp_model.specs.declared.source.Source.{Source}
-use Rattle.csp_model.specs.declared.source.Source.TheVariants as source
-use Rattle.csp_model.specs.declared.source.Keyword.TheVariants as keyword
+use Rattle.csp_model.specs.declared.source.Keyword.{Keyword}
 use Rattle.csp_match.specs.Keys.{parts_of, Parts}
 
 abbrev pub is_star : Source → Bool
-is_star source.Star = true
+is_star Source.Star = true
 is_star s = false
 
 abbrev pub is_self : Source → Bool
-is_self (source.Word word) = same_keyword word keyword.SelfOrigin
+is_self (Source.Word word) = same_keyword word Keyword.SelfOrigin
 is_self s = false
 
 -- the scheme of a scheme-source
 abbrev pub scheme_part : Source → Option (List ℕ)
-scheme_part (source.SchemeOnly scheme) = Some scheme
+scheme_part (Source.SchemeOnly scheme) = Some scheme
 scheme_part s = None
 
 abbrev pub scheme_parts : List Source → List (List ℕ)

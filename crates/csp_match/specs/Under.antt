@@ -6,7 +6,6 @@ use Rattle.csp_model.specs.DecideMatching.{own_scheme_matches, host_matches, por
 use Rattle.csp_model.specs.Ends.{is_subdomain}
 use Rattle.csp_model.specs.Schemes.{scheme_text}
 use Rattle.csp_model.specs.declared.source.HostPart.{HostPart}
-use Rattle.csp_model.specs.declared.source.HostPart.TheVariants as host_part
 use Rattle.csp_match.specs.Keys.{Parts}
 use Rattle.csp_match.specs.Entries.{way_fits}
 use Rattle.csp_match.specs.declared.asked.Asked.{Asked}
@@ -25,9 +24,9 @@ rest_matches asked s =
 
 -- two hosts are the same
 abbrev pub same_part : HostPart → HostPart → Bool
-same_part host_part.Any host_part.Any = true
-same_part (host_part.Under s) (host_part.Under t) = bytes_eq s t
-same_part (host_part.Exact s) (host_part.Exact t) = bytes_eq s t
+same_part HostPart.Any HostPart.Any = true
+same_part (HostPart.Under s) (HostPart.Under t) = bytes_eq s t
+same_part (HostPart.Exact s) (HostPart.Exact t) = bytes_eq s t
 same_part a b = false
 
 -- one of the host-sources of this host matches
@@ -36,9 +35,9 @@ any_under host asked sources = list_any (λ s. same_part s.host host && rest_mat
 
 -- the domain ends in a dot and the host's suffix
 abbrev pub is_suffixed : List ℕ → HostPart → Bool
-is_suffixed domain host_part.Any = false
-is_suffixed domain (host_part.Under suffix) = is_subdomain domain suffix
-is_suffixed domain (host_part.Exact text) = false
+is_suffixed domain HostPart.Any = false
+is_suffixed domain (HostPart.Under suffix) = is_subdomain domain suffix
+is_suffixed domain (HostPart.Exact text) = false
 
 abbrev pub any_suffixed : List ℕ → Asked → List Parts → Bool
 any_suffixed domain asked sources = list_any (λ s. is_suffixed domain s.host && rest_matches asked s) sources

@@ -6,13 +6,13 @@ ghost use Rattle.csp_match.specs.Candidates as candidates;
 ghost use Rattle.csp_match.specs.Shown.{shown};
 ghost use Rattle.csp_model.specs.Governing as spec;
 
-use crate::fallback::{fallbacks, is_named};
+use crate::fallback::is_named;
 use crate::governs::Governor;
 use csp_model::{Directive, Memory, Name, Policy};
 use std::alloc::{AllocError, Global};
 use std::marker::Model;
 
-/// The directives of a policy that can govern a check: those with one of the names of `Name`. It is seen as
+/// The directives of a policy that can govern a check: those with one of the names of `Name::ALL`. It is seen as
 /// the policy. Whoever asks what governs for one name after the other, as `csp_verdict` does, goes through
 /// the other directives once.
 #[derive(Drop)]
@@ -71,42 +71,21 @@ fn governing_directives<'a>(
 fn can_govern(directive: &Directive) -> bool
     ensures { result ≡ candidates.can_govern directive.now }
 {
-    names().iter().any(|name| is_named(*name, directive))
+    Name::ALL.iter().any(|name| is_named(*name, directive))
 }
 
-/// The names of the directives that can govern a check, in the order in which they are declared.
+/// The names of the directives that can govern a check.
 pub fn names() -> &'static [Name]
     ensures { result.now ≡ candidates.names }
 {
-    &[
-        Name::ConnectSrc,
-        Name::FontSrc,
-        Name::FrameSrc,
-        Name::ImgSrc,
-        Name::ManifestSrc,
-        Name::MediaSrc,
-        Name::ObjectSrc,
-        Name::StyleSrcElem,
-        Name::ScriptSrcElem,
-        Name::WorkerSrc,
-        Name::ScriptSrcAttr,
-        Name::StyleSrcAttr,
-        Name::ScriptSrc,
-        Name::StyleSrc,
-        Name::ChildSrc,
-        Name::DefaultSrc,
-        Name::BaseUri,
-        Name::FormAction,
-        Name::FrameAncestors,
-        Name::Sandbox,
-    ]
+    &Name::ALL
 }
 
 // What governs, of directives among which the first of each name stands.
 fn governor_among<'a>(directives: &[&'a Directive], effective: Name) -> Option<Governor<'a>>
     ensures { option_map shown result ≡ candidates.governor_among (map (λ d. d.now) directives.now) effective }
 {
-    for name in fallbacks(effective) {
+    for name in effective.fallbacks() {
         if let Some(found) = named_among(directives, *name) {
             return Some(found);
         }

@@ -18,7 +18,7 @@ pub fn governor(policy: &Policy, effective: Name) -> Option<Governor<'_>>
     ensures { option_map shown result ≡ spec.governor policy.now effective }
 {
     let directives = policy.directives.as_slice();
-    for name in fallbacks(effective) {
+    for name in effective.fallbacks() {
         if let Some(found) = governor_named(directives, *name) {
             return Some(found);
         }
@@ -32,45 +32,12 @@ pub fn governing(policy: &Policy, effective: Name) -> Option<usize>
     ensures within { IfSome result (λ place. place < length policy.now.directives) }
 {
     let directives = policy.directives.as_slice();
-    for name in fallbacks(effective) {
+    for name in effective.fallbacks() {
         if let Some(place) = place_of_name(directives, *name) {
             return Some(place);
         }
     }
     None
-}
-
-// The names that may govern, the first one that the policy has before the others (section 6.8.3).
-pub(crate) fn fallbacks(effective: Name) -> &'static [Name]
-    ensures { result.now ≡ spec.fallbacks effective }
-{
-    match effective {
-        Name::ConnectSrc => &[Name::ConnectSrc, Name::DefaultSrc],
-        Name::FontSrc => &[Name::FontSrc, Name::DefaultSrc],
-        Name::FrameSrc => &[Name::FrameSrc, Name::ChildSrc, Name::DefaultSrc],
-        Name::ImgSrc => &[Name::ImgSrc, Name::DefaultSrc],
-        Name::ManifestSrc => &[Name::ManifestSrc, Name::DefaultSrc],
-        Name::MediaSrc => &[Name::MediaSrc, Name::DefaultSrc],
-        Name::ObjectSrc => &[Name::ObjectSrc, Name::DefaultSrc],
-        Name::StyleSrcElem => &[Name::StyleSrcElem, Name::StyleSrc, Name::DefaultSrc],
-        Name::ScriptSrcElem => &[Name::ScriptSrcElem, Name::ScriptSrc, Name::DefaultSrc],
-        Name::WorkerSrc => &[
-            Name::WorkerSrc,
-            Name::ChildSrc,
-            Name::ScriptSrc,
-            Name::DefaultSrc,
-        ],
-        Name::ScriptSrcAttr => &[Name::ScriptSrcAttr, Name::ScriptSrc, Name::DefaultSrc],
-        Name::StyleSrcAttr => &[Name::StyleSrcAttr, Name::StyleSrc, Name::DefaultSrc],
-        Name::ScriptSrc => &[Name::ScriptSrc, Name::DefaultSrc],
-        Name::StyleSrc => &[Name::StyleSrc, Name::DefaultSrc],
-        Name::ChildSrc => &[Name::ChildSrc, Name::DefaultSrc],
-        Name::DefaultSrc => &[Name::DefaultSrc],
-        Name::BaseUri => &[Name::BaseUri],
-        Name::FormAction => &[Name::FormAction],
-        Name::FrameAncestors => &[Name::FrameAncestors],
-        Name::Sandbox => &[Name::Sandbox],
-    }
 }
 
 // The first directive of a name.

@@ -1,17 +1,16 @@
 -- The tests of `DecideEquality` decide equality.
-use Rattle.std.proofs.Common.{◌≡◌, ℕ, List, Option, Some, None, refl, ap, ◌∙◌, ◌==◌}
+use Rattle.std.proofs.Common.{arith, ◌≡◌, ℕ, List, Option, Some, None, refl, sym, ap, ◌∙◌, ◌==◌}
 use Rattle.std.specs.Bool.{Decides}
+use Rattle.std.specs.List.{find}
 use Rattle.std.specs.Str.{bytes_eq}
 use Rattle.std.proofs.lemmas.Bool.Decides.{Decides-and, Decides-like, Decides-eqb}
 use Rattle.std.proofs.lemmas.Slice.Eq.{bytes_eq-Decides}
 use Rattle.csp_model.specs.DecideEquality.{same_host, same_port, same_algorithm, same_hash, same_keyword}
+use Rattle.csp_model.specs.Grammar.{keyword_text}
+use Rattle.csp_model.specs.Reading.{keywords}
 use Rattle.csp_model.proofs.Deciding.{no, yes}
-use Rattle.csp_model.specs.declared.source.Algorithm.{Algorithm}
+use Rattle.csp_model.specs.Types.{Algorithm, Hash, Keyword, Host}
 use Rattle.csp_model.specs.declared.source.Algorithm.TheVariants.{Sha256, Sha384, Sha512}
-use Rattle.csp_model.specs.declared.source.Hash.{Hash}
-use Rattle.csp_model.specs.declared.source.Keyword.{Keyword}
-use Rattle.csp_model.specs.declared.source.Keyword.TheVariants as keyword
-use Rattle.csp_model.specs.declared.url.Host.{Host}
 use Rattle.csp_model.specs.declared.url.Host.TheVariants.{Domain, Address}
 
 pub same_host_decides : (a b : Host) → Decides (same_host a b) (a ≡ b)
@@ -46,12 +45,17 @@ same_hash_decides g h =
     (Decides-and (same_algorithm g.algorithm h.algorithm) (bytes_eq g.value h.value)
     (same_algorithm_decides g.algorithm h.algorithm) (bytes_eq-Decides g.value h.value))
 
+-- the keyword of a text
+abbrev written : List ℕ → Option Keyword
+written text = find (λ word. bytes_eq text (keyword_text word)) keywords
+
+found : (word : Keyword) → written (keyword_text word) ≡ Some word
+found word = grind arith
+
+same_text : (a b : Keyword) → keyword_text a ≡ keyword_text b → a ≡ b
+same_text a b same =
+    let one : Some a ≡ Some b = sym (found a) ∙ ap written same ∙ found b in cc
+
 pub same_keyword_decides : (a b : Keyword) → Decides (same_keyword a b) (a ≡ b)
-same_keyword_decides keyword.SelfOrigin keyword.SelfOrigin = yes refl
-same_keyword_decides keyword.UnsafeInline keyword.UnsafeInline = yes refl
-same_keyword_decides keyword.UnsafeEval keyword.UnsafeEval = yes refl
-same_keyword_decides keyword.WasmUnsafeEval keyword.WasmUnsafeEval = yes refl
-same_keyword_decides keyword.StrictDynamic keyword.StrictDynamic = yes refl
-same_keyword_decides keyword.UnsafeHashes keyword.UnsafeHashes = yes refl
-same_keyword_decides keyword.ReportSample keyword.ReportSample = yes refl
-same_keyword_decides a b = no (λ (h : a ≡ b). cc)
+same_keyword_decides a b =
+    Decides-like (same_keyword a b) (same_text a b) (ap keyword_text) (bytes_eq-Decides (keyword_text a) (keyword_text b))

@@ -14,15 +14,7 @@ use Rattle.csp_model.specs.DecideTokens.{has_keyword, nonce_matches, integrity_m
 use Rattle.csp_model.proofs.Deciding.{yes, is_false}
 use Rattle.csp_model.proofs.MatchingDecided.{list_decides}
 use Rattle.csp_model.proofs.TokensDecided.{keyword_decides, nonce_decides, integrity_decides}
-use Rattle.csp_model.specs.declared.name.Name.{Name}
-use Rattle.csp_model.specs.declared.check.FetchRule.{FetchRule}
-use Rattle.csp_model.specs.declared.check.FetchRule.TheVariants as rule
-use Rattle.csp_model.specs.declared.check.Group.{Group}
-use Rattle.csp_model.specs.declared.source.Hash.{Hash}
-use Rattle.csp_model.specs.declared.source.Keyword.TheVariants as keyword
-use Rattle.csp_model.specs.declared.source.Source.{Source}
-use Rattle.csp_model.specs.declared.policy.Policy.{Policy}
-use Rattle.csp_model.specs.declared.url.Url.{Url}
+use Rattle.csp_model.specs.Types.{Name, FetchRule, Group, Hash, Keyword, Source, Policy, Url}
 
 -- Where a directive governs
 
@@ -41,8 +33,8 @@ governed_decides policy effective p P each = by_decides (governor policy effecti
 dynamic_decides : (sources : List Source) (parser_inserted listed : Bool) (Listed : Type 0) → Decides listed Listed
     → Decides (dynamic_or_listed sources parser_inserted listed) (DynamicOrListed sources parser_inserted Listed)
 dynamic_decides sources parser_inserted listed Listed is =
-    let dynamic = has_keyword keyword.StrictDynamic sources in
-    let decided = keyword_decides keyword.StrictDynamic sources in
+    let dynamic = has_keyword Keyword.StrictDynamic sources in
+    let decided = keyword_decides Keyword.StrictDynamic sources in
     Decides-or (dynamic && not parser_inserted) (not dynamic && listed)
     (Decides-and dynamic (not parser_inserted) decided (is_false parser_inserted))
     (Decides-and (not dynamic) listed (Decides-not dynamic decided) is)
@@ -51,14 +43,14 @@ pub sources_decide : (which : FetchRule) (sources : List Source) (nonce : List �
     (parser_inserted listed : Bool) (Listed : Type 0) → Decides listed Listed
     → Decides (sources_allow which sources nonce integrity parser_inserted listed)
     (SourcesAllow which sources nonce integrity parser_inserted Listed)
-sources_decide rule.Script sources nonce integrity parser_inserted listed Listed is =
+sources_decide FetchRule.Script sources nonce integrity parser_inserted listed Listed is =
     Decides-or (nonce_matches nonce sources) (integrity_matches integrity sources || dynamic_or_listed sources parser_inserted listed)
     (nonce_decides nonce sources)
     (Decides-or (integrity_matches integrity sources) (dynamic_or_listed sources parser_inserted listed)
     (integrity_decides integrity sources) (dynamic_decides sources parser_inserted listed Listed is))
-sources_decide rule.Style sources nonce integrity parser_inserted listed Listed is =
+sources_decide FetchRule.Style sources nonce integrity parser_inserted listed Listed is =
     Decides-or (nonce_matches nonce sources) listed (nonce_decides nonce sources) is
-sources_decide rule.List sources nonce integrity parser_inserted listed Listed is = is
+sources_decide FetchRule.List sources nonce integrity parser_inserted listed Listed is = is
 
 pub fetch_decides : (policy : Policy) (kind : Group) (there : Url) (redirects : ℕ) (nonce : List ℕ)
     (integrity : List Hash) (parser_inserted : Bool)

@@ -6,7 +6,7 @@ use Rattle.std.proofs.lemmas.Grind.{common_steps}
 use Rattle.std.proofs.lemmas.Slice.Eq.{bytes_eq-Decides}
 use Rattle.csp_model.specs.Policies.{firsts}
 use Rattle.csp_model.proofs.AnyCases.{Any-none, first_or_later}
-use Rattle.csp_model.specs.declared.policy.Directive.{Directive}
+use Rattle.csp_model.specs.Types.{Directive}
 
 -- the directives of any other name
 abbrev pub without : List ℕ → List Directive → List Directive

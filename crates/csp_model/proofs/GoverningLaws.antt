@@ -10,9 +10,7 @@ use Rattle.std.proofs.lemmas.List.Folds.{find_at}
 use Rattle.std.proofs.lemmas.Option.{slice_get_cases}
 use Rattle.csp_model.specs.Governing.{Governor, governor_named, governor, place_of_name, governing_place, is_named, fallbacks}
 use Rattle.csp_model.specs.Reading.{first_of}
-use Rattle.csp_model.specs.declared.name.Name.{Name}
-use Rattle.csp_model.specs.declared.policy.Directive.{Directive}
-use Rattle.csp_model.specs.declared.policy.Policy.{Policy}
+use Rattle.csp_model.specs.Types.{Name, Directive, Policy}
 
 -- the first item that passes, and its place: both are there or neither
 abbrev Both : {X : Type 0} → List X → Option X → Option ℕ → Type 0

@@ -12,20 +12,16 @@ use Rattle.csp_model.proofs.Deciding.{itself, is_false, implies_decides, both3}
 use Rattle.csp_model.proofs.TokensDecided.{keyword_decides, nonce_decides, digests_decide}
 use Rattle.csp_model.proofs.FetchDecided.{governed_decides}
 use Rattle.csp_model.specs.declared.name.Name.TheVariants.{ScriptSrc}
-use Rattle.csp_model.specs.declared.check.InlineKind.{InlineKind}
-use Rattle.csp_model.specs.declared.check.Digests.{Digests}
-use Rattle.csp_model.specs.declared.source.Keyword.TheVariants as keyword
-use Rattle.csp_model.specs.declared.source.Source.{Source}
-use Rattle.csp_model.specs.declared.policy.Policy.{Policy}
+use Rattle.csp_model.specs.Types.{InlineKind, Digests, Keyword, Source, Policy}
 
 all_inline_decides : (which : InlineKind) (sources : List Source)
     → Decides (allows_all_inline which sources) (AllowsAllInline which sources)
 all_inline_decides which sources =
-    let dynamic = has_keyword keyword.StrictDynamic sources in
-    both3 (has_keyword keyword.UnsafeInline sources) (not (list_any is_nonce_or_hash sources)) (not (is_script_kind which) || not dynamic)
-    (keyword_decides keyword.UnsafeInline sources) (is_false (list_any is_nonce_or_hash sources))
+    let dynamic = has_keyword Keyword.StrictDynamic sources in
+    both3 (has_keyword Keyword.UnsafeInline sources) (not (list_any is_nonce_or_hash sources)) (not (is_script_kind which) || not dynamic)
+    (keyword_decides Keyword.UnsafeInline sources) (is_false (list_any is_nonce_or_hash sources))
     (implies_decides (is_script_kind which) (not dynamic) (itself (is_script_kind which))
-    (Decides-not dynamic (keyword_decides keyword.StrictDynamic sources)))
+    (Decides-not dynamic (keyword_decides Keyword.StrictDynamic sources)))
 
 pub sources_inline_decide : (which : InlineKind) (nonce : List ℕ) (digests : Digests) (sources : List Source)
     → Decides (sources_allow_inline which nonce digests sources) (SourcesAllowInline which nonce digests sources)
@@ -36,8 +32,8 @@ sources_inline_decide which nonce digests sources =
     (Decides-or by_nonce by_hash
     (Decides-and (is_element_kind which) (nonce_matches nonce sources) (itself (is_element_kind which)) (nonce_decides nonce sources))
     (Decides-and (digests_match digests sources) (hash_counts which sources) (digests_decide digests sources)
-    (Decides-or (is_element_kind which) (has_keyword keyword.UnsafeHashes sources) (itself (is_element_kind which))
-    (keyword_decides keyword.UnsafeHashes sources))))
+    (Decides-or (is_element_kind which) (has_keyword Keyword.UnsafeHashes sources) (itself (is_element_kind which))
+    (keyword_decides Keyword.UnsafeHashes sources))))
 
 pub inline_decides : (policy : Policy) (which : InlineKind) (nonce : List ℕ) (digests : Digests)
     → Decides (inline_allows policy which nonce digests) (InlineAllows policy which nonce digests)
@@ -48,14 +44,14 @@ inline_decides policy which nonce digests =
 
 pub eval_decides : (policy : Policy) → Decides (eval_allows policy) (EvalAllows policy)
 eval_decides policy =
-    governed_decides policy ScriptSrc (λ g. has_keyword keyword.UnsafeEval g.directive.sources)
-    (λ g. HasKeyword keyword.UnsafeEval g.directive.sources)
-    (λ g. keyword_decides keyword.UnsafeEval g.directive.sources)
+    governed_decides policy ScriptSrc (λ g. has_keyword Keyword.UnsafeEval g.directive.sources)
+    (λ g. HasKeyword Keyword.UnsafeEval g.directive.sources)
+    (λ g. keyword_decides Keyword.UnsafeEval g.directive.sources)
 
 pub wasm_decides : (policy : Policy) → Decides (wasm_allows policy) (WasmAllows policy)
 wasm_decides policy =
-    let has = λ (sources : List Source). has_keyword keyword.UnsafeEval sources || has_keyword keyword.WasmUnsafeEval sources in
+    let has = λ (sources : List Source). has_keyword Keyword.UnsafeEval sources || has_keyword Keyword.WasmUnsafeEval sources in
     governed_decides policy ScriptSrc (λ g. has g.directive.sources)
-    (λ g. HasKeyword keyword.UnsafeEval g.directive.sources ⊎ HasKeyword keyword.WasmUnsafeEval g.directive.sources)
-    (λ g. Decides-or (has_keyword keyword.UnsafeEval g.directive.sources) (has_keyword keyword.WasmUnsafeEval g.directive.sources)
-    (keyword_decides keyword.UnsafeEval g.directive.sources) (keyword_decides keyword.WasmUnsafeEval g.directive.sources))
+    (λ g. HasKeyword Keyword.UnsafeEval g.directive.sources ⊎ HasKeyword Keyword.WasmUnsafeEval g.directive.sources)
+    (λ g. Decides-or (has_keyword Keyword.UnsafeEval g.directive.sources) (has_keyword Keyword.WasmUnsafeEval g.directive.sources)
+    (keyword_decides Keyword.UnsafeEval g.directive.sources) (keyword_decides Keyword.WasmUnsafeEval g.directive.sources))

@@ -10,11 +10,8 @@ use Rattle.csp_model.specs.Validity.{IsValidCheck}
 use Rattle.csp_model.specs.DecideVerdict.{allows}
 use Rattle.csp_model.specs.Verdict.{is_enforce, list_allows, allows_all}
 use Rattle.csp_model.proofs.Deciding.{all_decides, itself, same_bool}
-use Rattle.csp_model.specs.declared.check.Check.{Check}
-use Rattle.csp_model.specs.declared.policy.Disposition.{Disposition}
+use Rattle.csp_model.specs.Types.{Check, Disposition, Policy, PolicyList}
 use Rattle.csp_model.specs.declared.policy.Disposition.TheVariants.{Report}
-use Rattle.csp_model.specs.declared.policy.Policy.{Policy}
-use Rattle.csp_model.specs.declared.policy.PolicyList.{PolicyList}
 
 abbrev enforced_allows : Check → Policy → Bool
 enforced_allows asked p = not (is_enforce p.disposition) || allows p asked

@@ -16,23 +16,9 @@ use Rattle.csp_model.specs.Schemes.{scheme_text, default_port}
 use Rattle.csp_model.proofs.Deciding.{no, yes, itself, both3, both4, any_decides, has_decides, none_decides}
 use Rattle.csp_model.proofs.EndLaws.{subdomain_Decides, beyond_Decides}
 use Rattle.csp_model.proofs.EqualityDecided.{same_host_decides, same_port_decides, same_keyword_decides}
-use Rattle.csp_model.specs.declared.url.Scheme.{Scheme}
+use Rattle.csp_model.specs.Types.{Scheme, Host, Origin, Url, HostPart, PortPart, PathPart, Keyword, Source}
 use Rattle.csp_model.specs.declared.url.Scheme.TheVariants.{Http, Https, Ws, Wss, Ftp}
-use Rattle.csp_model.specs.declared.url.Host.{Host}
 use Rattle.csp_model.specs.declared.url.Host.TheVariants.{Domain, Address}
-use Rattle.csp_model.specs.declared.url.Origin.{Origin}
-use Rattle.csp_model.specs.declared.url.Origin.TheVariants as origin
-use Rattle.csp_model.specs.declared.url.Url.{Url}
-use Rattle.csp_model.specs.declared.url.Url.TheVariants as url
-use Rattle.csp_model.specs.declared.source.HostPart.{HostPart}
-use Rattle.csp_model.specs.declared.source.HostPart.TheVariants as host_part
-use Rattle.csp_model.specs.declared.source.PortPart.{PortPart}
-use Rattle.csp_model.specs.declared.source.PortPart.TheVariants as port_part
-use Rattle.csp_model.specs.declared.source.PathPart.{PathPart}
-use Rattle.csp_model.specs.declared.source.PathPart.TheVariants as path_part
-use Rattle.csp_model.specs.declared.source.Keyword.TheVariants as keyword
-use Rattle.csp_model.specs.declared.source.Source.{Source}
-use Rattle.csp_model.specs.declared.source.Source.TheVariants as source
 
 -- Schemes
 
@@ -47,8 +33,8 @@ scheme_decides part scheme =
 pub own_scheme_decides : (part : Option (List ℕ)) (self : Origin) (scheme : List ℕ)
     → Decides (own_scheme_matches part self scheme) (SchemeOrOwn part self (λ asked. SchemeMatches asked scheme))
 own_scheme_decides (Some part) self scheme = scheme_decides part scheme
-own_scheme_decides None (origin.Tuple own host port) scheme = scheme_decides (scheme_text own) scheme
-own_scheme_decides None origin.Opaque scheme = no (λ h. h)
+own_scheme_decides None (Origin.Tuple own host port) scheme = scheme_decides (scheme_text own) scheme
+own_scheme_decides None Origin.Opaque scheme = no (λ h. h)
 
 abbrev SelfScheme : Scheme → Scheme → Type 0
 SelfScheme own scheme = (own ≡ scheme) ⊎ ((scheme ≡ Https) ⊎ ((scheme ≡ Wss) ⊎ ((own ≡ Http) × (scheme ≡ Ws))))
@@ -81,29 +67,29 @@ host_under_decides (Domain text) suffix = subdomain_Decides text suffix
 host_under_decides (Address text) suffix = no (λ h. h)
 
 pub host_decides : (part : HostPart) (host : Host) → Decides (host_matches part host) (HostMatches part host)
-host_decides host_part.Any host = domain_host_decides host
-host_decides (host_part.Under suffix) host = host_under_decides host suffix
-host_decides (host_part.Exact text) host = bytes_eq-Decides text (host_text host)
+host_decides HostPart.Any host = domain_host_decides host
+host_decides (HostPart.Under suffix) host = host_under_decides host suffix
+host_decides (HostPart.Exact text) host = bytes_eq-Decides text (host_text host)
 
 pub port_decides : (part : PortPart) (port : Option ℕ) (scheme : Scheme)
     → Decides (port_matches part port scheme) (PortMatches part port scheme)
-port_decides port_part.Absent port scheme = none_decides port
-port_decides port_part.Any port scheme = yes tt
-port_decides (port_part.Number n) port scheme = Decides-eqb (unwrap_or port (default_port scheme)) n
-port_decides port_part.TooLarge port scheme = no (λ h. h)
+port_decides PortPart.Absent port scheme = none_decides port
+port_decides PortPart.Any port scheme = yes tt
+port_decides (PortPart.Number n) port scheme = Decides-eqb (unwrap_or port (default_port scheme)) n
+port_decides PortPart.TooLarge port scheme = no (λ h. h)
 
 pub pieces_decide : (p q : List (List ℕ)) → Decides (pointwise bytes_eq p q) (p ≡ q)
 pieces_decide p q = slice_eq-Decides bytes_eq-Decides p q (pointwise bytes_eq p q) refl
 
 pub path_decides : (part : PathPart) (path : List (List ℕ)) → Decides (path_matches part path) (PathMatches part path)
-path_decides path_part.Absent path = yes tt
-path_decides (path_part.Exact pieces) path = pieces_decide pieces path
-path_decides (path_part.Prefix pieces) path = beyond_Decides path pieces
+path_decides PathPart.Absent path = yes tt
+path_decides (PathPart.Exact pieces) path = pieces_decide pieces path
+path_decides (PathPart.Prefix pieces) path = beyond_Decides path pieces
 
 -- 'self'
 
 pub self_decides : (self : Origin) (there : Url) → Decides (self_matches self there) (SelfMatches self there)
-self_decides (origin.Tuple own own_host own_port) (url.Hosted scheme host port path) =
+self_decides (Origin.Tuple own own_host own_port) (Url.Hosted scheme host port path) =
     both3 (same_host own_host host) (same_port own_port port) (self_scheme_matches own scheme)
     (same_host_decides own_host host) (same_port_decides own_port port) (self_scheme_decides own scheme)
 self_decides self there = no (λ h. h)
@@ -114,8 +100,8 @@ pub host_source_decides : (scheme_part : Option (List ℕ)) (host_part : HostPar
     (self : Origin) (there : Url) (redirected : Bool)
     → Decides (host_source_matches scheme_part host_part port_part path_part self there redirected)
     (HostSourceMatches scheme_part host_part port_part path_part self there redirected)
-host_source_decides scheme_part host_part port_part path_part self (url.Plain scheme) redirected = no (λ h. h)
-host_source_decides scheme_part host_part port_part path_part self (url.Hosted scheme host port path) redirected =
+host_source_decides scheme_part host_part port_part path_part self (Url.Plain scheme) redirected = no (λ h. h)
+host_source_decides scheme_part host_part port_part path_part self (Url.Hosted scheme host port path) redirected =
     both4 (own_scheme_matches scheme_part self (scheme_text scheme)) (host_matches host_part host)
     (port_matches port_part port scheme) (redirected || path_matches path_part path)
     (own_scheme_decides scheme_part self (scheme_text scheme)) (host_decides host_part host)
@@ -124,16 +110,16 @@ host_source_decides scheme_part host_part port_part path_part self (url.Hosted s
 
 pub matches_decides : (s : Source) (self : Origin) (there : Url) (redirected : Bool)
     → Decides (matches s self there redirected) (Matches s self there redirected)
-matches_decides source.Star self there redirected = network_decides (url_scheme there)
-matches_decides (source.SchemeOnly scheme) self there redirected = scheme_decides scheme (url_scheme there)
-matches_decides (source.Hosted scheme host port path) self there redirected =
+matches_decides Source.Star self there redirected = network_decides (url_scheme there)
+matches_decides (Source.SchemeOnly scheme) self there redirected = scheme_decides scheme (url_scheme there)
+matches_decides (Source.Hosted scheme host port path) self there redirected =
     host_source_decides scheme host port path self there redirected
-matches_decides (source.Word word) self there redirected =
-    Decides-and (same_keyword word keyword.SelfOrigin) (self_matches self there)
-    (same_keyword_decides word keyword.SelfOrigin) (self_decides self there)
-matches_decides (source.Nonce value) self there redirected = no (λ h. h)
-matches_decides (source.Digest hash) self there redirected = no (λ h. h)
-matches_decides (source.Other token) self there redirected = no (λ h. h)
+matches_decides (Source.Word word) self there redirected =
+    Decides-and (same_keyword word Keyword.SelfOrigin) (self_matches self there)
+    (same_keyword_decides word Keyword.SelfOrigin) (self_decides self there)
+matches_decides (Source.Nonce value) self there redirected = no (λ h. h)
+matches_decides (Source.Digest hash) self there redirected = no (λ h. h)
+matches_decides (Source.Other token) self there redirected = no (λ h. h)
 
 pub list_decides : (sources : List Source) (self : Origin) (there : Url) (redirected : Bool)
     → Decides (list_matches sources self there redirected) (ListMatches sources self there redirected)

@@ -16,14 +16,10 @@ use Rattle.csp_model.specs.DecideNavigation.{listed_allows, base_allows, form_al
 use Rattle.csp_model.proofs.Deciding.{no, yes, any_decides, has_decides}
 use Rattle.csp_model.proofs.MatchingDecided.{list_decides}
 use Rattle.csp_model.proofs.FetchDecided.{governed_decides}
-use Rattle.csp_model.specs.declared.name.Name.{Name}
+use Rattle.csp_model.specs.Types.{Name, Capability, Disposition, Policy, Url}
 use Rattle.csp_model.specs.declared.name.Name.TheVariants.{BaseUri, FormAction, FrameAncestors, Sandbox}
-use Rattle.csp_model.specs.declared.check.Capability.{Capability}
 use Rattle.csp_model.specs.declared.check.Capability.TheVariants.{Scripts, SameOrigin}
-use Rattle.csp_model.specs.declared.policy.Disposition.{Disposition}
 use Rattle.csp_model.specs.declared.policy.Disposition.TheVariants.{Enforce, Report}
-use Rattle.csp_model.specs.declared.policy.Policy.{Policy}
-use Rattle.csp_model.specs.declared.url.Url.{Url}
 
 listed_decides : (policy : Policy) (effective : Name) (there : Url) (redirected : Bool)
     → Decides (listed_allows policy effective there redirected)

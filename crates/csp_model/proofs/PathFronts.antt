@@ -1,12 +1,12 @@
 -- The text of a path that ends in "/": its pieces, one more of them, and that a path begins with another's pieces
 -- where their texts do so.
-use Rattle.std.proofs.Common.{arith, ◌≡◌, ◌≢◌, ◌<◌, ◌+◌, ◌∙◌, sym, ap, refl, subst, ℕ, ◌==◌, Bool, true, false, cond, List, [], ◌∷◌, ◌++◌, length, map, take, drop, All, append-nil, append_assoc, length-append, ◌≤◌, inl, inr, nat_eq, nat_lt}
-use Rattle.std.specs.Prelude.{◌⊎◌, Result, Ok, Err, OnOk, OnErr}
+use Rattle.std.proofs.Common.{arith, ◌≡◌, ◌≢◌, ◌<◌, ◌+◌, ◌∙◌, sym, ap, refl, subst, ℕ, ◌==◌, Bool, true, false, cond, List, [], ◌∷◌, ◌++◌, length, map, take, drop, All, append-nil, append_assoc, length-append, ◌≤◌, inl, inr, nat_eq}
+use Rattle.std.specs.Prelude.{Result, Ok, Err, OnOk, OnErr}
 use Rattle.std.specs.Bool.{Decides}
 use Rattle.std.specs.Cmp.Lexicographic.{pointwise}
-use Rattle.std.specs.List.{onto_first, count_by, list_any, list_all, starts_with}
+use Rattle.std.specs.List.{onto_first, list_all}
 use Rattle.std.specs.Str.{bytes_eq}
-use Rattle.std.proofs.lemmas.Bool.Decides.{Decides-eqb, Decides-and, Decides-like, same_from_decides}
+use Rattle.std.proofs.lemmas.Bool.Decides.{Decides-eqb, Decides-like, same_from_decides}
 use Rattle.std.proofs.lemmas.List.{length-map, map-append}
 use Rattle.std.proofs.lemmas.List.Concat.{flat_map-append}
 use Rattle.std.proofs.lemmas.List.Elements.{All-cons, All-nil}
@@ -15,12 +15,10 @@ use Rattle.std.proofs.lemmas.Slice.Eq.{starts_is, slice_eq-Decides, bytes_eq-Dec
 use Rattle.percent_encoding.specs.Percent.{percent_encode, percent_decode}
 use Rattle.percent_encoding.proofs.PercentLemmas.{IsByte, percent_decode-nil}
 use Rattle.csp_model.specs.Ascii.{split_at, without_last}
-use Rattle.csp_model.specs.DecideEnds.{begins_with, goes_beyond}
 use Rattle.csp_model.specs.Paths.{path_text, pieces_of, text_pieces, front_text, front_pieces}
 use Rattle.csp_model.specs.Validity.{is_piece}
-use Rattle.csp_model.specs.declared.memory.Memory.{Memory}
+use Rattle.csp_model.specs.Types.{Memory}
 use Rattle.csp_model.specs.declared.path.TheConstants.{ESCAPED}
-use Rattle.csp_model.proofs.EndLaws.{begins_Decides, beyond_Decides}
 use Rattle.csp_model.proofs.FinalBytes.{without_last-push, last_view}
 use Rattle.csp_model.proofs.PathText.{split_at-path_text, decoded_again}
 use Rattle.csp_model.proofs.PieceBytes.{pieces_bytes}

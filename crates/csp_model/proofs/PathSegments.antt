@@ -1,12 +1,11 @@
 -- The parts of a path's text between slashes: how many there are, and whether one is "." or "..".
-use Rattle.std.proofs.Common.{arith, ◌≡◌, ◌<◌, ◌∙◌, sym, ap, refl, subst, ℕ, ◌==◌, Bool, true, false, not, ◌&&◌, ◌||◌, List, [], ◌∷◌, ◌++◌, length, map, All, append-nil, inl, inr}
-use Rattle.std.specs.Prelude.{◌⊎◌, codes, nat_lt}
+use Rattle.std.proofs.Common.{arith, ◌≡◌, ◌<◌, ◌∙◌, sym, ap, refl, subst, ℕ, ◌==◌, Bool, true, false, not, ◌&&◌, ◌||◌, List, [], ◌∷◌, ◌++◌, length, map, All, inl, inr}
+use Rattle.std.specs.Prelude.{◌⊎◌, codes}
 use Rattle.std.specs.Bool.{Decides}
 use Rattle.std.specs.List.{count_by, filter, list_any, list_all}
 use Rattle.std.specs.Str.{bytes_eq}
 use Rattle.std.proofs.lemmas.Bool.{lt-ltb}
 use Rattle.std.proofs.lemmas.Bool.Decides.{Decides-or, Decides-like, same_from_decides}
-use Rattle.std.proofs.lemmas.Grind.{common_steps}
 use Rattle.std.proofs.lemmas.List.Elements.{All-nil, All-cons, All-head, All-tail, All-weaker, filter-append}
 use Rattle.std.proofs.lemmas.List.Folds.{list_any-append}
 use Rattle.std.proofs.lemmas.List.Sums.{length-filter}
@@ -15,7 +14,7 @@ use Rattle.percent_encoding.specs.AsciiSet.{should_percent_encode}
 use Rattle.percent_encoding.specs.Percent.{percent_encode, percent_decode}
 use Rattle.percent_encoding.proofs.PercentLemmas.{IsByte, All-percent_decode}
 use Rattle.csp_model.specs.Ascii.{split_at}
-use Rattle.csp_model.specs.Paths.{path_text, text_pieces, front_text, is_dot_segment, has_dot_segment}
+use Rattle.csp_model.specs.Paths.{path_text, front_text, is_dot_segment, has_dot_segment}
 use Rattle.csp_model.specs.Validity.{are_bytes, is_piece}
 use Rattle.csp_model.specs.declared.path.TheConstants.{ESCAPED}
 use Rattle.csp_model.proofs.PathFronts.{IsRead, read_text, split_slash}

@@ -1,5 +1,5 @@
 -- The items of a check speak of the policies that don't allow it, in order.
-use Rattle.std.proofs.Common.{◌≡◌, ◌<◌, ◌≤◌, ℕ, zero, suc, ◌+◌, Bool, true, false, not, cond, List, [], ◌∷◌, Option, Some, None, slice_get, refl, sym, ap, subst, ◌∙◌, arith, Any, All}
+use Rattle.std.proofs.Common.{◌≡◌, ℕ, zero, suc, ◌+◌, true, false, cond, List, [], ◌∷◌, Option, Some, None, slice_get, refl, sym, ap, subst, ◌∙◌, arith, Any, All}
 use Rattle.std.specs.List.{cons_option}
 use Rattle.std.specs.Option.{option_map}
 use Rattle.std.proofs.lemmas.Bool.{false≢true, cases_Bool}
@@ -12,11 +12,7 @@ use Rattle.csp_model.specs.Verdict.{Allows, effective_name, item_of, items_from,
 use Rattle.csp_model.proofs.AnyCases.{Any-here, Any-later}
 use Rattle.csp_model.proofs.VerdictDecided.{allows_decides, ungoverned}
 use Rattle.csp_model.proofs.VerdictLaws.{item_by}
-use Rattle.csp_model.specs.declared.check.Check.{Check}
-use Rattle.csp_model.specs.declared.check.Check.TheVariants as check
-use Rattle.csp_model.specs.declared.policy.Policy.{Policy}
-use Rattle.csp_model.specs.declared.policy.PolicyList.{PolicyList}
-use Rattle.csp_model.specs.declared.verdict.Item.{Item}
+use Rattle.csp_model.specs.Types.{Check, Policy, PolicyList, Item}
 
 refuses : (p : Policy) (asked : Check) → (Allows p asked → ⊥) → allows p asked ≡ false
 refuses p asked never = elim (cases_Bool (allows p asked)) [
@@ -106,7 +102,7 @@ through P (item ∷ items) all =
     ]
 
 shown : (P : Item → Type 0) (asked : Check) (items : List Item) → All P items → All P (shown_items asked items)
-shown P (check.Base there) items all = through P items all
+shown P (Check.Base there) items all = through P items all
 shown P asked items all = all
 
 pub each_item_is_a_refusal : (list : PolicyList) (asked : Check) → All (IsRefusal list asked) (items_of list asked)

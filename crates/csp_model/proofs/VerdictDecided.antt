@@ -12,25 +12,21 @@ use Rattle.csp_model.proofs.Deciding.{yes, all_decides}
 use Rattle.csp_model.proofs.FetchDecided.{fetch_decides}
 use Rattle.csp_model.proofs.InlineDecided.{inline_decides, eval_decides, wasm_decides}
 use Rattle.csp_model.proofs.NavigationDecided.{base_decides, form_decides, ancestor_decides, opaque_ancestor_decides, capability_decides, worker_start_decides}
-use Rattle.csp_model.specs.declared.check.Check.{Check}
-use Rattle.csp_model.specs.declared.check.Check.TheVariants as check
-use Rattle.csp_model.specs.declared.policy.Disposition.{Disposition}
+use Rattle.csp_model.specs.Types.{Check, Disposition, Policy, PolicyList}
 use Rattle.csp_model.specs.declared.policy.Disposition.TheVariants.{Enforce, Report}
-use Rattle.csp_model.specs.declared.policy.Policy.{Policy}
-use Rattle.csp_model.specs.declared.policy.PolicyList.{PolicyList}
 
 pub allows_decides : (policy : Policy) (asked : Check) → Decides (allows policy asked) (Allows policy asked)
-allows_decides policy (check.Fetch group there redirects nonce integrity parser_inserted) =
+allows_decides policy (Check.Fetch group there redirects nonce integrity parser_inserted) =
     fetch_decides policy group there redirects nonce integrity parser_inserted
-allows_decides policy (check.Inline kind nonce digests) = inline_decides policy kind nonce digests
-allows_decides policy check.Eval = eval_decides policy
-allows_decides policy check.Wasm = wasm_decides policy
-allows_decides policy (check.Base there) = base_decides policy there
-allows_decides policy (check.Form there redirects) = form_decides policy there redirects
-allows_decides policy (check.Ancestor there) = ancestor_decides policy there
-allows_decides policy check.OpaqueAncestor = opaque_ancestor_decides policy
-allows_decides policy (check.Capability capability) = capability_decides policy capability
-allows_decides policy check.WorkerStart = worker_start_decides policy
+allows_decides policy (Check.Inline kind nonce digests) = inline_decides policy kind nonce digests
+allows_decides policy Check.Eval = eval_decides policy
+allows_decides policy Check.Wasm = wasm_decides policy
+allows_decides policy (Check.Base there) = base_decides policy there
+allows_decides policy (Check.Form there redirects) = form_decides policy there redirects
+allows_decides policy (Check.Ancestor there) = ancestor_decides policy there
+allows_decides policy Check.OpaqueAncestor = opaque_ancestor_decides policy
+allows_decides policy (Check.Capability capability) = capability_decides policy capability
+allows_decides policy Check.WorkerStart = worker_start_decides policy
 
 if_enforced : {P : Type 0} (d : Disposition) (x : Bool) → Decides x P → Decides (not (is_enforce d) || x) (d ≡ Enforce → P)
 if_enforced Enforce x p = Decides-like x (λ h _. h) (λ f. f refl) p
@@ -51,13 +47,13 @@ by_report : (policy : Policy) (rest : Bool) → rest ≡ true → (is_report pol
 by_report policy rest h = elim policy.disposition as (λ d. (is_report d || rest) ≡ true) [ Report ↦ refl | Enforce ↦ h ]
 
 pub ungoverned : (policy : Policy) (asked : Check) → governor policy (effective_name asked) ≡ None → allows policy asked ≡ true
-ungoverned policy (check.Fetch group there redirects nonce integrity parser_inserted) none = by_none _ _ none
-ungoverned policy (check.Inline kind nonce digests) none = by_none _ _ none
-ungoverned policy check.Eval none = by_none _ _ none
-ungoverned policy check.Wasm none = by_none _ _ none
-ungoverned policy (check.Base there) none = by_none _ _ none
-ungoverned policy (check.Form there redirects) none = by_none _ _ none
-ungoverned policy (check.Ancestor there) none = by_none _ _ none
-ungoverned policy check.OpaqueAncestor none = by_none _ _ none
-ungoverned policy (check.Capability capability) none = by_report policy _ (by_none _ _ none)
-ungoverned policy check.WorkerStart none = by_report policy _ (by_none _ _ none)
+ungoverned policy (Check.Fetch group there redirects nonce integrity parser_inserted) none = by_none _ _ none
+ungoverned policy (Check.Inline kind nonce digests) none = by_none _ _ none
+ungoverned policy Check.Eval none = by_none _ _ none
+ungoverned policy Check.Wasm none = by_none _ _ none
+ungoverned policy (Check.Base there) none = by_none _ _ none
+ungoverned policy (Check.Form there redirects) none = by_none _ _ none
+ungoverned policy (Check.Ancestor there) none = by_none _ _ none
+ungoverned policy Check.OpaqueAncestor none = by_none _ _ none
+ungoverned policy (Check.Capability capability) none = by_report policy _ (by_none _ _ none)
+ungoverned policy Check.WorkerStart none = by_report policy _ (by_none _ _ none)

@@ -9,12 +9,7 @@ use Rattle.csp_model.specs.Governing.{Governor, governor}
 use Rattle.csp_model.specs.DecideVerdict.{allows}
 use Rattle.csp_model.specs.Verdict.{list_allows, allows_all, effective_name, item_of, items_from, is_enforce, is_enforced, through_enforced, shown_items, items_of, judged_checks}
 use Rattle.csp_model.proofs.VerdictDecided.{ungoverned}
-use Rattle.csp_model.specs.declared.check.Check.{Check}
-use Rattle.csp_model.specs.declared.check.Check.TheVariants as check
-use Rattle.csp_model.specs.declared.policy.Policy.{Policy}
-use Rattle.csp_model.specs.declared.policy.PolicyList.{PolicyList}
-use Rattle.csp_model.specs.declared.verdict.Item.{Item}
-use Rattle.csp_model.specs.declared.verdict.Verdict.{Verdict}
+use Rattle.csp_model.specs.Types.{Check, Policy, PolicyList, Item, Verdict}
 
 -- the item of the policy of this number by what governs
 abbrev pub item_by : ℕ → Policy → Check → Governor → Item
@@ -70,7 +65,7 @@ through_any [] = refl
 through_any (item ∷ items) = grind (arith, common_steps, through_any items)
 
 shown_any : (asked : Check) (items : List Item) → list_any is_enforced (shown_items asked items) ≡ list_any is_enforced items
-shown_any (check.Base there) items = through_any items
+shown_any (Check.Base there) items = through_any items
 shown_any asked items = refl
 
 -- a list blocks a check exactly where an item of the check is enforced

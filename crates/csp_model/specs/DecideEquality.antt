@@ -1,12 +1,9 @@
 -- Whether two hosts, ports, algorithms, hashes or keywords are one, as tests.
 use Rattle.std.specs.Prelude.{ℕ, ◌==◌, ◌&&◌, Bool, true, false, Option, Some, None}
 use Rattle.std.specs.Str.{bytes_eq}
-use Rattle.csp_model.specs.declared.source.Algorithm.{Algorithm}
+use Rattle.csp_model.specs.Grammar.{keyword_text}
+use Rattle.csp_model.specs.Types.{Algorithm, Hash, Keyword, Host}
 use Rattle.csp_model.specs.declared.source.Algorithm.TheVariants.{Sha256, Sha384, Sha512}
-use Rattle.csp_model.specs.declared.source.Hash.{Hash}
-use Rattle.csp_model.specs.declared.source.Keyword.{Keyword}
-use Rattle.csp_model.specs.declared.source.Keyword.TheVariants as keyword
-use Rattle.csp_model.specs.declared.url.Host.{Host}
 use Rattle.csp_model.specs.declared.url.Host.TheVariants.{Domain, Address}
 
 abbrev pub same_host : Host → Host → Bool
@@ -28,12 +25,6 @@ same_algorithm a b = false
 abbrev pub same_hash : Hash → Hash → Bool
 same_hash g h = same_algorithm g.algorithm h.algorithm && bytes_eq g.value h.value
 
+-- keywords are one where they are written alike
 abbrev pub same_keyword : Keyword → Keyword → Bool
-same_keyword keyword.SelfOrigin keyword.SelfOrigin = true
-same_keyword keyword.UnsafeInline keyword.UnsafeInline = true
-same_keyword keyword.UnsafeEval keyword.UnsafeEval = true
-same_keyword keyword.WasmUnsafeEval keyword.WasmUnsafeEval = true
-same_keyword keyword.StrictDynamic keyword.StrictDynamic = true
-same_keyword keyword.UnsafeHashes keyword.UnsafeHashes = true
-same_keyword keyword.ReportSample keyword.ReportSample = true
-same_keyword a b = false
+same_keyword a b = bytes_eq (keyword_text a) (keyword_text b)

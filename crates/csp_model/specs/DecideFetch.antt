@@ -5,27 +5,20 @@ use Rattle.csp_model.specs.DecideGoverning.{where_governed}
 use Rattle.csp_model.specs.Fetch.{is_redirected, fetch_rule}
 use Rattle.csp_model.specs.DecideMatching.{list_matches}
 use Rattle.csp_model.specs.DecideTokens.{has_keyword, nonce_matches, integrity_matches}
-use Rattle.csp_model.specs.declared.check.FetchRule.{FetchRule}
-use Rattle.csp_model.specs.declared.check.FetchRule.TheVariants as rule
-use Rattle.csp_model.specs.declared.check.Group.{Group}
-use Rattle.csp_model.specs.declared.source.Hash.{Hash}
-use Rattle.csp_model.specs.declared.source.Keyword.TheVariants as keyword
-use Rattle.csp_model.specs.declared.source.Source.{Source}
-use Rattle.csp_model.specs.declared.policy.Policy.{Policy}
-use Rattle.csp_model.specs.declared.url.Url.{Url}
+use Rattle.csp_model.specs.Types.{FetchRule, Group, Hash, Keyword, Source, Policy, Url}
 
 abbrev pub dynamic_or_listed : List Source → Bool → Bool → Bool
 dynamic_or_listed sources parser_inserted listed =
-    (has_keyword keyword.StrictDynamic sources && not parser_inserted)
-    || (not (has_keyword keyword.StrictDynamic sources) && listed)
+    (has_keyword Keyword.StrictDynamic sources && not parser_inserted)
+    || (not (has_keyword Keyword.StrictDynamic sources) && listed)
 
 abbrev pub sources_allow : FetchRule → List Source → List ℕ → List Hash → Bool → Bool → Bool
-sources_allow rule.Script sources nonce integrity parser_inserted listed =
+sources_allow FetchRule.Script sources nonce integrity parser_inserted listed =
     nonce_matches nonce sources
     || (integrity_matches integrity sources || dynamic_or_listed sources parser_inserted listed)
-sources_allow rule.Style sources nonce integrity parser_inserted listed =
+sources_allow FetchRule.Style sources nonce integrity parser_inserted listed =
     nonce_matches nonce sources || listed
-sources_allow rule.List sources nonce integrity parser_inserted listed = listed
+sources_allow FetchRule.List sources nonce integrity parser_inserted listed = listed
 
 abbrev pub fetch_allows : Policy → Group → Url → ℕ → List ℕ → List Hash → Bool → Bool
 fetch_allows policy kind there redirects nonce integrity parser_inserted =

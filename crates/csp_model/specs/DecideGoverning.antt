@@ -1,8 +1,7 @@
 -- What a policy allows by what governs, as a test. It says what `Governing.WhereGoverned` says.
 use Rattle.std.specs.Prelude.{Bool, true, Option, Some, None}
 use Rattle.csp_model.specs.Governing.{Governor, governor}
-use Rattle.csp_model.specs.declared.name.Name.{Name}
-use Rattle.csp_model.specs.declared.policy.Policy.{Policy}
+use Rattle.csp_model.specs.Types.{Name, Policy}
 
 abbrev pub allows_by : Option Governor → (Governor → Bool) → Bool
 allows_by None test = true

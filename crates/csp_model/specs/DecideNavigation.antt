@@ -8,14 +8,10 @@ use Rattle.csp_model.specs.DecideGoverning.{where_governed}
 use Rattle.csp_model.specs.Fetch.{is_redirected}
 use Rattle.csp_model.specs.Navigation.{capability_tokens}
 use Rattle.csp_model.specs.DecideMatching.{list_matches}
-use Rattle.csp_model.specs.declared.name.Name.{Name}
+use Rattle.csp_model.specs.Types.{Name, Capability, Disposition, Policy, Url}
 use Rattle.csp_model.specs.declared.name.Name.TheVariants.{BaseUri, FormAction, FrameAncestors, Sandbox}
-use Rattle.csp_model.specs.declared.check.Capability.{Capability}
 use Rattle.csp_model.specs.declared.check.Capability.TheVariants.{Scripts, SameOrigin}
-use Rattle.csp_model.specs.declared.policy.Disposition.{Disposition}
 use Rattle.csp_model.specs.declared.policy.Disposition.TheVariants.{Enforce, Report}
-use Rattle.csp_model.specs.declared.policy.Policy.{Policy}
-use Rattle.csp_model.specs.declared.url.Url.{Url}
 
 abbrev pub listed_allows : Policy → Name → Url → Bool → Bool
 listed_allows policy effective there redirected =

@@ -8,28 +8,24 @@ use Rattle.base64.specs.Engines.{standard}
 use Rattle.csp_model.specs.Ascii.{is_nonempty}
 use Rattle.csp_model.specs.DecideEquality.{same_keyword, same_hash}
 use Rattle.csp_model.specs.Tokens.{digest_by, plain_value}
-use Rattle.csp_model.specs.declared.source.Hash.{Hash}
-use Rattle.csp_model.specs.declared.source.Keyword.{Keyword}
-use Rattle.csp_model.specs.declared.source.Source.{Source}
-use Rattle.csp_model.specs.declared.source.Source.TheVariants as source
-use Rattle.csp_model.specs.declared.check.Digests.{Digests}
+use Rattle.csp_model.specs.Types.{Hash, Keyword, Source, Digests}
 
 abbrev pub is_keyword : Keyword → Source → Bool
-is_keyword word (source.Word other) = same_keyword other word
+is_keyword word (Source.Word other) = same_keyword other word
 is_keyword word s = false
 
 abbrev pub has_keyword : Keyword → List Source → Bool
 has_keyword word sources = list_any (is_keyword word) sources
 
 abbrev pub is_nonce : List ℕ → Source → Bool
-is_nonce nonce (source.Nonce value) = bytes_eq value nonce
+is_nonce nonce (Source.Nonce value) = bytes_eq value nonce
 is_nonce nonce s = false
 
 abbrev pub nonce_matches : List ℕ → List Source → Bool
 nonce_matches nonce sources = is_nonempty nonce && list_any (is_nonce nonce) sources
 
 abbrev pub is_hash : Hash → Source → Bool
-is_hash hash (source.Digest other) = same_hash other hash
+is_hash hash (Source.Digest other) = same_hash other hash
 is_hash hash s = false
 
 abbrev pub integrity_matches : List Hash → List Source → Bool
@@ -42,7 +38,7 @@ hash_matches hash digests =
 
 -- a hash-source that stands for one of these digests
 abbrev pub is_hash_of : Digests → Source → Bool
-is_hash_of digests (source.Digest hash) = hash_matches hash digests
+is_hash_of digests (Source.Digest hash) = hash_matches hash digests
 is_hash_of digests s = false
 
 abbrev pub digests_match : Digests → List Source → Bool

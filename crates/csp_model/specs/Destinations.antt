@@ -2,9 +2,7 @@
 use Rattle.std.specs.Prelude.{ℕ, List, [], ◌∷◌, Option, Some, None, codes}
 use Rattle.std.specs.List.{find}
 use Rattle.std.specs.Str.{bytes_eq}
-use Rattle.csp_model.specs.declared.check.Group.{Group}
-use Rattle.csp_model.specs.declared.check.Group.TheVariants as group
-use Rattle.csp_model.specs.declared.destination.Destination.{Destination}
+use Rattle.csp_model.specs.Types.{Group, Destination}
 use Rattle.csp_model.specs.declared.destination.Destination.TheVariants.{Empty, Manifest, Object, Embed, Frame, Iframe, Audio, Track, Video, Font, Image, Style, Script, Audioworklet, Paintworklet, Worker, Serviceworker, Sharedworker, Report}
 
 -- a destination as it is written
@@ -39,22 +37,22 @@ destination_named name = find (λ d. bytes_eq name (destination_text d)) destina
 
 -- the group of its fetches; a report has none
 abbrev pub group_of : Destination → Option Group
-group_of Empty = Some group.Connect
-group_of Manifest = Some group.Manifest
-group_of Object = Some group.Object
-group_of Embed = Some group.Object
-group_of Frame = Some group.Frame
-group_of Iframe = Some group.Frame
-group_of Audio = Some group.Media
-group_of Track = Some group.Media
-group_of Video = Some group.Media
-group_of Font = Some group.Font
-group_of Image = Some group.Img
-group_of Style = Some group.StyleElem
-group_of Script = Some group.ScriptElem
-group_of Audioworklet = Some group.ScriptElem
-group_of Paintworklet = Some group.ScriptElem
-group_of Worker = Some group.Worker
-group_of Serviceworker = Some group.Worker
-group_of Sharedworker = Some group.Worker
+group_of Empty = Some Group.Connect
+group_of Manifest = Some Group.Manifest
+group_of Object = Some Group.Object
+group_of Embed = Some Group.Object
+group_of Frame = Some Group.Frame
+group_of Iframe = Some Group.Frame
+group_of Audio = Some Group.Media
+group_of Track = Some Group.Media
+group_of Video = Some Group.Media
+group_of Font = Some Group.Font
+group_of Image = Some Group.Img
+group_of Style = Some Group.StyleElem
+group_of Script = Some Group.ScriptElem
+group_of Audioworklet = Some Group.ScriptElem
+group_of Paintworklet = Some Group.ScriptElem
+group_of Worker = Some Group.Worker
+group_of Serviceworker = Some Group.Worker
+group_of Sharedworker = Some Group.Worker
 group_of Report = None

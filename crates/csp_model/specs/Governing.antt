@@ -5,10 +5,8 @@ use Rattle.std.specs.Option.{option_map, MatchOption}
 use Rattle.std.specs.Str.{bytes_eq}
 use Rattle.csp_model.specs.Names.{name_text}
 use Rattle.csp_model.specs.Reading.{first_of}
-use Rattle.csp_model.specs.declared.name.Name.{Name}
+use Rattle.csp_model.specs.Types.{Name, Directive, Policy}
 use Rattle.csp_model.specs.declared.name.Name.TheVariants.{ConnectSrc, FontSrc, FrameSrc, ImgSrc, ManifestSrc, MediaSrc, ObjectSrc, StyleSrcElem, ScriptSrcElem, WorkerSrc, ScriptSrcAttr, StyleSrcAttr, ScriptSrc, StyleSrc, ChildSrc, DefaultSrc, BaseUri, FormAction, FrameAncestors, Sandbox}
-use Rattle.csp_model.specs.declared.policy.Directive.{Directive}
-use Rattle.csp_model.specs.declared.policy.Policy.{Policy}
 
 -- the names that may govern, the first one that the policy has before the others
 abbrev pub fallbacks : Name → List Name

@@ -9,15 +9,10 @@ pub use Rattle.csp_model.specs.Paths.{pieces_of}
 use Rattle.csp_model.specs.declared.source.Algorithm.{Algorithm}
 use Rattle.csp_model.specs.declared.source.Algorithm.TheVariants.{Sha256, Sha384, Sha512}
 use Rattle.csp_model.specs.declared.source.HostPart.{HostPart}
-use Rattle.csp_model.specs.declared.source.HostPart.TheVariants as host
 use Rattle.csp_model.specs.declared.source.PortPart.{PortPart}
-use Rattle.csp_model.specs.declared.source.PortPart.TheVariants as port
 use Rattle.csp_model.specs.declared.source.PathPart.{PathPart}
-use Rattle.csp_model.specs.declared.source.PathPart.TheVariants as path
 use Rattle.csp_model.specs.declared.source.Keyword.{Keyword}
-use Rattle.csp_model.specs.declared.source.Keyword.TheVariants as keyword
 use Rattle.csp_model.specs.declared.source.Source.{Source}
-use Rattle.csp_model.specs.declared.source.Source.TheVariants as source
 
 -- scheme = ALPHA *( ALPHA / DIGIT / "+" / "-" / "." )
 unfoldable pub is_scheme_char : ℕ → Bool
@@ -41,10 +36,10 @@ is_name text = list_all is_label (split_at (code ".") (without_final (code ".") 
 -- host-part = "*" / [ "*." ] name
 unfoldable pub host_part_of : List ℕ → Option HostPart
 host_part_of text =
-    if bytes_eq text (codes "*") then Some host.Any
+    if bytes_eq text (codes "*") then Some HostPart.Any
     else if starts_with nat_eq text (codes "*.") && is_name (drop 2 text)
-    then Some (host.Under (lower (drop 2 text)))
-    else if is_name text then Some (host.Exact (lower text))
+    then Some (HostPart.Under (lower (drop 2 text)))
+    else if is_name text then Some (HostPart.Exact (lower text))
     else None
 
 -- the number that decimal digits spell
@@ -55,14 +50,14 @@ abbrev pub are_digits : List ℕ → Bool
 are_digits text = is_nonempty text && list_all is_ascii_digit text
 
 abbrev pub port_numbered : ℕ → PortPart
-port_numbered n = if nat_lt n 65536 then port.Number n else port.TooLarge
+port_numbered n = if nat_lt n 65536 then PortPart.Number n else PortPart.TooLarge
 
 -- nothing, or ":" port-part, where port-part = 1*DIGIT / "*"
 unfoldable pub port_part_of : List ℕ → Option PortPart
-port_part_of [] = Some port.Absent
+port_part_of [] = Some PortPart.Absent
 port_part_of (c ∷ text) =
     if not (c == code ":") then None
-    else if bytes_eq text (codes "*") then Some port.Any
+    else if bytes_eq text (codes "*") then Some PortPart.Any
     else if are_digits text then Some (port_numbered (decimal_value text))
     else None
 
@@ -88,11 +83,11 @@ are_segments (s ∷ t ∷ rest) = is_nonempty s && list_all is_segment (s ∷ t 
 
 -- nothing, or path-part = path-absolute without ";" and ",": "/" [ segment-nz *( "/" segment ) ]
 unfoldable pub path_part_of : List ℕ → Option PathPart
-path_part_of [] = Some path.Absent
+path_part_of [] = Some PathPart.Absent
 path_part_of (c ∷ text) =
     if (c == code "/") && are_segments (split_at (code "/") text)
-    then Some (if ends_in (code "/") (c ∷ text) then path.Prefix (without_last (pieces_of text))
-    else path.Exact (pieces_of text))
+    then Some (if ends_in (code "/") (c ∷ text) then PathPart.Prefix (without_last (pieces_of text))
+    else PathPart.Exact (pieces_of text))
     else None
 
 -- nothing, or a scheme and "://"
@@ -115,13 +110,13 @@ IsSchemeSource token scheme = (letters : List ℕ) × (token ≡ letters ++ code
 
 -- keyword-source; its letters may be of either case
 abbrev pub keyword_text : Keyword → List ℕ
-keyword_text keyword.SelfOrigin = codes "'self'"
-keyword_text keyword.UnsafeInline = codes "'unsafe-inline'"
-keyword_text keyword.UnsafeEval = codes "'unsafe-eval'"
-keyword_text keyword.WasmUnsafeEval = codes "'wasm-unsafe-eval'"
-keyword_text keyword.StrictDynamic = codes "'strict-dynamic'"
-keyword_text keyword.UnsafeHashes = codes "'unsafe-hashes'"
-keyword_text keyword.ReportSample = codes "'report-sample'"
+keyword_text Keyword.SelfOrigin = codes "'self'"
+keyword_text Keyword.UnsafeInline = codes "'unsafe-inline'"
+keyword_text Keyword.UnsafeEval = codes "'unsafe-eval'"
+keyword_text Keyword.WasmUnsafeEval = codes "'wasm-unsafe-eval'"
+keyword_text Keyword.StrictDynamic = codes "'strict-dynamic'"
+keyword_text Keyword.UnsafeHashes = codes "'unsafe-hashes'"
+keyword_text Keyword.ReportSample = codes "'report-sample'"
 
 -- base64-value = 1*( ALPHA / DIGIT / "+" / "/" / "-" / "_" )*2( "=" )
 unfoldable pub is_base64_char : ℕ → Bool
@@ -154,19 +149,19 @@ algorithm_named name =
 
 -- the token is built as a source of one of the kinds, and this is its value
 abbrev pub IsKind : List ℕ → Source → Type 0
-IsKind token source.Star = token ≡ codes "*"
-IsKind token (source.SchemeOnly scheme) = IsSchemeSource token scheme
-IsKind token (source.Hosted scheme_part host_part port_part path_part) =
+IsKind token Source.Star = token ≡ codes "*"
+IsKind token (Source.SchemeOnly scheme) = IsSchemeSource token scheme
+IsKind token (Source.Hosted scheme_part host_part port_part path_part) =
     (token ≢ codes "*") × IsHostSource token scheme_part host_part port_part path_part
-IsKind token (source.Word word) = lower token ≡ keyword_text word
+IsKind token (Source.Word word) = lower token ≡ keyword_text word
 -- nonce-source = "'nonce-" base64-value "'"
-IsKind token (source.Nonce value) = IsQuoted (codes "'nonce-") token value
+IsKind token (Source.Nonce value) = IsQuoted (codes "'nonce-") token value
 -- hash-source = "'" hash-algorithm "-" base64-value "'"
-IsKind token (source.Digest hash) =
+IsKind token (Source.Digest hash) =
     IsQuoted (code "'" ∷ algorithm_text hash.algorithm ++ codes "-") token hash.value
-IsKind token (source.Other text) = ⊥
+IsKind token (Source.Other text) = ⊥
 
 -- what a token is: of a kind, or else nothing that matches
 abbrev pub IsSource : List ℕ → Source → Type 0
-IsSource token (source.Other text) = (text ≡ token) × ((kind : Source) → ¬ IsKind token kind)
+IsSource token (Source.Other text) = (text ≡ token) × ((kind : Source) → ¬ IsKind token kind)
 IsSource token kind = IsKind token kind

@@ -3,8 +3,7 @@
 use Rattle.std.specs.Prelude.{IsTrue}
 use Rattle.csp_model.specs.Validity.{IsValidCheck}
 use Rattle.csp_model.specs.Verdict.{list_allows}
-use Rattle.csp_model.specs.declared.check.Check.{Check}
-use Rattle.csp_model.specs.declared.policy.PolicyList.{PolicyList}
+use Rattle.csp_model.specs.Types.{Check, PolicyList}
 
 -- every valid check that the first list allows the second allows
 abbrev pub Subsumes : PolicyList → PolicyList → Type 0

@@ -9,45 +9,39 @@ use Rattle.csp_model.specs.Names.{inline_directive}
 use Rattle.csp_model.specs.Governing.{WhereGoverned}
 use Rattle.csp_model.specs.Tokens.{HasKeyword, NonceMatches, DigestsMatch}
 use Rattle.csp_model.specs.declared.name.Name.TheVariants.{ScriptSrc}
-use Rattle.csp_model.specs.declared.check.InlineKind.{InlineKind}
-use Rattle.csp_model.specs.declared.check.InlineKind.TheVariants as kind
-use Rattle.csp_model.specs.declared.check.Digests.{Digests}
-use Rattle.csp_model.specs.declared.source.Keyword.TheVariants as keyword
-use Rattle.csp_model.specs.declared.source.Source.{Source}
-use Rattle.csp_model.specs.declared.source.Source.TheVariants as source
-use Rattle.csp_model.specs.declared.policy.Policy.{Policy}
+use Rattle.csp_model.specs.Types.{InlineKind, Digests, Keyword, Source, Policy}
 
 -- the text of a script or a style element
 abbrev pub is_element_kind : InlineKind → Bool
-is_element_kind kind.Script = true
-is_element_kind kind.ScriptAttribute = false
-is_element_kind kind.Style = true
-is_element_kind kind.StyleAttribute = false
-is_element_kind kind.Navigation = false
+is_element_kind InlineKind.Script = true
+is_element_kind InlineKind.ScriptAttribute = false
+is_element_kind InlineKind.Style = true
+is_element_kind InlineKind.StyleAttribute = false
+is_element_kind InlineKind.Navigation = false
 
 -- code, and no style
 abbrev pub is_script_kind : InlineKind → Bool
-is_script_kind kind.Script = true
-is_script_kind kind.ScriptAttribute = true
-is_script_kind kind.Style = false
-is_script_kind kind.StyleAttribute = false
-is_script_kind kind.Navigation = true
+is_script_kind InlineKind.Script = true
+is_script_kind InlineKind.ScriptAttribute = true
+is_script_kind InlineKind.Style = false
+is_script_kind InlineKind.StyleAttribute = false
+is_script_kind InlineKind.Navigation = true
 
 abbrev pub is_nonce_or_hash : Source → Bool
-is_nonce_or_hash source.Star = false
-is_nonce_or_hash (source.SchemeOnly scheme) = false
-is_nonce_or_hash (source.Hosted scheme host port path) = false
-is_nonce_or_hash (source.Word word) = false
-is_nonce_or_hash (source.Nonce value) = true
-is_nonce_or_hash (source.Digest hash) = true
-is_nonce_or_hash (source.Other token) = false
+is_nonce_or_hash Source.Star = false
+is_nonce_or_hash (Source.SchemeOnly scheme) = false
+is_nonce_or_hash (Source.Hosted scheme host port path) = false
+is_nonce_or_hash (Source.Word word) = false
+is_nonce_or_hash (Source.Nonce value) = true
+is_nonce_or_hash (Source.Digest hash) = true
+is_nonce_or_hash (Source.Other token) = false
 
 -- all inline of the kind is allowed (6.7.3.2): 'unsafe-inline' acts where no nonce, hash or 'strict-dynamic'
 -- takes its place
 abbrev pub AllowsAllInline : InlineKind → List Source → Type 0
 AllowsAllInline which sources =
-    HasKeyword keyword.UnsafeInline sources × (list_any is_nonce_or_hash sources ≡ false)
-    × (IsTrue (is_script_kind which) → ¬ HasKeyword keyword.StrictDynamic sources)
+    HasKeyword Keyword.UnsafeInline sources × (list_any is_nonce_or_hash sources ≡ false)
+    × (IsTrue (is_script_kind which) → ¬ HasKeyword Keyword.StrictDynamic sources)
 
 -- a governing list allows the inline source (6.7.3.3); a hash counts for elements, and with 'unsafe-hashes'
 -- for attributes and navigations too
@@ -56,7 +50,7 @@ SourcesAllowInline which nonce digests sources =
     AllowsAllInline which sources
     ⊎ ((IsTrue (is_element_kind which) × NonceMatches nonce sources)
     ⊎ (DigestsMatch digests sources
-    × (IsTrue (is_element_kind which) ⊎ HasKeyword keyword.UnsafeHashes sources)))
+    × (IsTrue (is_element_kind which) ⊎ HasKeyword Keyword.UnsafeHashes sources)))
 
 -- the policy allows the inline source
 abbrev pub InlineAllows : Policy → InlineKind → List ℕ → Digests → Type 0
@@ -66,12 +60,12 @@ InlineAllows policy which nonce digests =
 
 -- the policy allows string compilation (4.3)
 abbrev pub EvalAllows : Policy → Type 0
-EvalAllows policy = WhereGoverned policy ScriptSrc (λ g. HasKeyword keyword.UnsafeEval g.directive.sources)
+EvalAllows policy = WhereGoverned policy ScriptSrc (λ g. HasKeyword Keyword.UnsafeEval g.directive.sources)
 
 -- the policy allows compilation of WebAssembly (4.4)
 abbrev pub WasmAllows : Policy → Type 0
 WasmAllows policy = WhereGoverned policy ScriptSrc (λ g.
-    HasKeyword keyword.UnsafeEval g.directive.sources ⊎ HasKeyword keyword.WasmUnsafeEval g.directive.sources)
+    HasKeyword Keyword.UnsafeEval g.directive.sources ⊎ HasKeyword Keyword.WasmUnsafeEval g.directive.sources)
 
 -- Elements and their nonces (6.7.3.1)
 

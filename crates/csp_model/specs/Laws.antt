@@ -1,11 +1,8 @@
 -- Words of the laws.
 use Rattle.std.specs.Prelude.{◌≡◌, All, Some, slice_get}
 use Rattle.csp_model.specs.Verdict.{Allows, effective_name}
-use Rattle.csp_model.specs.declared.check.Check.{Check}
+use Rattle.csp_model.specs.Types.{Check, Policy, PolicyList, Item}
 use Rattle.csp_model.specs.declared.policy.Disposition.TheVariants.{Enforce}
-use Rattle.csp_model.specs.declared.policy.Policy.{Policy}
-use Rattle.csp_model.specs.declared.policy.PolicyList.{PolicyList}
-use Rattle.csp_model.specs.declared.verdict.Item.{Item}
 
 -- each enforced policy of the list allows the check
 abbrev pub EnforcedAllow : PolicyList → Check → Type 0

@@ -27,5 +27,6 @@ pub mod Policies
 pub mod Reading
 pub mod Schemes
 pub mod Tokens
+pub mod Types
 pub mod Validity
 pub mod Verdict

@@ -1,18 +1,18 @@
 -- The names of directives, and what asks for which (Content Security Policy Level 3, sections 6.1 to 6.4,
 -- 6.8.1 and 6.8.2).
-use Rattle.std.specs.Prelude.{ℕ, List, [], ◌∷◌, Option, codes}
+use Rattle.std.specs.Prelude.{ℕ, List, Option, codes}
 use Rattle.std.specs.List.{find}
 use Rattle.std.specs.Str.{bytes_eq}
-use Rattle.csp_model.specs.declared.name.Name.{Name}
+use Rattle.csp_model.specs.Types.{Name, Group, InlineKind, Capability, Disposition}
 use Rattle.csp_model.specs.declared.name.Name.TheVariants.{ConnectSrc, FontSrc, FrameSrc, ImgSrc, ManifestSrc, MediaSrc, ObjectSrc, StyleSrcElem, ScriptSrcElem, WorkerSrc, ScriptSrcAttr, StyleSrcAttr, ScriptSrc, StyleSrc, ChildSrc, DefaultSrc, BaseUri, FormAction, FrameAncestors, Sandbox}
-use Rattle.csp_model.specs.declared.check.Group.{Group}
-use Rattle.csp_model.specs.declared.check.Group.TheVariants as group
-use Rattle.csp_model.specs.declared.check.InlineKind.{InlineKind}
-use Rattle.csp_model.specs.declared.check.InlineKind.TheVariants as kind
-use Rattle.csp_model.specs.declared.check.Capability.{Capability}
-use Rattle.csp_model.specs.declared.check.Capability.TheVariants as capability
-use Rattle.csp_model.specs.declared.policy.Disposition.{Disposition}
+use Rattle.csp_model.specs.declared.check.TheConstants.Capability as every_capability
+use Rattle.csp_model.specs.declared.check.TheConstants.InlineKind as every_kind
+use Rattle.csp_model.specs.declared.name.TheConstants.Name as every_name
 use Rattle.csp_model.specs.declared.policy.Disposition.TheVariants.{Enforce, Report}
+
+-- all names, in the order of their texts
+abbrev pub names : List Name
+names = every_name.ALL
 
 -- a name as it is written
 abbrev pub name_text : Name → List ℕ
@@ -39,45 +39,45 @@ name_text Sandbox = codes "sandbox"
 
 -- the effective directive of a fetch
 abbrev pub group_directive : Group → Name
-group_directive group.Connect = ConnectSrc
-group_directive group.Font = FontSrc
-group_directive group.Frame = FrameSrc
-group_directive group.Img = ImgSrc
-group_directive group.Manifest = ManifestSrc
-group_directive group.Media = MediaSrc
-group_directive group.Object = ObjectSrc
-group_directive group.StyleElem = StyleSrcElem
-group_directive group.ScriptElem = ScriptSrcElem
-group_directive group.Worker = WorkerSrc
+group_directive Group.Connect = ConnectSrc
+group_directive Group.Font = FontSrc
+group_directive Group.Frame = FrameSrc
+group_directive Group.Img = ImgSrc
+group_directive Group.Manifest = ManifestSrc
+group_directive Group.Media = MediaSrc
+group_directive Group.Object = ObjectSrc
+group_directive Group.StyleElem = StyleSrcElem
+group_directive Group.ScriptElem = ScriptSrcElem
+group_directive Group.Worker = WorkerSrc
+
+abbrev pub inline_kinds : List InlineKind
+inline_kinds = every_kind.ALL
 
 -- the effective directive of inline code or style
 abbrev pub inline_directive : InlineKind → Name
-inline_directive kind.Script = ScriptSrcElem
-inline_directive kind.ScriptAttribute = ScriptSrcAttr
-inline_directive kind.Style = StyleSrcElem
-inline_directive kind.StyleAttribute = StyleSrcAttr
-inline_directive kind.Navigation = ScriptSrcElem
+inline_directive InlineKind.Script = ScriptSrcElem
+inline_directive InlineKind.ScriptAttribute = ScriptSrcAttr
+inline_directive InlineKind.Style = StyleSrcElem
+inline_directive InlineKind.StyleAttribute = StyleSrcAttr
+inline_directive InlineKind.Navigation = ScriptSrcElem
 
 -- a capability of a sandbox as it is written
 abbrev pub capability_text : Capability → List ℕ
-capability_text capability.Forms = codes "forms"
-capability_text capability.Scripts = codes "scripts"
-capability_text capability.SameOrigin = codes "same-origin"
-capability_text capability.Popups = codes "popups"
-capability_text capability.PopupsToEscapeSandbox = codes "popups-to-escape-sandbox"
-capability_text capability.TopNavigation = codes "top-navigation"
-capability_text capability.TopNavigationByUserActivation = codes "top-navigation-by-user-activation"
-capability_text capability.Modals = codes "modals"
-capability_text capability.PointerLock = codes "pointer-lock"
-capability_text capability.OrientationLock = codes "orientation-lock"
-capability_text capability.Presentation = codes "presentation"
-capability_text capability.Downloads = codes "downloads"
+capability_text Capability.Forms = codes "forms"
+capability_text Capability.Scripts = codes "scripts"
+capability_text Capability.SameOrigin = codes "same-origin"
+capability_text Capability.Popups = codes "popups"
+capability_text Capability.PopupsToEscapeSandbox = codes "popups-to-escape-sandbox"
+capability_text Capability.TopNavigation = codes "top-navigation"
+capability_text Capability.TopNavigationByUserActivation = codes "top-navigation-by-user-activation"
+capability_text Capability.Modals = codes "modals"
+capability_text Capability.PointerLock = codes "pointer-lock"
+capability_text Capability.OrientationLock = codes "orientation-lock"
+capability_text Capability.Presentation = codes "presentation"
+capability_text Capability.Downloads = codes "downloads"
 
 abbrev pub capabilities : List Capability
-capabilities = capability.Forms ∷ capability.Scripts ∷ capability.SameOrigin ∷ capability.Popups
-    ∷ capability.PopupsToEscapeSandbox ∷ capability.TopNavigation ∷ capability.TopNavigationByUserActivation
-    ∷ capability.Modals ∷ capability.PointerLock ∷ capability.OrientationLock ∷ capability.Presentation
-    ∷ capability.Downloads ∷ []
+capabilities = every_capability.ALL
 
 -- the capability that is so written
 abbrev pub capability_named : List ℕ → Option Capability

@@ -7,11 +7,9 @@ use Rattle.csp_model.specs.Governing.{WhereGoverned}
 use Rattle.csp_model.specs.Matching.{ListMatches}
 use Rattle.csp_model.specs.Fetch.{is_redirected}
 use Rattle.csp_model.specs.declared.name.Name.TheVariants.{BaseUri, FormAction, FrameAncestors, Sandbox}
-use Rattle.csp_model.specs.declared.check.Capability.{Capability}
+use Rattle.csp_model.specs.Types.{Capability, Policy, Url}
 use Rattle.csp_model.specs.declared.check.Capability.TheVariants.{Scripts, SameOrigin, TopNavigationByUserActivation}
 use Rattle.csp_model.specs.declared.policy.Disposition.TheVariants.{Report}
-use Rattle.csp_model.specs.declared.policy.Policy.{Policy}
-use Rattle.csp_model.specs.declared.url.Url.{Url}
 
 -- base-uri (6.3.1)
 abbrev pub BaseAllows : Policy → Url → Type 0

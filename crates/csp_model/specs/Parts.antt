@@ -1,45 +1,39 @@
 -- The parts of a check, as far as a policy looks at them: of a URL with a host its host, its port and its
 -- path, of any other URL its scheme, and a nonce, integrity metadata and digests.
 use Rattle.std.specs.Prelude.{ℕ, Bool, true, false, List, Option, Some, None, is_some}
-use Rattle.csp_model.specs.declared.check.Check.{Check}
-use Rattle.csp_model.specs.declared.check.Check.TheVariants as check
-use Rattle.csp_model.specs.declared.check.Digests.{Digests}
-use Rattle.csp_model.specs.declared.check.CheckPart.{CheckPart}
+use Rattle.csp_model.specs.Types.{Check, Digests, CheckPart, Hash, Url}
 use Rattle.csp_model.specs.declared.check.CheckPart.TheVariants.{Host, Port, Path, PlainScheme, Nonce, Integrity, Digest}
-use Rattle.csp_model.specs.declared.source.Hash.{Hash}
-use Rattle.csp_model.specs.declared.url.Url.{Url}
-use Rattle.csp_model.specs.declared.url.Url.TheVariants as url
 
 -- the URL that a check is about
 abbrev pub checked_url : Check → Option Url
-checked_url (check.Fetch group there redirects nonce integrity parser_inserted) = Some there
-checked_url (check.Base there) = Some there
-checked_url (check.Form there redirects) = Some there
-checked_url (check.Ancestor there) = Some there
+checked_url (Check.Fetch group there redirects nonce integrity parser_inserted) = Some there
+checked_url (Check.Base there) = Some there
+checked_url (Check.Form there redirects) = Some there
+checked_url (Check.Ancestor there) = Some there
 checked_url asked = None
 
 -- the nonce that it carries
 abbrev pub checked_nonce : Check → Option (List ℕ)
-checked_nonce (check.Fetch group there redirects nonce integrity parser_inserted) = Some nonce
-checked_nonce (check.Inline kind nonce digests) = Some nonce
+checked_nonce (Check.Fetch group there redirects nonce integrity parser_inserted) = Some nonce
+checked_nonce (Check.Inline kind nonce digests) = Some nonce
 checked_nonce asked = None
 
 -- its integrity metadata
 abbrev pub checked_integrity : Check → Option (List Hash)
-checked_integrity (check.Fetch group there redirects nonce integrity parser_inserted) = Some integrity
+checked_integrity (Check.Fetch group there redirects nonce integrity parser_inserted) = Some integrity
 checked_integrity asked = None
 
 -- the digests of its text
 abbrev pub checked_digests : Check → Option Digests
-checked_digests (check.Inline kind nonce digests) = Some digests
+checked_digests (Check.Inline kind nonce digests) = Some digests
 checked_digests asked = None
 
 abbrev pub is_hosted : Option Url → Bool
-is_hosted (Some (url.Hosted scheme host port path)) = true
+is_hosted (Some (Url.Hosted scheme host port path)) = true
 is_hosted there = false
 
 abbrev pub is_plain : Option Url → Bool
-is_plain (Some (url.Plain scheme)) = true
+is_plain (Some (Url.Plain scheme)) = true
 is_plain there = false
 
 -- the check has the part

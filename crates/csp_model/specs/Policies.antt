@@ -8,12 +8,8 @@ use Rattle.std.specs.Str.{bytes_eq}
 use Rattle.csp_model.specs.Ascii.{code, lower, is_ascii_text, words, split_at}
 use Rattle.csp_model.specs.Reading.{source_of}
 use Rattle.csp_model.specs.Validity.{IsValidOrigin}
-use Rattle.csp_model.specs.declared.policy.Directive.{Directive}
-use Rattle.csp_model.specs.declared.policy.Disposition.{Disposition}
+use Rattle.csp_model.specs.Types.{Directive, Disposition, Policy, PolicyList, Origin}
 use Rattle.csp_model.specs.declared.policy.Disposition.TheVariants.{Enforce, Report}
-use Rattle.csp_model.specs.declared.policy.Policy.{Policy}
-use Rattle.csp_model.specs.declared.policy.PolicyList.{PolicyList}
-use Rattle.csp_model.specs.declared.url.Origin.{Origin}
 
 -- Serialized policies (section 2.2.1)
 

@@ -6,12 +6,9 @@ use Rattle.std.specs.Option.{option_map, option_and_then}
 use Rattle.std.specs.Str.{bytes_eq}
 use Rattle.csp_model.specs.Ascii.{code, lower, ends_in, without_last, skip_while}
 use Rattle.csp_model.specs.Grammar.{is_scheme_char, is_scheme, is_label_char, host_part_of, port_part_of, path_part_of, keyword_text, is_base64_value, algorithm_text}
-use Rattle.csp_model.specs.declared.source.Algorithm.{Algorithm}
+use Rattle.csp_model.specs.Types.{Algorithm, Keyword, Source}
 use Rattle.csp_model.specs.declared.source.Algorithm.TheVariants.{Sha256, Sha384, Sha512}
-use Rattle.csp_model.specs.declared.source.Keyword.{Keyword}
-use Rattle.csp_model.specs.declared.source.Keyword.TheVariants as keyword
-use Rattle.csp_model.specs.declared.source.Source.{Source}
-use Rattle.csp_model.specs.declared.source.Source.TheVariants as source
+use Rattle.csp_model.specs.declared.source.TheConstants.Keyword as every_keyword
 
 unfoldable pub is_host_char : ℕ → Bool
 is_host_char c = is_label_char c || c == code "." || c == code "*"
@@ -22,7 +19,7 @@ is_no_slash c = not (c == code "/")
 -- a host-source behind its scheme-part
 unfoldable pub authority : Option (List ℕ) → List ℕ → Option Source
 authority scheme text =
-    option_and_then (λ host. option_and_then (λ port. option_map (λ path. source.Hosted scheme host port path)
+    option_and_then (λ host. option_and_then (λ port. option_map (λ path. Source.Hosted scheme host port path)
     (path_part_of (skip_while is_no_slash (skip_while is_host_char text))))
     (port_part_of (take_while is_no_slash (skip_while is_host_char text))))
     (host_part_of (take_while is_host_char text))
@@ -37,18 +34,16 @@ host_source token =
 unfoldable pub scheme_source : List ℕ → Option Source
 scheme_source token =
     if ends_in (code ":") token && is_scheme (without_last token)
-    then Some (source.SchemeOnly (lower (without_last token)))
+    then Some (Source.SchemeOnly (lower (without_last token)))
     else None
 
 -- the keywords that act
 abbrev pub keywords : List Keyword
-keywords =
-    keyword.SelfOrigin ∷ keyword.UnsafeInline ∷ keyword.UnsafeEval ∷ keyword.WasmUnsafeEval
-    ∷ keyword.StrictDynamic ∷ keyword.UnsafeHashes ∷ keyword.ReportSample ∷ []
+keywords = every_keyword.ALL
 
 unfoldable pub keyword_source : List ℕ → Option Source
 keyword_source token =
-    option_map (λ word. source.Word word) (find (λ word. bytes_eq (lower token) (keyword_text word)) keywords)
+    option_map (λ word. Source.Word word) (find (λ word. bytes_eq (lower token) (keyword_text word)) keywords)
 
 -- the base64-value between a word and "'"
 unfoldable pub quoted_value : List ℕ → List ℕ → Option (List ℕ)
@@ -59,11 +54,11 @@ quoted_value word token =
     else None
 
 unfoldable pub nonce_source : List ℕ → Option Source
-nonce_source token = option_map (λ value. source.Nonce value) (quoted_value (codes "'nonce-") token)
+nonce_source token = option_map (λ value. Source.Nonce value) (quoted_value (codes "'nonce-") token)
 
 unfoldable pub hash_source : Algorithm → List ℕ → Option Source
 hash_source algorithm token =
-    option_map (λ value. source.Digest (record { algorithm = algorithm; value = value }))
+    option_map (λ value. Source.Digest (record { algorithm = algorithm; value = value }))
     (quoted_value (code "'" ∷ algorithm_text algorithm ++ codes "-") token)
 
 -- the first of some answers that is one
@@ -80,4 +75,4 @@ kind_of token = first_of (scheme_source token ∷ host_source token ∷ keyword_
 -- what a token stands for
 unfoldable pub source_of : List ℕ → Source
 source_of token =
-    if bytes_eq token (codes "*") then source.Star else unwrap_or (kind_of token) (source.Other token)
+    if bytes_eq token (codes "*") then Source.Star else unwrap_or (kind_of token) (Source.Other token)

@@ -4,27 +4,20 @@ use Rattle.std.specs.Prelude.{◌≡◌, ◌≢◌, ℕ, ◌==◌, if◌then◌e
 use Rattle.base64.specs.GeneralPurpose.{encode_of}
 use Rattle.base64.specs.Engines.{standard}
 use Rattle.csp_model.specs.Ascii.{code}
-use Rattle.csp_model.specs.declared.source.Algorithm.{Algorithm}
+use Rattle.csp_model.specs.Types.{Algorithm, Hash, Keyword, Source, Digest, Digests}
 use Rattle.csp_model.specs.declared.source.Algorithm.TheVariants.{Sha256, Sha384, Sha512}
-use Rattle.csp_model.specs.declared.source.Hash.{Hash}
-use Rattle.csp_model.specs.declared.source.Keyword.{Keyword}
-use Rattle.csp_model.specs.declared.source.Source.{Source}
-use Rattle.csp_model.specs.declared.source.Source.TheVariants as source
-use Rattle.csp_model.specs.declared.check.Digest.{Digest}
-use Rattle.csp_model.specs.declared.check.Digest.TheVariants as one
-use Rattle.csp_model.specs.declared.check.Digests.{Digests}
 
 abbrev pub HasKeyword : Keyword → List Source → Type 0
-HasKeyword word sources = Contains sources (source.Word word)
+HasKeyword word sources = Contains sources (Source.Word word)
 
 -- a nonce matches a source list: it isn't empty, and a nonce-source has it
 abbrev pub NonceMatches : List ℕ → List Source → Type 0
-NonceMatches nonce sources = (nonce ≢ []) × Contains sources (source.Nonce nonce)
+NonceMatches nonce sources = (nonce ≢ []) × Contains sources (Source.Nonce nonce)
 
 -- integrity metadata matches a source list: it isn't empty, and each of its pairs is a hash-source
 abbrev pub IntegrityMatches : List Hash → List Source → Type 0
 IntegrityMatches integrity sources =
-    (integrity ≢ []) × All (λ h. Contains sources (source.Digest h)) integrity
+    (integrity ≢ []) × All (λ h. Contains sources (Source.Digest h)) integrity
 
 -- the digest of one algorithm
 abbrev pub digest_by : Algorithm → Digests → List ℕ
@@ -33,14 +26,14 @@ digest_by Sha384 digests = digests.sha384
 digest_by Sha512 digests = digests.sha512
 
 abbrev pub algorithm_of : Digest → Algorithm
-algorithm_of (one.Sha256 d) = Sha256
-algorithm_of (one.Sha384 d) = Sha384
-algorithm_of (one.Sha512 d) = Sha512
+algorithm_of (Digest.Sha256 d) = Sha256
+algorithm_of (Digest.Sha384 d) = Sha384
+algorithm_of (Digest.Sha512 d) = Sha512
 
 abbrev pub bytes_of : Digest → List ℕ
-bytes_of (one.Sha256 d) = d
-bytes_of (one.Sha384 d) = d
-bytes_of (one.Sha512 d) = d
+bytes_of (Digest.Sha256 d) = d
+bytes_of (Digest.Sha384 d) = d
+bytes_of (Digest.Sha512 d) = d
 
 -- how many bytes a digest of the algorithm has (FIPS 180-4)
 abbrev pub size_of : Algorithm → ℕ
@@ -65,7 +58,7 @@ abbrev pub HashMatches : Hash → Digests → Type 0
 HashMatches hash digests = StandsFor hash.value (digest_by hash.algorithm digests)
 
 abbrev pub IsHashOf : Digests → Source → Type 0
-IsHashOf digests (source.Digest hash) = HashMatches hash digests
+IsHashOf digests (Source.Digest hash) = HashMatches hash digests
 IsHashOf digests other = ⊥
 
 -- some hash-source of the list is one of these digests

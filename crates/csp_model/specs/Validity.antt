@@ -12,13 +12,10 @@ use Rattle.csp_model.specs.declared.url.Scheme.TheVariants.{Http, Https}
 use Rattle.csp_model.specs.declared.url.Host.{Host}
 use Rattle.csp_model.specs.declared.url.Host.TheVariants.{Domain, Address}
 use Rattle.csp_model.specs.declared.url.Origin.{Origin}
-use Rattle.csp_model.specs.declared.url.Origin.TheVariants as origin
 use Rattle.csp_model.specs.declared.url.Url.{Url}
-use Rattle.csp_model.specs.declared.url.Url.TheVariants as url
 use Rattle.csp_model.specs.declared.source.Hash.{Hash}
 use Rattle.csp_model.specs.declared.check.Digests.{Digests}
 use Rattle.csp_model.specs.declared.check.Check.{Check}
-use Rattle.csp_model.specs.declared.check.Check.TheVariants as check
 
 -- a byte that a domain may hold: no control, space, upper-case letter or forbidden domain code point
 unfoldable pub is_domain_byte : ℕ → Bool
@@ -87,14 +84,14 @@ unfoldable pub is_lower_scheme : List ℕ → Bool
 is_lower_scheme text = is_scheme text && bytes_eq (lower text) text
 
 abbrev pub IsValidUrl : Url → Type 0
-IsValidUrl (url.Plain scheme) = IsTrue (is_lower_scheme scheme) × IsNone (scheme_named scheme)
-IsValidUrl (url.Hosted scheme host port path) =
+IsValidUrl (Url.Plain scheme) = IsTrue (is_lower_scheme scheme) × IsNone (scheme_named scheme)
+IsValidUrl (Url.Hosted scheme host port path) =
     IsValidHost host × IsValidPort scheme port × (path ≢ []) × IsTrue (list_all is_piece path)
 
 -- an origin that a policy may have: opaque, or of http or https
 abbrev pub IsValidOrigin : Origin → Type 0
-IsValidOrigin origin.Opaque = ⊤
-IsValidOrigin (origin.Tuple scheme host port) =
+IsValidOrigin Origin.Opaque = ⊤
+IsValidOrigin (Origin.Tuple scheme host port) =
     ((scheme ≡ Http) ⊎ (scheme ≡ Https)) × IsValidHost host × IsValidPort scheme port
 
 -- a value as integrity metadata can hold it: a text without ASCII whitespace and "?"
@@ -114,20 +111,20 @@ pub record IsValidDigests (digests : Digests) : Type 0 where
 
 -- an ancestor is known by its origin: its path is one empty piece
 abbrev pub IsOriginUrl : Url → Type 0
-IsOriginUrl (url.Plain scheme) = ⊤
-IsOriginUrl (url.Hosted scheme host port path) = path ≡ [] ∷ []
+IsOriginUrl (Url.Plain scheme) = ⊤
+IsOriginUrl (Url.Hosted scheme host port path) = path ≡ [] ∷ []
 
 -- a check that a page can make
 abbrev pub IsValidCheck : Check → Type 0
-IsValidCheck (check.Fetch group there redirects nonce integrity parser_inserted) =
+IsValidCheck (Check.Fetch group there redirects nonce integrity parser_inserted) =
     IsValidUrl there × (redirects < 2 ^ 32) × IsUtf8 nonce
     × All (λ (h : Hash). IsIntegrityValue h.value) integrity
-IsValidCheck (check.Inline kind nonce digests) = IsUtf8 nonce × IsValidDigests digests
-IsValidCheck check.Eval = ⊤
-IsValidCheck check.Wasm = ⊤
-IsValidCheck (check.Base there) = IsValidUrl there
-IsValidCheck (check.Form there redirects) = IsValidUrl there × (redirects < 2 ^ 32)
-IsValidCheck (check.Ancestor there) = IsValidUrl there × IsOriginUrl there
-IsValidCheck check.OpaqueAncestor = ⊤
-IsValidCheck (check.Capability capability) = ⊤
-IsValidCheck check.WorkerStart = ⊤
+IsValidCheck (Check.Inline kind nonce digests) = IsUtf8 nonce × IsValidDigests digests
+IsValidCheck Check.Eval = ⊤
+IsValidCheck Check.Wasm = ⊤
+IsValidCheck (Check.Base there) = IsValidUrl there
+IsValidCheck (Check.Form there redirects) = IsValidUrl there × (redirects < 2 ^ 32)
+IsValidCheck (Check.Ancestor there) = IsValidUrl there × IsOriginUrl there
+IsValidCheck Check.OpaqueAncestor = ⊤
+IsValidCheck (Check.Capability capability) = ⊤
+IsValidCheck Check.WorkerStart = ⊤

@@ -11,35 +11,26 @@ use Rattle.csp_model.specs.Navigation.{BaseAllows, FormAllows, AncestorAllows, O
 use Rattle.csp_model.specs.DecideVerdict.{allows}
 use Rattle.csp_model.specs.DecideTokens.{has_keyword}
 use Rattle.csp_model.specs.Policies.{policy_text}
-use Rattle.csp_model.specs.declared.name.Name.{Name}
+use Rattle.csp_model.specs.Types.{Name, Check, Keyword, Disposition, Policy, PolicyList, Item, Verdict}
+use Rattle.csp_model.specs.Types.{Described, Violation}
 use Rattle.csp_model.specs.declared.name.Name.TheVariants.{ScriptSrc, BaseUri, FormAction, FrameAncestors, Sandbox}
-use Rattle.csp_model.specs.declared.check.Check.{Check}
-use Rattle.csp_model.specs.declared.check.Check.TheVariants as check
-use Rattle.csp_model.specs.declared.source.Keyword.TheVariants as keyword
-use Rattle.csp_model.specs.declared.policy.Disposition.{Disposition}
 use Rattle.csp_model.specs.declared.policy.Disposition.TheVariants.{Enforce, Report}
-use Rattle.csp_model.specs.declared.policy.Policy.{Policy}
-use Rattle.csp_model.specs.declared.policy.PolicyList.{PolicyList}
-use Rattle.csp_model.specs.declared.verdict.Item.{Item}
-use Rattle.csp_model.specs.declared.verdict.Verdict.{Verdict}
-use Rattle.csp_model.specs.declared.verdict.Described.{Described}
-use Rattle.csp_model.specs.declared.verdict.Violation.{Violation}
 
 -- What is allowed
 
 -- a policy allows a check, whatever its disposition
 abbrev pub Allows : Policy → Check → Type 0
-Allows policy (check.Fetch group there redirects nonce integrity parser_inserted) =
+Allows policy (Check.Fetch group there redirects nonce integrity parser_inserted) =
     FetchAllows policy group there redirects nonce integrity parser_inserted
-Allows policy (check.Inline kind nonce digests) = InlineAllows policy kind nonce digests
-Allows policy check.Eval = EvalAllows policy
-Allows policy check.Wasm = WasmAllows policy
-Allows policy (check.Base there) = BaseAllows policy there
-Allows policy (check.Form there redirects) = FormAllows policy there redirects
-Allows policy (check.Ancestor there) = AncestorAllows policy there
-Allows policy check.OpaqueAncestor = OpaqueAncestorAllows policy
-Allows policy (check.Capability capability) = CapabilityAllows policy capability
-Allows policy check.WorkerStart = WorkerStartAllows policy
+Allows policy (Check.Inline kind nonce digests) = InlineAllows policy kind nonce digests
+Allows policy Check.Eval = EvalAllows policy
+Allows policy Check.Wasm = WasmAllows policy
+Allows policy (Check.Base there) = BaseAllows policy there
+Allows policy (Check.Form there redirects) = FormAllows policy there redirects
+Allows policy (Check.Ancestor there) = AncestorAllows policy there
+Allows policy Check.OpaqueAncestor = OpaqueAncestorAllows policy
+Allows policy (Check.Capability capability) = CapabilityAllows policy capability
+Allows policy Check.WorkerStart = WorkerStartAllows policy
 
 abbrev pub is_enforce : Disposition → Bool
 is_enforce Enforce = true
@@ -68,16 +59,16 @@ allows_all list checks = list_all (list_allows list) checks
 
 -- the directive that a check asks for
 abbrev pub effective_name : Check → Name
-effective_name (check.Fetch group there redirects nonce integrity parser_inserted) = group_directive group
-effective_name (check.Inline kind nonce digests) = inline_directive kind
-effective_name check.Eval = ScriptSrc
-effective_name check.Wasm = ScriptSrc
-effective_name (check.Base there) = BaseUri
-effective_name (check.Form there redirects) = FormAction
-effective_name (check.Ancestor there) = FrameAncestors
-effective_name check.OpaqueAncestor = FrameAncestors
-effective_name (check.Capability capability) = Sandbox
-effective_name check.WorkerStart = Sandbox
+effective_name (Check.Fetch group there redirects nonce integrity parser_inserted) = group_directive group
+effective_name (Check.Inline kind nonce digests) = inline_directive kind
+effective_name Check.Eval = ScriptSrc
+effective_name Check.Wasm = ScriptSrc
+effective_name (Check.Base there) = BaseUri
+effective_name (Check.Form there redirects) = FormAction
+effective_name (Check.Ancestor there) = FrameAncestors
+effective_name Check.OpaqueAncestor = FrameAncestors
+effective_name (Check.Capability capability) = Sandbox
+effective_name Check.WorkerStart = Sandbox
 
 -- the item of the policy of this number, where what governs in it doesn't allow the check
 abbrev pub item_of : ℕ → Policy → Check → Option Item
@@ -106,7 +97,7 @@ through_enforced (item ∷ items) = if is_enforced item then item ∷ [] else it
 
 -- a base check ends at the first enforced policy that doesn't allow it
 abbrev pub shown_items : Check → List Item → List Item
-shown_items (check.Base there) items = through_enforced items
+shown_items (Check.Base there) items = through_enforced items
 shown_items asked items = items
 
 -- the items of a check
@@ -128,27 +119,27 @@ verdict_of list checks =
 
 -- a sandbox makes no report
 abbrev pub is_reported : Check → Bool
-is_reported (check.Fetch group there redirects nonce integrity parser_inserted) = true
-is_reported (check.Inline kind nonce digests) = true
-is_reported check.Eval = true
-is_reported check.Wasm = true
-is_reported (check.Base there) = true
-is_reported (check.Form there redirects) = true
-is_reported (check.Ancestor there) = true
-is_reported check.OpaqueAncestor = true
-is_reported (check.Capability capability) = false
-is_reported check.WorkerStart = false
+is_reported (Check.Fetch group there redirects nonce integrity parser_inserted) = true
+is_reported (Check.Inline kind nonce digests) = true
+is_reported Check.Eval = true
+is_reported Check.Wasm = true
+is_reported (Check.Base there) = true
+is_reported (Check.Form there redirects) = true
+is_reported (Check.Ancestor there) = true
+is_reported Check.OpaqueAncestor = true
+is_reported (Check.Capability capability) = false
+is_reported Check.WorkerStart = false
 
 -- a report may show a sample of the source
 abbrev pub has_sample : Check → Bool
-has_sample (check.Inline kind nonce digests) = true
-has_sample check.Eval = true
+has_sample (Check.Inline kind nonce digests) = true
+has_sample Check.Eval = true
 has_sample asked = false
 
 -- it does, where what governs asks for samples
 abbrev pub is_sampled : Policy → Check → Bool
 is_sampled policy asked =
-    has_sample asked && unwrap_or (option_map (λ g. has_keyword keyword.ReportSample g.directive.sources)
+    has_sample asked && unwrap_or (option_map (λ g. has_keyword Keyword.ReportSample g.directive.sources)
     (governor policy (effective_name asked))) false
 
 -- the violation of this policy for an item

@@ -86,6 +86,15 @@ pub enum InlineKind {
 }
 
 impl InlineKind {
+    /// All kinds, in the order in which they are declared.
+    pub const ALL: [InlineKind; 5] = [
+        InlineKind::Script,
+        InlineKind::ScriptAttribute,
+        InlineKind::Style,
+        InlineKind::StyleAttribute,
+        InlineKind::Navigation,
+    ];
+
     /// The effective directive of the kind (Content Security Policy Level 3, section 6.8.2).
     pub fn directive(self) -> Name
         ensures { result ≡ inline_directive self }
@@ -117,6 +126,22 @@ pub enum Capability {
 }
 
 impl Capability {
+    /// All capabilities, in the order in which they are declared.
+    pub const ALL: [Capability; 12] = [
+        Capability::Forms,
+        Capability::Scripts,
+        Capability::SameOrigin,
+        Capability::Popups,
+        Capability::PopupsToEscapeSandbox,
+        Capability::TopNavigation,
+        Capability::TopNavigationByUserActivation,
+        Capability::Modals,
+        Capability::PointerLock,
+        Capability::OrientationLock,
+        Capability::Presentation,
+        Capability::Downloads,
+    ];
+
     /// The capability as it is written, as `same-origin`. Its sandbox token has `allow-` before it.
     pub fn as_str(self) -> &'static str
         ensures { result.now ≡ capability_text self }
@@ -141,21 +166,10 @@ impl Capability {
     pub fn from_name(name: &str) -> Option<Capability>
         ensures { result ≡ capability_named name.now }
     {
-        match name {
-            "forms" => Some(Capability::Forms),
-            "scripts" => Some(Capability::Scripts),
-            "same-origin" => Some(Capability::SameOrigin),
-            "popups" => Some(Capability::Popups),
-            "popups-to-escape-sandbox" => Some(Capability::PopupsToEscapeSandbox),
-            "top-navigation" => Some(Capability::TopNavigation),
-            "top-navigation-by-user-activation" => Some(Capability::TopNavigationByUserActivation),
-            "modals" => Some(Capability::Modals),
-            "pointer-lock" => Some(Capability::PointerLock),
-            "orientation-lock" => Some(Capability::OrientationLock),
-            "presentation" => Some(Capability::Presentation),
-            "downloads" => Some(Capability::Downloads),
-            _ => None,
-        }
+        Capability::ALL
+            .iter()
+            .copied()
+            .find(|capability| name == capability.as_str())
     }
 }
 

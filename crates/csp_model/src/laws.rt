@@ -16,21 +16,9 @@ ghost use Rattle.csp_model.specs.Tokens.{HasKeyword, NonceMatches, IntegrityMatc
 ghost use Rattle.csp_model.specs.Validity.{IsValidCheck};
 ghost use Rattle.csp_model.specs.DecideVerdict.{allows};
 ghost use Rattle.csp_model.specs.Verdict.{Allows, allows_all, items_from, items_of, list_allows, shown_items, verdict_of};
-ghost use Rattle.csp_model.specs.declared.check.Check.{Check};
-ghost use Rattle.csp_model.specs.declared.check.Digests.{Digests};
-ghost use Rattle.csp_model.specs.declared.name.Name.{Name};
-ghost use Rattle.csp_model.specs.declared.policy.Directive.{Directive};
+ghost use Rattle.csp_model.specs.Types.{Check, Digests, Name, Directive, Policy, PolicyList, Algorithm, Hash};
+ghost use Rattle.csp_model.specs.Types.{Keyword, Source, Host, Origin, Url, Item};
 ghost use Rattle.csp_model.specs.declared.policy.Disposition.TheVariants.{Report};
-ghost use Rattle.csp_model.specs.declared.policy.Policy.{Policy};
-ghost use Rattle.csp_model.specs.declared.policy.PolicyList.{PolicyList};
-ghost use Rattle.csp_model.specs.declared.source.Algorithm.{Algorithm};
-ghost use Rattle.csp_model.specs.declared.source.Hash.{Hash};
-ghost use Rattle.csp_model.specs.declared.source.Keyword.{Keyword};
-ghost use Rattle.csp_model.specs.declared.source.Source.{Source};
-ghost use Rattle.csp_model.specs.declared.url.Host.{Host};
-ghost use Rattle.csp_model.specs.declared.url.Origin.{Origin};
-ghost use Rattle.csp_model.specs.declared.url.Url.{Url};
-ghost use Rattle.csp_model.specs.declared.verdict.Item.{Item};
 
 /// Two hosts, ports, algorithms, hashes or keywords are one by their test exactly where they are equal.
 pub fn tests_of_equality_decide_it()

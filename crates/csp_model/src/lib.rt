@@ -19,6 +19,7 @@ mod policy;
 mod scheme;
 mod source;
 mod text;
+mod trace;
 mod url;
 mod verdict;
 
@@ -39,5 +40,6 @@ pub use policy::{Directive, Disposition, Policy, PolicyList};
 pub use scheme::is_lower_scheme;
 pub use source::{Algorithm, Hash, HostPart, Keyword, PathPart, PortPart, Source};
 pub use text::{Bytes, Text, is_ascii_text};
+pub use trace::Trace;
 pub use url::{Host, Origin, Scheme, Url};
 pub use verdict::{Described, Item, Verdict, Violation};

@@ -58,6 +58,34 @@ pub enum Keyword {
     ReportSample,
 }
 
+impl Keyword {
+    /// All keywords, in the order in which they are declared.
+    pub const ALL: [Keyword; 7] = [
+        Keyword::SelfOrigin,
+        Keyword::UnsafeInline,
+        Keyword::UnsafeEval,
+        Keyword::WasmUnsafeEval,
+        Keyword::StrictDynamic,
+        Keyword::UnsafeHashes,
+        Keyword::ReportSample,
+    ];
+
+    /// The keyword as it is written, in lower case and with its quotes.
+    pub fn as_str(self) -> &'static str
+        ensures { result.now ≡ spec.keyword_text self }
+    {
+        match self {
+            Keyword::SelfOrigin => "'self'",
+            Keyword::UnsafeInline => "'unsafe-inline'",
+            Keyword::UnsafeEval => "'unsafe-eval'",
+            Keyword::WasmUnsafeEval => "'wasm-unsafe-eval'",
+            Keyword::StrictDynamic => "'strict-dynamic'",
+            Keyword::UnsafeHashes => "'unsafe-hashes'",
+            Keyword::ReportSample => "'report-sample'",
+        }
+    }
+}
+
 /// The host of a host-source, in lower case.
 #[derive(Debug, PartialEq, Eq, Drop)]
 pub enum HostPart {

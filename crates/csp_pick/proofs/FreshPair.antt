@@ -1,12 +1,11 @@
--- Values of integrity metadata: base64-values are some, and letters are, of which there is one that is longer than all of a list.
-use Rattle.std.proofs.Common.{◌≡◌, ◌∙◌, ap, refl, sym, subst, ℕ, ◌+◌, ◌≤◌, Bool, true, false, not, ◌&&◌, nat_lt, List, [], ◌∷◌, length, replicate, All, Contains, arith}
+-- Values of integrity metadata: base64-values are some, and `other` with a number or none.
+use Rattle.std.proofs.Common.{◌≡◌, ◌≢◌, refl, sym, subst, ℕ, Bool, true, false, not, ◌&&◌, nat_lt, List, [], ◌∷◌, Some, All, Contains, arith, codes}
 use Rattle.std.specs.Prelude.{◌==◌, if◌then◌else◌}
 use Rattle.std.specs.Char.{is_ascii_whitespace}
 use Rattle.std.specs.List.{list_all}
 use Rattle.std.proofs.lemmas.Bool.{and_parts}
 use Rattle.std.proofs.lemmas.Bool.Decides.{nat_tests}
-use Rattle.std.proofs.lemmas.List.{length-replicate}
-use Rattle.std.proofs.lemmas.List.Elements.{All-nil, All-cons, All-append, All-weaker, All-replicate, All-contains}
+use Rattle.std.proofs.lemmas.List.Elements.{All-nil, All-cons, All-append, All-weaker, All-contains}
 use Rattle.std.proofs.lemmas.List.Sums.{AllPass-from_list_all, list_all-from_AllPass}
 use Rattle.csp_model.proofs.AsciiLaws.{IsUtf8-from_ascii_text}
 use Rattle.csp_model.proofs.FinalBytes.{ends_in_front}
@@ -14,6 +13,8 @@ use Rattle.csp_model.specs.Ascii.{is_nonempty, ends_in, without_last, without_fi
 use Rattle.csp_model.specs.Grammar.{is_base64_char, is_base64_value}
 use Rattle.csp_model.specs.Validity.{IsIntegrityValue}
 use Rattle.csp_model.specs.declared.source.Hash.{Hash}
+use Rattle.csp_pick.specs.Fresh.{IsNumbered}
+use Rattle.csp_pick.proofs.Numbered.{numbered_passes}
 
 -- Values
 
@@ -59,14 +60,11 @@ base64_is_value text h =
     (AllPass-from_list_all is_base64_char value parts.1) in
     value_of_plain text (with_final 61 text (refl, refl) (with_final 61 inner (refl, refl) each))
 
-pub letters_are_value : (n : ℕ) (text : List ℕ) → text ≡ replicate n 65 → IsIntegrityValue text
-letters_are_value n text e = value_of_plain text (subst (All IsPlain) (sym e) (All-replicate IsPlain n 65 (refl, refl)))
+pub numbered_is_value : (text : List ℕ) → IsNumbered (codes "other") [] text → IsIntegrityValue text
+numbered_is_value text is = (
+  IsUtf8-from_ascii_text text (numbered_passes (λ b. nat_lt b 128) refl (codes "other") [] text refl refl is),
+  numbered_passes is_plain_byte refl (codes "other") [] text refl refl is,
+)
 
--- A longer value is none of the list
-
-pub longer_is_fresh : (hashes : List Hash) (most : ℕ) (pair : Hash) → All (λ (h : Hash). length h.value ≤ most) hashes
-    → pair.value ≡ replicate (most + 1) 65 → ¬ Contains hashes pair
-longer_is_fresh hashes most pair short long has =
-    let small : length pair.value ≤ most = All-contains (λ (h : Hash). length h.value ≤ most) hashes pair short has in
-    let size : length pair.value ≡ most + 1 = ap length long ∙ length-replicate (most + 1) 65 in
-    omega arith
+pub other_is_fresh : (hashes : List Hash) (pair : Hash) → All (λ (h : Hash). Some h.value ≢ Some pair.value) hashes → ¬ Contains hashes pair
+other_is_fresh hashes pair other has = All-contains (λ (h : Hash). Some h.value ≢ Some pair.value) hashes pair other has refl

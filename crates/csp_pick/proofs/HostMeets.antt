@@ -1,11 +1,13 @@
 -- The host that is picked is valid, and each literal of the cell on hosts is true of it.
-use Rattle.std.proofs.Common.{◌≡◌, ◌≢◌, ◌∙◌, refl, sym, ap, subst, ℕ, Bool, true, false, not, if◌then◌else◌, List, [], ◌∷◌, filter, Some, None, Result, Ok, Err, IfOk, All, AllPairs}
-use Rattle.std.specs.List.{slice_index_or}
-use Rattle.std.proofs.lemmas.Bool.{false_from_ne_true, false≢true}
-use Rattle.std.proofs.lemmas.List.Elements.{All-contains}
+use Rattle.std.proofs.Common.{◌≡◌, ◌≢◌, ◌∙◌, refl, sym, ap, subst, ℕ, Bool, true, false, not, List, [], ◌∷◌, get_or, filter, Some, None, All, Any, inl, inr, codes}
+use Rattle.std.specs.List.{list_any}
+use Rattle.std.proofs.lemmas.Bool.{false_from_ne_true, false≢true, not-true}
+use Rattle.std.proofs.lemmas.List.Elements.{All-contains, All-contains_itself}
+use Rattle.csp_model.proofs.EqualityDecided.{same_host_decides}
 use Rattle.csp_model.specs.DecideEnds.{is_host_under}
 use Rattle.csp_model.specs.DecideEquality.{same_host}
 use Rattle.csp_model.specs.DecideMatching.{is_domain_host}
+use Rattle.csp_model.specs.Paths.{host_text}
 use Rattle.csp_model.specs.Validity.{IsValidHost}
 use Rattle.csp_model.specs.declared.check.CheckPart.TheVariants as part
 use Rattle.csp_model.specs.declared.url.Host.{Host}
@@ -15,163 +17,168 @@ use Rattle.csp_facts.specs.Follows.{follows_true, Refutes}
 use Rattle.csp_facts.specs.declared.atom.Atom.{Atom}
 use Rattle.csp_facts.specs.declared.atom.Atom.TheVariants.{HostIs, HostUnder, HostDomain}
 use Rattle.csp_facts.specs.declared.atom.Literal.{Literal}
-use Rattle.csp_cell.specs.Cells.{IsOf, StandTogether, is_integrity, places}
-use Rattle.csp_facts.specs.declared.shape.Shape.{Shape}
-use Rattle.csp_pick.specs.Hosts.{is_on_host, first_on_host, is_on_domains, has_domains, names, HasTail, IsAddress, IsFresh, IsHostFor}
-use Rattle.csp_pick.specs.Parts.{agrees, MeetPart, host_holds}
-use Rattle.csp_pick.proofs.HostDomains.{label_valid, below_valid, label_under, below_under, below_suffix}
-use Rattle.csp_pick.proofs.HostPlaced.{plus, none_kept, unrefuted, first_found, none_found, alone}
+use Rattle.csp_cell.specs.Cells.{IsCell, IsOf, Region, places}
+use Rattle.csp_pick.specs.Fresh.{IsNumbered}
+use Rattle.csp_pick.specs.Parts.{agrees, IsDenied, MeetPart, host_holds}
+use Rattle.csp_pick.specs.Said.{host_of, suffix_of, is_on_domains, text_of}
+use Rattle.csp_pick.proofs.HostDomains.{alone_under, below_under}
+use Rattle.csp_pick.proofs.PairsMet.{some_passes}
+use Rattle.csp_pick.proofs.Placed.{said_by, of_filter, filter_has, positive_of, beside_placed, denial_of, unrefuted, agrees_placed, agrees_denied, follows_placed, placed_meets}
 
-abbrev pub denials_of : List Literal → List Literal
-denials_of ls = filter (λ l. not (places l)) ls
+-- A host that is another one than an atom names
 
--- Atoms on the host
+other_text : (host other : Host) → Some (host_text other) ≢ Some (host_text host) → same_host host other ≡ false
+other_text host other apart = false_from_ne_true (same_host host other) (λ e.
+    apart (ap (λ (h : Host). Some (host_text h)) (sym ((same_host_decides host other).0 e))))
 
-on_host : (a : Atom) → part_of a ≡ part.Host → is_on_host a ≡ true
-on_host (HostIs h) e = refl
-on_host (HostUnder t) e = refl
-on_host HostDomain e = refl
-on_host a e = absurd cc
+abbrev IsUnsaid : List ℕ → Atom → Type 0
+IsUnsaid text a = text_of a ≢ Some text
 
-is_of_host : (a : Atom) → is_on_host a ≡ true → part_of a ≡ part.Host
-is_of_host (HostIs h) e = refl
-is_of_host (HostUnder t) e = refl
-is_of_host HostDomain e = refl
-is_of_host a e = cc
+below_atom : (s text : List ℕ) (a : Atom) → IsNumbered (codes "other") (46 ∷ s) text → IsUnsaid text a → follows_true (HostUnder s) a ≢ Some true → host_holds (Domain text) a ≡ false
+below_atom s text (HostIs other) is unsaid lets = other_text (Domain text) other unsaid
+below_atom s text (HostUnder t) is unsaid lets =
+    false_from_ne_true (is_host_under (Domain text) t) (λ under. lets (rw (below_under s text t is under) refl))
+below_atom s text HostDomain is unsaid lets = absurd (lets refl)
+below_atom s text a is unsaid lets = refl
 
-no_integrity : (a : Atom) → is_on_host a ≡ true → is_integrity a ≡ false
-no_integrity (HostIs h) e = refl
-no_integrity (HostUnder t) e = refl
-no_integrity HostDomain e = refl
-no_integrity a e = cc
+alone_atom : (text : List ℕ) (a : Atom) → IsNumbered (codes "other") [] text → IsUnsaid text a → is_on_domains a ≡ false → host_holds (Domain text) a ≡ false
+alone_atom text (HostIs other) is unsaid off = other_text (Domain text) other unsaid
+alone_atom text (HostUnder t) is unsaid off = alone_under text t is
+alone_atom text HostDomain is unsaid off = cc
+alone_atom text a is unsaid off = refl
 
-placing : (a : Atom) → is_on_host a ≡ true → places (plus a) ≡ true
-placing a on = ap not (no_integrity a on)
+address_atom : (text : List ℕ) (a : Atom) → IsUnsaid text a → host_holds (Address text) a ≡ false
+address_atom text (HostIs other) unsaid = other_text (Address text) other unsaid
+address_atom text (HostUnder t) unsaid = refl
+address_atom text HostDomain unsaid = refl
+address_atom text a unsaid = refl
 
-by_sign : (host : Host) (a : Atom) (sign : Bool)
-    → (places (record { atom = a; positive = sign }) ≡ true → host_holds host a ≡ true)
-    → (not (places (record { atom = a; positive = sign })) ≡ true → host_holds host a ≡ false)
-    → part_of a ≡ part.Host → agrees (host_holds host) (record { atom = a; positive = sign }) ≡ true
-by_sign host a true holds fails on = holds (placing a (on_host a on))
-by_sign host a false holds fails on = ap not (fails refl)
+abbrev NoneSays : List Literal → List ℕ → Type 0
+NoneSays ls text = All (λ l. IsUnsaid text l.atom) ls
 
--- A literal that names the host
+module _ (ls : List Literal) (text : List ℕ) (fresh : NoneSays ls text) where
+  pub below_denied : (s : List ℕ) → IsNumbered (codes "other") (46 ∷ s) text → All (λ l. follows_true (HostUnder s) l.atom ≢ Some true) ls → IsDenied ls (Domain text)
+  below_denied s is lets k d h = below_atom s text (get_or ls k d).atom is (fresh k d h) (lets k d h)
 
-known : (test sign : Bool) → Some test ≢ Some (not sign) → (if sign then test else not test) ≡ true
-known true true apart = refl
-known true false apart = absurd (apart refl)
-known false true apart = absurd (apart refl)
-known false false apart = refl
+  pub alone_denied : IsNumbered (codes "other") [] text → All (λ l. is_on_domains l.atom ≡ false) ls → IsDenied ls (Domain text)
+  alone_denied is off k d h = alone_atom text (get_or ls k d).atom is (fresh k d h) (off k d h)
 
-named : (host : Host) (a : Atom) (sign : Bool) → follows_true (HostIs host) a ≢ Some (not sign) → part_of a ≡ part.Host
-    → agrees (host_holds host) (record { atom = a; positive = sign }) ≡ true
-named host (HostIs other) sign apart on = known (same_host host other) sign apart
-named host (HostUnder t) sign apart on = known (is_host_under host t) sign apart
-named host HostDomain sign apart on = known (is_domain_host host) sign apart
-named host a sign apart on = absurd cc
+  pub address_denied : IsDenied ls (Address text)
+  address_denied k d h = address_atom text (get_or ls k d).atom (fresh k d h)
 
--- Denials of a fresh host
+-- The literals of a cell
 
-address_apart : (host : Host) (a : Atom) → IsAddress host → names host a ≡ false → host_holds host a ≡ false
-address_apart host (HostIs other) is fresh = fresh
-address_apart (Address text) (HostUnder t) is fresh = refl
-address_apart (Address text) HostDomain is fresh = refl
-address_apart (Domain text) a is fresh = absurd is
-address_apart host a is fresh = refl
+is_host : (a : Atom) (h : Host) → host_of a ≡ Some h → a ≡ HostIs h
+is_host (HostIs g) h e = ap HostIs cc
+is_host a h e = absurd cc
 
-label_apart : (host : Host) (a : Atom) → HasTail [] host → names host a ≡ false → is_on_domains a ≡ false → host_holds host a ≡ false
-label_apart host (HostIs other) is fresh allowed = fresh
-label_apart host (HostUnder t) is fresh allowed = label_under host t is
-label_apart host HostDomain is fresh allowed = cc
-label_apart host a is fresh allowed = refl
+is_suffix : (a : Atom) (s : List ℕ) → suffix_of a ≡ Some s → a ≡ HostUnder s
+is_suffix (HostUnder t) s e = ap HostUnder cc
+is_suffix a s e = absurd cc
 
-below_apart : (s : List ℕ) (host : Host) (a : Atom) → HasTail (46 ∷ s) host → names host a ≡ false → follows_true (HostUnder s) a ≢ Some true → host_holds host a ≡ false
-below_apart s host (HostIs other) is fresh apart = fresh
-below_apart s host (HostUnder t) is fresh apart =
-    false_from_ne_true (is_host_under host t) (λ under. apart (rw (below_under s host t is under) refl))
-below_apart s host HostDomain is fresh apart = absurd (apart refl)
-below_apart s host a is fresh apart = refl
+is_domains : (a : Atom) → is_on_domains a ≡ true → a ≡ HostDomain
+is_domains HostDomain e = refl
+is_domains a e = cc
 
-not_domains : (a : Atom) → follows_true HostDomain a ≢ Some true → is_on_domains a ≡ false
-not_domains HostDomain apart = absurd (apart refl)
-not_domains a apart = refl
+known : (host : Host) (a : Atom) → part_of a ≡ part.Host → follows_true (HostIs host) a ≡ Some (host_holds host a)
+known host (HostIs other) on = refl
+known host (HostUnder t) on = refl
+known host HostDomain on = refl
+known host a on = absurd cc
 
-a_domain : (tail : List ℕ) (host : Host) → HasTail tail host → is_domain_host host ≡ true
-a_domain tail (Domain text) is = refl
-a_domain tail (Address text) is = absurd is
+left : (a : Atom) → part_of a ≡ part.Host → host_of a ≡ None → suffix_of a ≡ None → a ≡ HostDomain
+left HostDomain on no_host no_suffix = refl
+left a on no_host no_suffix = absurd cc
 
--- Where a literal is placed
+-- what a literal that only stands beside +HostUnder isn't decided to be
+undecided : (s : List ℕ) (a : Atom) (sign : Bool) → places (record { atom = a; positive = sign }) ≡ false → follows_true (HostUnder s) a ≢ Some (not sign)
+    → follows_true (HostUnder s) a ≢ Some true
+undecided s a false unplaced apart = apart
+undecided s (HostIs h) true unplaced apart = absurd (false≢true (sym unplaced))
+undecided s (HostUnder t) true unplaced apart = absurd (false≢true (sym unplaced))
+undecided s HostDomain true unplaced apart = absurd (false≢true (sym unplaced))
+undecided s a true unplaced apart = λ e. cc
 
-denied_sign : (a b : Atom) (sign : Bool) → not (places (record { atom = b; positive = sign })) ≡ true → part_of b ≡ part.Host
-    → ¬ Refutes (plus a) (record { atom = b; positive = sign }) → follows_true a b ≢ Some true
-denied_sign a b true denied on apart = absurd (false≢true (sym (ap not (placing b (on_host b on))) ∙ denied))
-denied_sign a b false denied on apart = apart
+module _ (cell : Region) (is : IsCell cell) where
+  abbrev ls : List Literal
+  ls = cell.literals
 
-module _ (ls : List Literal) (a : Atom) (pairs : AllPairs StandTogether ls) (first : first_on_host (filter places ls) ≡ Some a) where
-  only : All (λ m. places m ≡ true → part_of m.atom ≡ part.Host → m.atom ≡ a) ls
-  only k d within placed on =
-      let (found, here) = first_found ls a first in
-      alone ls a pairs found (placing a here) k d within placed (on ∙ sym (is_of_host a here))
+  abbrev others : List Literal
+  others = filter (λ l. not (places l)) ls
 
-  meets_placed : (host : Host) → host_holds host a ≡ true
-      → ((b : Atom) → names host b ≡ false → follows_true a b ≢ Some true → host_holds host b ≡ false)
-      → IsFresh (denials_of ls) host → MeetPart part.Host (host_holds host) ls
-  meets_placed host holds apart fresh k d within on =
-      let m = slice_index_or ls k d in
-      let unnamed = none_kept (λ l. names host l.atom) (λ l. not (places l)) ls fresh k d within in
-      let beside = unrefuted ls (plus a) pairs (first_found ls a first).0 k d within in
-      by_sign host m.atom m.positive
-      (λ placed. subst (λ b. host_holds host b ≡ true) (sym (only k d within placed on)) holds)
-      (λ denied. apart m.atom (unnamed denied) (denied_sign a m.atom m.positive denied on beside)) on
+  denied : (host : Host) (l : Literal) → part_of l.atom ≡ part.Host → places l ≡ false → host_holds host l.atom ≡ false → agrees (host_holds host) l ≡ true
+  denied host l on unplaced fails = agrees_denied (host_holds host) l (denial_of part.Host l (λ e. cc) on unplaced) fails
 
-pub placed_meets : (ls : List Literal) (a : Atom) (host : Host) → AllPairs StandTogether ls → first_on_host (filter places ls) ≡ Some a
-    → IsHostFor a (denials_of ls) host → MeetPart part.Host (host_holds host) ls
-placed_meets ls (HostIs other) host pairs first e =
-    λ k d within on.
-    let m = slice_index_or ls k d in
-    subst (λ h. agrees (host_holds h) m ≡ true) (sym e)
-    (named other m.atom m.positive (unrefuted ls (plus (HostIs other)) pairs (first_found ls (HostIs other) first).0 k d within) on)
-placed_meets ls (HostUnder s) host pairs first (tail, fresh) =
-    meets_placed ls (HostUnder s) pairs first host (below_suffix s host tail) (λ b. below_apart s host b tail) fresh
-placed_meets ls HostDomain host pairs first (tail, fresh) =
-    meets_placed ls HostDomain pairs first host (a_domain [] host tail) (λ b unnamed apart. label_apart host b tail unnamed (not_domains b apart)) fresh
-placed_meets ls a host pairs first is = absurd (false≢true (first_found ls a first).1)
+  -- a literal names the host
 
-valid_for : (a : Atom) (literals : List Literal) (host : Host) → is_on_host a ≡ true → IsValidAtom a → IsHostFor a literals host → IsValidHost host
-valid_for (HostIs other) literals host on valid e = subst IsValidHost (sym e) valid
-valid_for (HostUnder s) literals host on valid (tail, fresh) = below_valid s host valid tail
-valid_for HostDomain literals host on valid (tail, fresh) = label_valid host tail
-valid_for a literals host on valid is = absurd (false≢true on)
+  pub wanted_meets : (host : Host) → Any (λ l. host_of l.atom ≡ Some host) (filter places ls) → MeetPart part.Host (host_holds host) ls
+  wanted_meets host said =
+      let (m, has, placing, says) = said_by host_of places ls host said in
+      placed_meets part.Host (host_holds host) ls m is.pairs has (positive_of m placing)
+      (λ a on. ap (λ b. follows_true b a) (is_host m.atom host says) ∙ known host a on)
 
-pub placed_valid : (shape : Shape) (ls : List Literal) (a : Atom) (host : Host) → All (IsOf shape) ls → first_on_host (filter places ls) ≡ Some a
-    → IsHostFor a (denials_of ls) host → IsValidHost host
-placed_valid shape ls a host each first is =
-    let (found, on) = first_found ls a first in
-    valid_for a (denials_of ls) host on (All-contains (IsOf shape) ls (plus a) each found).0 is
+  pub wanted_is_valid : (host : Host) → Any (λ l. host_of l.atom ≡ Some host) (filter places ls) → IsValidHost host
+  wanted_is_valid host said =
+      let (m, has, placing, says) = said_by host_of places ls host said in
+      subst IsValidAtom (is_host m.atom host says) (All-contains (IsOf cell.shape) ls m is.each has).0
 
--- Where none is
+  -- a literal asks for a suffix
 
-module _ (ls : List Literal) (none : first_on_host (filter places ls) ≡ None) where
-  meets_unplaced : (host : Host) → All (λ m. not (places m) ≡ true → host_holds host m.atom ≡ false) ls → MeetPart part.Host (host_holds host) ls
-  meets_unplaced host apart k d within on =
-      let m = slice_index_or ls k d in
-      by_sign host m.atom m.positive
-      (λ placed. absurd (false≢true (sym (none_found ls none k d within placed) ∙ on_host m.atom on))) (apart k d within) on
+  module _ (s : List ℕ) (said : Any (λ l. suffix_of l.atom ≡ Some s) (filter places ls)) where
+    pub suffix_is_valid : IsValidAtom (HostUnder s)
+    suffix_is_valid =
+        let (m, has, placing, says) = said_by suffix_of places ls s said in
+        subst IsValidAtom (is_suffix m.atom s says) (All-contains (IsOf cell.shape) ls m is.each has).0
 
-  pub address_meets : (host : Host) → IsAddress host → IsFresh (denials_of ls) host → MeetPart part.Host (host_holds host) ls
-  address_meets host address fresh =
-      meets_unplaced host (λ k d within denied.
-      address_apart host (slice_index_or ls k d).atom address (none_kept (λ l. names host l.atom) (λ l. not (places l)) ls fresh k d within denied))
+    beside : (m l : Literal) → m.atom ≡ HostUnder s → m.positive ≡ true → ¬ Refutes m l → follows_true (HostUnder s) l.atom ≢ Some (not l.positive)
+    beside m l at sign apart e = apart (follows_placed m l.atom sign ∙ ap (λ b. follows_true b l.atom) at ∙ e)
 
-  pub label_meets : (host : Host) → HasTail [] host → IsFresh (denials_of ls) host → has_domains (denials_of ls) ≡ false → MeetPart part.Host (host_holds host) ls
-  label_meets host tail fresh allowed =
-      meets_unplaced host (λ k d within denied.
-      label_apart host (slice_index_or ls k d).atom tail
-      (none_kept (λ l. names host l.atom) (λ l. not (places l)) ls fresh k d within denied)
-      (none_kept (λ l. is_on_domains l.atom) (λ l. not (places l)) ls allowed k d within denied))
+    pub suffix_open : All (λ l. follows_true (HostUnder s) l.atom ≢ Some true) others
+    suffix_open =
+        let (m, has, placing, says) = said_by suffix_of places ls s said in
+        λ k d h.
+        let l = get_or others k d in
+        let (there, unplaced) = filter_has (λ l. not (places l)) ls l (All-contains_itself others k d h) in
+        undecided s l.atom l.positive (not-true (places l) unplaced)
+        (beside m l (is_suffix m.atom s says) (positive_of m placing) (All-contains (λ n. ¬ Refutes m n) ls l (unrefuted ls m is.pairs has) there))
 
--- Results
+    pub suffix_meets : (host : Host) → is_host_under host s ≡ true → IsDenied others host → MeetPart part.Host (host_holds host) ls
+    suffix_meets host under fails k d h on =
+        let (m, has, placing, says) = said_by suffix_of places ls s said in
+        let at = is_suffix m.atom s says in
+        let l = get_or ls k d in
+        elim (beside_placed ls m is.pairs has placing k d h (ap part_of at ∙ sym on)) [
+          | inl same ↦ subst (λ n. agrees (host_holds host) n ≡ true) same
+              (agrees_placed (host_holds host) m (positive_of m placing) (ap (host_holds host) at ∙ under))
+          | inr (unplaced, apart) ↦ denied host l on unplaced (of_filter (λ n. not (places n)) (λ n. host_holds host n.atom ≡ false) ls fails k d h (ap not unplaced))
+        ]
 
-pub both_ok : {X Y : Type 0} (r : Result X Y) (P Q R : X → Type 0) → ((x : X) → P x → Q x → R x) → IfOk r P → IfOk r Q → IfOk r R
-both_ok (Ok x) P Q R join first second = join x first second
-both_ok (Err y) P Q R join first second = tt
+  -- no literal does either
+
+  module _ (no_host : All (λ l. host_of l.atom ≡ None) (filter places ls)) (no_suffix : All (λ l. suffix_of l.atom ≡ None) (filter places ls)) where
+    unplaced_meets : (host : Host) → (All (λ l. places l ≡ true → l.atom ≡ HostDomain → is_domain_host host ≡ true) ls) → IsDenied others host
+        → MeetPart part.Host (host_holds host) ls
+    unplaced_meets host domains fails k d h on = by_place (places l) refl
+      where
+        l : Literal
+        l = get_or ls k d
+
+        by_place : (placing : Bool) → places l ≡ placing → agrees (host_holds host) l ≡ true
+        by_place true placing =
+            let at = left l.atom on (of_filter places (λ n. host_of n.atom ≡ None) ls no_host k d h placing) (of_filter places (λ n. suffix_of n.atom ≡ None) ls no_suffix k d h placing) in
+            agrees_placed (host_holds host) l (positive_of l placing) (ap (host_holds host) at ∙ domains k d h placing at)
+        by_place false unplaced = denied host l on unplaced (of_filter (λ n. not (places n)) (λ n. host_holds host n.atom ≡ false) ls fails k d h (ap not unplaced))
+
+    pub domain_meets : (host : Host) → is_domain_host host ≡ true → IsDenied others host → MeetPart part.Host (host_holds host) ls
+    domain_meets host domain fails = unplaced_meets host (λ k d h placing at. domain) fails
+
+    -- where domains are denied no literal asks for one
+    pub address_meets : (host : Host) → list_any (λ (l : Literal). is_on_domains l.atom) others ≡ true → IsDenied others host → MeetPart part.Host (host_holds host) ls
+    address_meets host some fails =
+        let (n, found, on) = some_passes (λ (l : Literal). is_on_domains l.atom) others some in
+        let (there, unplaced) = filter_has (λ l. not (places l)) ls n found in
+        let denial = denial_of part.Host n (λ e. cc) (ap part_of (is_domains n.atom on)) (not-true (places n) unplaced) in
+        unplaced_meets host (λ k d h placing at.
+        let l = get_or ls k d in
+        let apart = All-contains (λ m. ¬ Refutes l m) ls n (unrefuted ls l is.pairs (All-contains_itself ls k d h)) there in
+        absurd (apart (follows_placed l n.atom (positive_of l placing) ∙ rw (at, is_domains n.atom on, denial) refl))) fails

@@ -6,7 +6,6 @@ use Rattle.std.proofs.lemmas.List.{get_or_at, get_or-append-add, length_push}
 use Rattle.std.proofs.lemmas.List.Concat.{flat_map-append}
 use Rattle.std.proofs.lemmas.List.Elements.{All-weaker}
 use Rattle.memchr.specs.Find.{IsLastByte, is_byte}
-use Rattle.percent_encoding.specs.AsciiSet.{should_percent_encode}
 use Rattle.percent_encoding.specs.Percent.{percent_encode}
 use Rattle.csp_model.specs.Paths.{path_text}
 use Rattle.csp_model.specs.declared.path.TheConstants.{ESCAPED}
@@ -15,7 +14,7 @@ use Rattle.csp_model.proofs.PathText.{no_slash_in}
 use Rattle.csp_facts.specs.declared.atom.Atom.{Atom}
 use Rattle.csp_facts.specs.declared.atom.Atom.TheVariants.{PathIs}
 use Rattle.csp_facts.specs.declared.atom.Literal.{Literal}
-use Rattle.csp_pick.specs.Said.{last_piece_of, last_segment_of, segment_at_end}
+use Rattle.csp_pick.specs.Said.{last_piece_of, segment_at_end, text_of}
 use Rattle.csp_pick.proofs.PathsMet.{last_of}
 
 -- ---- the last slash
@@ -87,16 +86,12 @@ none_last pieces text is found = elim (last_view pieces) [
 
 -- ---- a piece that is written otherwise
 
-written : (a : Atom) (piece : List ℕ) → last_piece_of a ≡ Some piece → last_segment_of a ≡ Some (percent_encode ESCAPED piece)
+written : (a : Atom) (piece : List ℕ) → last_piece_of a ≡ Some piece → text_of a ≡ Some (percent_encode ESCAPED piece)
 written (PathIs pieces) piece e = ap (option_map (percent_encode ESCAPED)) e
 written a piece e = absurd cc
 
-pub unwritten : (piece : List ℕ) (ls : List Literal) → percent_encode ESCAPED piece ≡ piece → All (λ l. last_segment_of l.atom ≢ Some piece) ls
+pub unwritten : (piece : List ℕ) (ls : List Literal) → percent_encode ESCAPED piece ≡ piece → All (λ l. text_of l.atom ≢ Some piece) ls
     → All (λ l. last_piece_of l.atom ≢ Some piece) ls
 unwritten piece ls kept other =
-    All-weaker (λ l. last_segment_of l.atom ≢ Some piece) (λ l. last_piece_of l.atom ≢ Some piece)
+    All-weaker (λ l. text_of l.atom ≢ Some piece) (λ l. last_piece_of l.atom ≢ Some piece)
     (λ l differs e. differs (written l.atom piece e ∙ ap Some kept)) ls other
-
-pub x_kept : percent_encode ESCAPED (120 ∷ []) ≡ 120 ∷ []
-unfolding percent_encode should_percent_encode
-x_kept = refl

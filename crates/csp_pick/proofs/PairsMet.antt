@@ -64,7 +64,7 @@ module _ {X Y : Type 0} (f : X → Option Y) where
 
 -- Tests
 
-none_passes : {X : Type 0} (p : X → Bool) (xs : List X) → list_any p xs ≡ false → All (λ x. p x ≡ false) xs
+pub none_passes : {X : Type 0} (p : X → Bool) (xs : List X) → list_any p xs ≡ false → All (λ x. p x ≡ false) xs
 none_passes p [] e = All-nil (λ x. p x ≡ false)
 none_passes p (x ∷ xs) e = by_test (p x) refl e (none_passes p xs)
   where
@@ -73,7 +73,7 @@ none_passes p (x ∷ xs) e = by_test (p x) refl e (none_passes p xs)
     by_test true is f later = absurd (false≢true (sym f))
     by_test false is f later = All-cons (λ y. p y ≡ false) x xs is (later f)
 
-some_passes : {X : Type 0} (p : X → Bool) (xs : List X) → list_any p xs ≡ true → (x : X) × Contains xs x × (p x ≡ true)
+pub some_passes : {X : Type 0} (p : X → Bool) (xs : List X) → list_any p xs ≡ true → (x : X) × Contains xs x × (p x ≡ true)
 some_passes p xs e =
     let (k, x, lt, at, passes) = (any_decides p (λ x. p x ≡ true) (λ x. itself (p x)) xs).0 e in
     (x, (k, lt, at), passes)

@@ -1,5 +1,5 @@
 -- What a cell's literals say of one part: the positive literal on it, where there is one, and denials.
-use Rattle.std.proofs.Common.{◌≡◌, ◌≢◌, ◌∙◌, Bool, true, false, not, ◌&&◌, if◌then◌else◌, cond, List, [], ◌∷◌, get_or, filter, Option, Some, All, Any, AllPairs, Contains, refl, sym, ap, subst, ◌⊎◌, inl, inr}
+use Rattle.std.proofs.Common.{◌≡◌, ◌≢◌, ◌∙◌, Bool, true, false, not, ◌&&◌, if◌then◌else◌, cond, List, [], ◌∷◌, get_or, filter, Option, Some, Result, Ok, Err, IfOk, All, Any, AllPairs, Contains, refl, sym, ap, subst, ◌⊎◌, inl, inr}
 use Rattle.std.proofs.lemmas.Bool.{false≢true, false_from_ne_true, cases_order}
 use Rattle.std.proofs.lemmas.List.{get_or_default}
 use Rattle.std.proofs.lemmas.List.Elements.{All-nil, All-cons, All-head, All-tail, All-filter, All-contains, All-contains_itself, filter_passes}
@@ -145,3 +145,9 @@ denied_meets on test ls plain none denied k d h e = by_place (places l) refl
     by_place false is =
         agrees_denied test l (denial_of on l plain e is)
         (of_filter (λ m. not (places m)) (λ m. part_of m.atom ≡ on → test m.atom ≡ false) ls denied k d h (ap not is) e)
+
+-- Results
+
+pub both_ok : {A E : Type 0} (P Q R : A → Type 0) (r : Result A E) → ((a : A) → P a → Q a → R a) → IfOk r P → IfOk r Q → IfOk r R
+both_ok P Q R (Ok a) join p q = join a p q
+both_ok P Q R (Err e) join p q = tt

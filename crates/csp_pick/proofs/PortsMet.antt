@@ -1,6 +1,7 @@
 -- The port that is picked meets the literals on ports.
-use Rattle.std.proofs.Common.{◌≡◌, ◌≢◌, ◌==◌, ◌∙◌, ℕ, false, not, List, filter, Option, Some, None, All, Any, AllPairs, refl, sym, ap}
+use Rattle.std.proofs.Common.{◌≡◌, ◌≢◌, ◌==◌, ◌≤◌, ◌∙◌, ℕ, Bool, true, false, not, List, [], ◌∷◌, length, filter, Option, Some, None, All, Any, AllPairs, refl, sym, ap, arith}
 use Rattle.std.specs.Prelude.{unwrap_or}
+use Rattle.std.specs.List.{filter_map}
 use Rattle.std.proofs.lemmas.Bool.{false_from_ne_true}
 use Rattle.std.proofs.lemmas.Bool.Decides.{Decides-eqb}
 use Rattle.std.proofs.lemmas.List.Elements.{All-weaker}
@@ -10,11 +11,12 @@ use Rattle.csp_model.specs.declared.url.Scheme.{Scheme}
 use Rattle.csp_facts.specs.Atoms.{part_of}
 use Rattle.csp_facts.specs.Follows.{follows_true}
 use Rattle.csp_facts.specs.declared.atom.Atom.{Atom}
-use Rattle.csp_facts.specs.declared.atom.Atom.TheVariants.{PortIs}
+use Rattle.csp_facts.specs.declared.atom.Atom.TheVariants.{PortIs, IntegrityHas, IntegrityOutside}
 use Rattle.csp_facts.specs.declared.atom.Literal.{Literal}
 use Rattle.csp_cell.specs.Cells.{StandTogether, places}
+use Rattle.csp_pick.specs.Picks.{denies_port}
 use Rattle.csp_pick.specs.Parts.{MeetPart, port_holds}
-use Rattle.csp_pick.specs.Said.{port_of}
+use Rattle.csp_pick.specs.Said.{number_of, port_of}
 use Rattle.csp_pick.proofs.Placed.{said_by, positive_of, placed_meets, denied_meets}
 
 is_port : (a : Atom) (n : ℕ) → port_of a ≡ Some n → a ≡ PortIs n
@@ -55,3 +57,25 @@ allowed_meets scheme port ls none free =
     (All-weaker (λ l. port_of l.atom ≡ None) (λ l. part_of l.atom ≢ part.Port) (λ l. never l.atom) (filter places ls) none)
     (All-weaker (λ l. port_of l.atom ≢ Some (unwrap_or port (default_port scheme))) (λ l. part_of l.atom ≡ part.Port → port_holds scheme port l.atom ≡ false)
     (λ l h on. apart scheme port l.atom h) (filter (λ l. not (places l)) ls) free)
+
+-- Of the literals that place nothing no more name a port than deny one
+
+abbrev port_named : Literal → Option ℕ
+port_named l = number_of part.Port l.atom
+
+by_literal : (a : Atom) (sign : Bool) (ls : List Literal)
+    → length (filter_map port_named (filter (λ l. not (places l)) ls)) ≤ length (filter denies_port ls)
+    → length (filter_map port_named (filter (λ l. not (places l)) (record { atom = a; positive = sign } ∷ ls)))
+    ≤ length (filter denies_port (record { atom = a; positive = sign } ∷ ls))
+by_literal (PortIs n) true ls h = h
+by_literal (PortIs n) false ls h = omega arith
+by_literal (IntegrityHas hash) true ls h = h
+by_literal (IntegrityHas hash) false ls h = h
+by_literal IntegrityOutside true ls h = h
+by_literal IntegrityOutside false ls h = h
+by_literal a true ls h = h
+by_literal a false ls h = h
+
+pub counted : (ls : List Literal) → length (filter_map port_named (filter (λ l. not (places l)) ls)) ≤ length (filter denies_port ls)
+counted [] = omega arith
+counted (l ∷ ls) = by_literal l.atom l.positive ls (counted ls)

@@ -1,14 +1,13 @@
--- Texts that literals don't say.
-use Rattle.std.specs.Prelude.{◌≡◌, ℕ, suc, List, map, replicate, Option, All, Contains, IfSome, IsTrue}
-use Rattle.std.specs.Borrow.{Bor}
-use Rattle.std.specs.Char.{is_ascii_lowercase}
-use Rattle.csp_facts.specs.declared.atom.Atom.{Atom}
-use Rattle.csp_facts.specs.declared.atom.Literal.{Literal}
+-- Texts with numbers, of which one is found that nobody says.
+use Rattle.std.specs.Prelude.{◌≡◌, ℕ, ◌<◌, ◌^◌, ◌==◌, List, [], ◌++◌, decimal, if◌then◌else◌}
 
--- one lower-case letter, once or more often
-abbrev pub IsOneLetter : List ℕ → Type 0
-IsOneLetter text = (n letter : ℕ) × (text ≡ replicate (suc n) letter) × IsTrue (is_ascii_lowercase letter)
+-- nothing for the first
+abbrev pub suffix : ℕ → List ℕ
+suffix number = if number == 1 then [] else decimal number
 
--- each text that the literals say is among these
-abbrev pub ListsEach : (Atom → Option (List ℕ)) → List (Bor (List ℕ)) → List Literal → Type 0
-ListsEach say texts literals = All (λ l. IfSome (say l.atom) (Contains (map (λ t. t.now) texts))) literals
+abbrev pub numbered : List ℕ → ℕ → List ℕ → List ℕ
+numbered front number back = front ++ (suffix number ++ back)
+
+-- the text is the front and the back, with some number between them or with none
+abbrev pub IsNumbered : List ℕ → List ℕ → List ℕ → Type 0
+IsNumbered front back text = (number : ℕ) × (number < 2 ^ 64) × (text ≡ numbered front number back)

@@ -1,6 +1,4 @@
 pub mod Fresh
-pub mod Hosts
-pub mod Leads
 pub mod Pairs
 pub mod Parts
 pub mod Picks

@@ -5,6 +5,7 @@ use Rattle.csp_model.specs.DecideEnds.{is_host_under}
 use Rattle.csp_model.specs.DecideEquality.{same_host}
 use Rattle.csp_model.specs.DecideMatching.{is_domain_host, path_matches}
 use Rattle.csp_model.specs.Schemes.{default_port}
+use Rattle.csp_model.specs.Tokens.{bytes_of}
 use Rattle.csp_model.specs.declared.check.CheckPart.{CheckPart}
 use Rattle.csp_model.specs.declared.check.Digests.{Digests}
 use Rattle.csp_model.specs.declared.source.Hash.{Hash}
@@ -58,3 +59,12 @@ integrity_holds hashes pairs other = false
 abbrev pub digest_holds : Digests → Atom → Bool
 digest_holds digests (DigestIs digest) = has_digest digests digest
 digest_holds digests other = false
+
+-- of an atom on a digest, whether these are its bytes
+abbrev pub bytes_hold : List ℕ → Atom → Bool
+bytes_hold bytes (DigestIs digest) = bytes_eq bytes (bytes_of digest)
+bytes_hold bytes other = false
+
+-- no literal's atom is true of the host
+abbrev pub IsDenied : List Literal → Host → Type 0
+IsDenied literals there = All (λ (l : Literal). host_holds there l.atom ≡ false) literals

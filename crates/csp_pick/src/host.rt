@@ -1,88 +1,127 @@
 //! Hosts.
-ghost use Rattle.std.specs.Prelude.{◌≡◌, IfOk, IfSome, option_copied};
-ghost use Rattle.csp_model.specs.Validity.{IsValidHost};
+ghost use Rattle.std.specs.Prelude.{◌≡◌, ◌≢◌, ◌↔◌, All, Any, IfOk, IsTrue, MatchOption, None, Some, false, option_copied, true};
+ghost use Rattle.std.specs.List.{list_any};
+ghost use Rattle.csp_facts.specs.Follows.{follows_true};
+ghost use Rattle.csp_facts.specs.declared.atom.Atom.TheVariants.{HostUnder};
+ghost use Rattle.csp_model.specs.DecideEnds.{is_host_under};
+ghost use Rattle.csp_model.specs.DecideMatching.{is_domain_host};
+ghost use Rattle.csp_model.specs.Validity.{IsValidHost, is_domain};
 ghost use Rattle.csp_model.specs.declared.check.CheckPart.TheVariants as part;
-ghost use Rattle.csp_pick.specs.Hosts as spec;
-ghost use Rattle.csp_pick.specs.Parts.{MeetPart, host_holds};
+ghost use Rattle.csp_pick.specs.Parts.{IsDenied, MeetPart, host_holds};
+ghost use Rattle.csp_pick.specs.Said as spec;
 
-use crate::address::fresh_address;
-use crate::label::{domain_below, fresh_domain};
-use crate::other::other_below;
+use crate::fresh::fresh_text;
 use csp_cell::Cell;
-use csp_facts::{Atom, Literal};
-use csp_model::{Duplicate, Host, Memory};
+use csp_facts::{Atom, Literal, follows_as};
+use csp_model::{Duplicate, Host, Memory, Text};
 use std::alloc::Global;
 
-// A valid host of which each literal on hosts is true: one that a person would think of, where they allow it;
-// else one for the positive literal, or any domain, or an address where domains are denied. No denial names
-// it.
+// A valid host of which each literal on hosts is true: the one that a literal names, or else one below the
+// suffix that a literal asks for. Where none does either, it is any domain, or an address where domains are
+// denied.
 pub(crate) fn pick_host(alloc: Global, cell: &Cell) -> Result<Host, Memory>
     ensures valid { IfOk result IsValidHost }
     ensures meets { IfOk result (λ host. MeetPart part.Host (host_holds host) cell.now.literals) }
 {
-    let _shape = cell.shape();
-    if let Some(host) = other_host(alloc, cell)? {
-        return Ok(host);
-    }
     let denials = cell.others();
-    match first_on_host(cell.placing()) {
-        Some(atom) => host_for(alloc, atom, denials),
-        None if has_domains(denials) => fresh_address(alloc, denials),
-        None => fresh_domain(alloc, "", denials),
+    if let Some(host) = wanted_host(cell.placing()) {
+        return host.copy(alloc);
+    }
+    match wanted_suffix(cell.placing()) {
+        Some(suffix) => other_below(alloc, suffix.as_str(), denials),
+        None if has_domains(denials) => other_address(alloc, denials),
+        None => other_domain(alloc, denials),
     }
 }
 
-// `other` below the suffix that is asked for, or below `example`, or such a host with a number.
-fn other_host(alloc: Global, cell: &Cell) -> Result<Option<Host>, Memory>
-    ensures valid { IfOk result (λ found. IfSome found IsValidHost) }
-    ensures meets { IfOk result (λ found.
-        IfSome found (λ host. MeetPart part.Host (host_holds host) cell.now.literals)) }
+// The host that a literal names.
+fn wanted_host(literals: &[Literal]) -> Option<&Host>
+    ensures { MatchOption result
+        (All (λ l. spec.host_of l.atom ≡ None) literals.now)
+        (λ host. Any (λ l. spec.host_of l.atom ≡ Some host.now) literals.now) }
 {
-    match first_on_host(cell.placing()) {
-        Some(Atom::HostIs(_)) => Ok(None),
-        Some(Atom::HostUnder(suffix)) => other_below(alloc, cell, suffix.as_str()),
-        _ if has_domains(cell.others()) => Ok(None),
-        _ => other_below(alloc, cell, "example"),
+    literals.iter().find_map(named_host)
+}
+
+fn named_host(literal: &Literal) -> Option<&Host>
+    ensures { option_copied result ≡ spec.host_of literal.now.atom }
+{
+    match &literal.atom {
+        Atom::HostIs(host) => Some(host),
+        _ => None,
     }
 }
 
-// The host that the atom names, or one below its suffix or any domain, which no literal names.
-fn host_for(alloc: Global, atom: &Atom, literals: &[Literal]) -> Result<Host, Memory>
-    ensures { IfOk result (spec.IsHostFor atom.now literals.now) }
+// The suffix below which a literal asks for hosts.
+fn wanted_suffix(literals: &[Literal]) -> Option<&Text>
+    ensures { MatchOption result
+        (All (λ l. spec.suffix_of l.atom ≡ None) literals.now)
+        (λ suffix. Any (λ l. spec.suffix_of l.atom ≡ Some suffix.now) literals.now) }
 {
-    match atom {
-        Atom::HostIs(host) => host.copy(alloc),
-        Atom::HostUnder(suffix) => domain_below(alloc, suffix.as_str(), literals),
-        _ => fresh_domain(alloc, "", literals),
-    }
+    literals.iter().find_map(named_suffix)
 }
 
-// The first atom that speaks of the host.
-fn first_on_host(literals: &[Literal]) -> Option<&Atom>
-    ensures { option_copied result ≡ spec.first_on_host literals.now }
+fn named_suffix(literal: &Literal) -> Option<&Text>
+    ensures { option_copied result ≡ spec.suffix_of literal.now.atom }
 {
-    for literal in literals {
-        if is_on_host(&literal.atom) {
-            return Some(&literal.atom);
-        }
+    match &literal.atom {
+        Atom::HostUnder(suffix) => Some(suffix),
+        _ => None,
     }
-    None
-}
-
-fn is_on_host(atom: &Atom) -> bool
-    ensures { result ≡ spec.is_on_host atom.now }
-{
-    matches!(
-        atom,
-        Atom::HostIs(_) | Atom::HostUnder(_) | Atom::HostDomain
-    )
 }
 
 // Whether some literal is on whether the host is a domain.
 fn has_domains(literals: &[Literal]) -> bool
-    ensures { result ≡ spec.has_domains literals.now }
+    ensures { result ≡ list_any (λ l. spec.is_on_domains l.atom) literals.now }
 {
     literals
         .iter()
         .any(|literal| matches!(literal.atom, Atom::HostDomain))
+}
+
+// A domain of one label more than the suffix, of which no literal's atom is true.
+fn other_below(alloc: Global, suffix: &str, literals: &[Literal]) -> Result<Host, Memory>
+    requires valid { IsTrue (is_domain suffix.now) }
+    requires leaves { All (λ l. follows_true (HostUnder suffix.now) l.atom ≢ Some true) literals.now }
+    ensures valid { IfOk result IsValidHost }
+    ensures below { IfOk result (λ host. is_host_under host suffix.now ≡ true) }
+    ensures denied { IfOk result (IsDenied literals.now) }
+{
+    let back = format!(in alloc; ".{suffix}")?;
+    let text = fresh_text(alloc, "other", back.as_str(), literals)?;
+    Ok(Host::Domain(text))
+}
+
+// A domain of which no literal's atom is true: one below `example`, where they leave one open, or else a
+// label alone.
+fn other_domain(alloc: Global, literals: &[Literal]) -> Result<Host, Memory>
+    requires { list_any (λ l. spec.is_on_domains l.atom) literals.now ≡ false }
+    ensures valid { IfOk result IsValidHost }
+    ensures domain { IfOk result (λ host. is_domain_host host ≡ true) }
+    ensures denied { IfOk result (IsDenied literals.now) }
+{
+    let example = Atom::HostUnder(Text::new(alloc, "example")?);
+    if is_open(&example, literals) {
+        other_below(alloc, "example", literals)
+    } else {
+        let text = fresh_text(alloc, "other", "", literals)?;
+        Ok(Host::Domain(text))
+    }
+}
+
+// Whether no literal's atom is true wherever this one is.
+fn is_open(atom: &Atom, literals: &[Literal]) -> bool
+    ensures { IsTrue result ↔ All (λ l. follows_true atom.now l.atom ≢ Some true) literals.now }
+{
+    literals.iter().all(|literal| follows_as(atom, true, &literal.atom) != Some(true))
+}
+
+// An address of which no literal's atom is true. It is one of those that are set aside for examples
+// (RFC 3849).
+fn other_address(alloc: Global, literals: &[Literal]) -> Result<Host, Memory>
+    ensures valid { IfOk result IsValidHost }
+    ensures denied { IfOk result (IsDenied literals.now) }
+{
+    let text = fresh_text(alloc, "[2001:db8::1", "]", literals)?;
+    Ok(Host::Address(text))
 }

@@ -1,5 +1,5 @@
 //! Integrity metadata.
-ghost use Rattle.std.specs.Prelude.{◌≡◌, ◌≤◌, ◌+◌, IfOk, All, Contains, length, replicate, option_copied};
+ghost use Rattle.std.specs.Prelude.{◌≡◌, IfOk, All, Contains, option_copied};
 ghost use Rattle.std.specs.List.{list_any};
 ghost use Rattle.csp_model.specs.Validity.{IsIntegrityValue};
 ghost use Rattle.csp_model.specs.declared.check.CheckPart.TheVariants as part;
@@ -8,9 +8,10 @@ ghost use Rattle.csp_pick.specs.Pairs as spec;
 ghost use Rattle.csp_pick.specs.Parts.{MeetPart, integrity_holds};
 ghost use Rattle.csp_pick.specs.Picks.{AreOfVocabulary};
 
+use crate::fresh::fresh_text;
 use csp_cell::Cell;
 use csp_facts::{Atom, Literal, Vocabulary};
-use csp_model::{Algorithm, Duplicate, Hash, List, Memory, Text};
+use csp_model::{Algorithm, Duplicate, Hash, List, Memory};
 use std::alloc::Global;
 
 // Integrity metadata of which each literal on it is true: none, where they allow it.
@@ -24,8 +25,6 @@ pub(crate) fn pick_integrity(
     ensures meets { IfOk result (λ pairs.
         MeetPart part.Integrity (integrity_holds vocabulary.now.hashes pairs) cell.now.literals) }
 {
-    // The contract says that the literals are valid, and that none refutes another.
-    let _shape = cell.shape();
     let mut pairs = said_pairs(alloc, cell.others())?;
     if any_outside(cell.others()) {
         pairs.push(fresh_pair(alloc, vocabulary.hashes.as_slice())?)?;
@@ -68,32 +67,13 @@ fn says_outside(literal: &Literal) -> bool
     literal.positive && matches!(literal.atom, Atom::IntegrityOutside)
 }
 
-// A pair that is none of these: its value is longer than theirs.
+// A pair that is none of these: its value isn't theirs.
 fn fresh_pair(alloc: Global, hashes: &[Hash]) -> Result<Hash, Memory>
     ensures valid { IfOk result (λ pair. IsIntegrityValue pair.value) }
     ensures fresh { IfOk result (λ pair. ¬ Contains hashes.now pair) }
 {
     Ok(Hash {
         algorithm: Algorithm::Sha256,
-        value: letters(alloc, longest_value(hashes))?,
+        value: fresh_text(alloc, "other", "", hashes)?,
     })
-}
-
-// How long the longest value is.
-fn longest_value(hashes: &[Hash]) -> usize
-    ensures { All (λ (h : HashValue). length h.value ≤ result) hashes.now }
-{
-    let lengths = hashes.iter().map(|hash| hash.value.as_str().len());
-    lengths.max().unwrap_or(0)
-}
-
-// So many letters, and one more.
-fn letters(alloc: Global, count: usize) -> Result<Text, Memory>
-    ensures { IfOk result (λ text. text ≡ replicate (count + 1) 65) }
-{
-    let mut text = String::from_str(alloc, "A")?;
-    for _i in 0..count {
-        text.push('A')?;
-    }
-    Ok(Text::from_string(text))
 }

@@ -1,16 +1,12 @@
 //! One check for each cell: a valid check of the cell's shape of which each literal of the cell is true.
 #![tactic(auto)]
 
-mod address;
 mod digest;
 mod fresh;
 mod host;
 mod integrity;
-mod label;
-mod lead;
-mod named;
 mod nonce;
-mod other;
+mod number;
 mod path;
 mod pick;
 mod port;

@@ -16,8 +16,6 @@ pub(crate) fn pick_nonce(alloc: Global, cell: &Cell) -> Result<Text, Memory>
     ensures valid { IfOk result (λ nonce. IsUtf8 nonce) }
     ensures meets { IfOk result (λ nonce. MeetPart part.Nonce (nonce_holds nonce) cell.now.literals) }
 {
-    // Its contract says that the literals are valid and that none refutes another.
-    let _shape = cell.shape();
     match wanted_nonce(cell.placing()) {
         Some(value) => Text::new(alloc, value.as_str()),
         None => Text::new(alloc, ""),

@@ -4,15 +4,13 @@ ghost use Rattle.std.specs.List.{list_all};
 ghost use Rattle.std.specs.Option.{option_copied};
 ghost use Rattle.csp_model.specs.Validity.{is_piece};
 ghost use Rattle.csp_model.specs.declared.check.CheckPart.TheVariants as part;
-ghost use Rattle.csp_pick.specs.Fresh.{ListsEach};
 ghost use Rattle.csp_pick.specs.Parts.{MeetPart, path_holds};
-ghost use Rattle.csp_pick.specs.Said.{front_of, last_piece_of, last_segment_of, path_of, segment_at_end};
+ghost use Rattle.csp_pick.specs.Said.{front_of, last_piece_of, path_of};
 
-use crate::fresh::{fresh_text, is_among};
+use crate::fresh::fresh_text;
 use csp_cell::Cell;
 use csp_facts::{Atom, Literal};
-use csp_model::{Duplicate, Memory, Path};
-use memchr::memrchr;
+use csp_model::{Duplicate, Memory, Path, Text};
 use std::alloc::Global;
 
 // A valid path of which each literal on paths is true.
@@ -75,54 +73,14 @@ fn path_behind(alloc: Global, front: Option<&Path>, literals: &[Literal]) -> Res
         Some(front) => front.copy(alloc)?,
         None => Path::new(alloc)?,
     };
-    path.push(&free_piece(alloc, literals)?)?;
+    path.push(free_piece(alloc, literals)?.as_str().as_bytes())?;
     Ok(path)
 }
 
-// A piece that ends no path that a literal names: the empty one or `x`, where it is one.
-fn free_piece(alloc: Global, literals: &[Literal]) -> Result<Vec<u8>, Memory>
-    ensures valid { IfOk result (λ piece. IsTrue (is_piece piece.items)) }
-    ensures free { IfOk result (λ piece. All (λ l. last_piece_of l.atom ≢ Some piece.items) literals.now) }
+// A piece that ends no path that a literal names: the empty one, where it is one.
+fn free_piece(alloc: Global, literals: &[Literal]) -> Result<Text, Memory>
+    ensures valid { IfOk result (λ piece. IsTrue (is_piece piece)) }
+    ensures free { IfOk result (λ piece. All (λ l. last_piece_of l.atom ≢ Some piece) literals.now) }
 {
-    let last = last_pieces(alloc, literals)?;
-    if !is_among(&last, b"") {
-        return Ok(Vec::new(alloc));
-    }
-    if !is_among(&last, b"x") {
-        return Ok(Vec::from_slice(alloc, b"x")?);
-    }
-    fresh_text(alloc, &last)
-}
-
-// The last pieces of the paths that literals name, as they are written.
-fn last_pieces<'a>(alloc: Global, literals: &'a [Literal]) -> Result<Vec<&'a [u8]>, Memory>
-    ensures { IfOk result (λ pieces. ListsEach last_segment_of pieces.items literals.now) }
-{
-    let mut pieces = Vec::new(alloc);
-    for literal in literals {
-        if let Some(piece) = last_piece(literal) {
-            pieces.push(piece)?;
-        }
-    }
-    Ok(pieces)
-}
-
-fn last_piece(literal: &Literal) -> Option<&[u8]>
-    ensures { option_copied result ≡ last_segment_of literal.now.atom }
-{
-    match &literal.atom {
-        Atom::PathIs(path) => last_segment(path),
-        _ => None,
-    }
-}
-
-// What stands behind the last slash of the path as it is written.
-fn last_segment(path: &Path) -> Option<&[u8]>
-    ensures { option_copied result ≡ segment_at_end path.now }
-{
-    let text = path.as_str().as_bytes();
-    match memrchr(b'/', text) {
-        Some(slash) => Some(&text[slash + 1..]),
-        None => None,
-    }
+    fresh_text(alloc, "", "", literals)
 }

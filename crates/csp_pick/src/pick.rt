@@ -31,9 +31,7 @@ pub fn representative(
     ensures shape { IfOk result (λ asked. HasShape asked shape) }
     ensures meets { IfOk result (λ asked. Meets vocabulary.now.hashes asked cell.now.literals) }
 {
-    // The contract says that each literal is valid and belongs to the shape.
-    let _shape = cell.shape();
-    check_of(alloc, cell, shape, vocabulary)
+    check_of(alloc, cell, cell.shape(), vocabulary)
 }
 
 // A check of the shape, made of its parts.

@@ -4,11 +4,10 @@ ghost use Rattle.std.specs.Option.{option_copied};
 ghost use Rattle.csp_model.specs.Schemes.{scheme_named};
 ghost use Rattle.csp_model.specs.Validity.{is_lower_scheme};
 ghost use Rattle.csp_model.specs.declared.check.CheckPart.TheVariants as part;
-ghost use Rattle.csp_pick.specs.Fresh.{ListsEach};
 ghost use Rattle.csp_pick.specs.Parts.{MeetPart, scheme_holds};
-ghost use Rattle.csp_pick.specs.Said.{scheme_of};
+ghost use Rattle.csp_pick.specs.Said.{scheme_of, text_of};
 
-use crate::fresh::{fresh_text, is_among};
+use crate::fresh::{fresh_text, is_said};
 use csp_cell::Cell;
 use csp_facts::{Atom, Literal};
 use csp_model::{Duplicate, Memory, Text};
@@ -20,8 +19,6 @@ pub(crate) fn pick_scheme(alloc: Global, cell: &Cell) -> Result<Text, Memory>
     ensures meets { IfOk result
         (λ scheme. MeetPart part.PlainScheme (scheme_holds scheme) cell.now.literals) }
 {
-    // Its contract says that the literals are valid and that none refutes another.
-    let _shape = cell.shape();
     match wanted_scheme(cell.placing()) {
         Some(scheme) => scheme.copy(alloc),
         None => free_scheme(alloc, cell.others()),
@@ -49,27 +46,11 @@ fn named_scheme(literal: &Literal) -> Option<&Text>
 // A scheme that no literal names: `data` or `blob`, where it is one.
 fn free_scheme(alloc: Global, literals: &[Literal]) -> Result<Text, Memory>
     ensures valid { IfOk result (λ scheme. IsTrue (is_lower_scheme scheme) × IsNone (scheme_named scheme)) }
-    ensures free { IfOk result (λ scheme. All (λ l. scheme_of l.atom ≢ Some scheme) literals.now) }
+    ensures free { IfOk result (λ scheme. All (λ l. text_of l.atom ≢ Some scheme) literals.now) }
 {
-    let named = named_schemes(alloc, literals)?;
-    if !is_among(&named, b"data") {
-        Text::new(alloc, "data")
-    } else if !is_among(&named, b"blob") {
-        Text::new(alloc, "blob")
+    if is_said(literals, b"data") {
+        fresh_text(alloc, "blob", "", literals)
     } else {
-        Text::from_ascii(alloc, &fresh_text(alloc, &named)?)
+        fresh_text(alloc, "data", "", literals)
     }
-}
-
-// The schemes that literals name.
-fn named_schemes<'a>(alloc: Global, literals: &'a [Literal]) -> Result<Vec<&'a [u8]>, Memory>
-    ensures { IfOk result (λ schemes. ListsEach scheme_of schemes.items literals.now) }
-{
-    let mut schemes = Vec::new(alloc);
-    for literal in literals {
-        if let Some(scheme) = named_scheme(literal) {
-            schemes.push(scheme.as_str().as_bytes())?;
-        }
-    }
-    Ok(schemes)
 }

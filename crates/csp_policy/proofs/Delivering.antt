@@ -5,17 +5,12 @@ use Rattle.std.specs.Str.{bytes_eq}
 use Rattle.std.proofs.lemmas.Grind.{flat_map-append}
 use Rattle.csp_model.specs.Ascii.{lower, split_at}
 use Rattle.csp_model.specs.Policies.{Line, Skipped, Bad, Header, directives_of, firsts, is_for_meta, policies_in, policies_of, policy_with}
-use Rattle.csp_model.specs.declared.policy.Directive.{Directive}
-use Rattle.csp_model.specs.declared.policy.Disposition.{Disposition}
+use Rattle.csp_policy.specs.Types.{Directive, Disposition, Policy, Origin, Fate, Delivery}
 use Rattle.csp_model.specs.declared.policy.Disposition.TheVariants.{Enforce, Report}
-use Rattle.csp_model.specs.declared.policy.Policy.{Policy}
-use Rattle.csp_model.specs.declared.url.Origin.{Origin}
 use Rattle.csp_policy.specs.Fates.{Serialized, delivered_as, delivered_by, delivered_from, delivery_of, fate_of, fates, fates_behind, kept}
 use Rattle.csp_policy.specs.Delivered.{policy_kept}
 use Rattle.csp_policy.specs.Room.{kept_of}
-use Rattle.csp_policy.specs.declared.fate.Fate.{Fate}
 use Rattle.csp_policy.specs.declared.fate.Fate.TheVariants.{Empty, Dropped, Kept}
-use Rattle.csp_policy.specs.declared.serialized.Delivery.{Delivery}
 use Rattle.csp_policy.specs.declared.serialized.Delivery.TheVariants.{InHeader, InMeta, Not}
 use Rattle.csp_policy.proofs.Fated.{kept_in, kept_step, of_pieces}
 

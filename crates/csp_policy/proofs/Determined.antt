@@ -6,13 +6,10 @@ use Rattle.std.specs.List.{flat_map}
 use Rattle.std.specs.Str.Lines.{strip_carriage_return}
 use Rattle.csp_model.specs.Ascii.{split_at}
 use Rattle.csp_model.specs.Policies.{block_lines, first_bad, line_of, lines_of, policies, without_status}
-use Rattle.csp_model.specs.declared.policy.Policy.{Policy}
-use Rattle.csp_model.specs.declared.policy.PolicyList.{PolicyList}
-use Rattle.csp_model.specs.declared.url.Origin.{Origin}
+use Rattle.csp_policy.specs.Types.{Policy, PolicyList, Origin, BlockError}
 use Rattle.csp_policy.specs.Delivered.{policy_kept}
 use Rattle.csp_policy.specs.Fates.{delivered}
 use Rattle.csp_policy.specs.Refusal.{excess, list_of, refusal_at, unless_refused}
-use Rattle.csp_policy.specs.declared.error.BlockError.{BlockError}
 use Rattle.csp_policy.specs.declared.error.BlockError.TheVariants.{TooManyPolicies}
 use Rattle.csp_policy.proofs.LinesSoFar.{few_lines}
 use Rattle.csp_policy.specs.ReadingLines.{reading_text}

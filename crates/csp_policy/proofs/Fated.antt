@@ -8,12 +8,10 @@ use Rattle.std.proofs.lemmas.List.{map_push}
 use Rattle.std.proofs.lemmas.List.Elements.{filter_map-append}
 use Rattle.csp_model.specs.Ascii.{is_ascii_text, words}
 use Rattle.csp_model.specs.Policies.{directive_of, directive_of_words, firsts, is_for_meta}
-use Rattle.csp_model.specs.declared.policy.Directive.{Directive}
+use Rattle.csp_policy.specs.Types.{Directive, CaselessName, Fate}
 use Rattle.csp_policy.specs.Fates.{fate_of, fate_with, fates_behind, has_name}
 use Rattle.csp_policy.specs.Names.{folded, name_cmp, KnowsNames}
 use Rattle.csp_policy.specs.Room.{kept_of}
-use Rattle.csp_policy.specs.declared.caseless_name.CaselessName.{CaselessName}
-use Rattle.csp_policy.specs.declared.fate.Fate.{Fate}
 use Rattle.csp_policy.specs.declared.fate.Fate.TheVariants.{Empty, Dropped, Kept}
 use Rattle.csp_policy.specs.declared.fate.Reason.TheVariants.{Duplicate, NotAscii, NotInMeta}
 use Rattle.csp_policy.proofs.Firsts.{found, firsts_push}

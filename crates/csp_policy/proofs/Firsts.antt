@@ -7,7 +7,7 @@ use Rattle.std.proofs.lemmas.List.{map_push}
 use Rattle.std.proofs.lemmas.List.Elements.{filter-append, filter_map-append}
 use Rattle.std.proofs.lemmas.Slice.Eq.{bytes_eq-Decides}
 use Rattle.csp_model.specs.Policies.{directive_of, firsts, same_name}
-use Rattle.csp_model.specs.declared.policy.Directive.{Directive}
+use Rattle.csp_policy.specs.Types.{Directive}
 use Rattle.csp_policy.specs.Fates.{has_name}
 use Rattle.csp_policy.specs.Room.{if_first}
 

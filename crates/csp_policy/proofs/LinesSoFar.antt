@@ -11,7 +11,7 @@ use Rattle.std.proofs.lemmas.Iterator.Consumers.{YieldsList-so_far, YieldsList-t
 use Rattle.std.specs.Iterator.{Yields}
 use Rattle.csp_model.specs.Ascii.{split_at}
 use Rattle.csp_model.specs.Policies.{Line, Skipped, Bad, Header, line_of, is_bad, policies_of, without_status}
-use Rattle.csp_model.specs.declared.url.Origin.{Origin}
+use Rattle.csp_policy.specs.Types.{Origin}
 
 -- what the lines say
 abbrev pub says : List (List ℕ) → List Line

@@ -15,12 +15,8 @@ use Rattle.json.proofs.Printed.Trees.{value-json_tokens}
 use Rattle.json.proofs.Unique.Places.{one_object}
 use Rattle.csp_model.specs.Names.{disposition_text}
 use Rattle.csp_model.specs.Reading.{source_of}
-use Rattle.csp_model.specs.declared.policy.Directive.{Directive}
-use Rattle.csp_model.specs.declared.policy.Disposition.{Disposition}
+use Rattle.csp_policy.specs.Types.{Directive, Disposition, Policy as KeptPolicy, Source, Origin}
 use Rattle.csp_model.specs.declared.policy.Disposition.TheVariants.{Enforce, Report}
-use Rattle.csp_model.specs.declared.policy.Policy.{Policy as KeptPolicy}
-use Rattle.csp_model.specs.declared.source.Source.{Source}
-use Rattle.csp_model.specs.declared.url.Origin.{Origin}
 use Rattle.csp_policy.specs.ReadingLaws.{numbered, policy_told}
 use Rattle.csp_policy.specs.ReadingLines.{directive_items, directive_members, dropped_members, shown_text, token_items, told_line, told_members, told_value}
 use Rattle.csp_policy.specs.Told.{Told, Policy, Dropped}

@@ -12,13 +12,8 @@ use Rattle.csp_model.specs.Ascii.{is_ascii_text, words, split_at}
 use Rattle.csp_model.specs.Reading.{source_of}
 use Rattle.csp_model.specs.Policies.{Bad, Header, directive_of_words, directive_of, directives_of, directive_text, firsts, is_bad, is_field_name, is_field_value, is_for_meta, is_token_char, line_of, longest_text, policies, policies_in, policies_of, policy_limit, policy_text, policy_with, same_name, text_limit, token_count, token_limit, without_status, first_bad, IsReadable}
 use Rattle.csp_model.specs.Verdict.{is_enforce}
-use Rattle.csp_model.specs.declared.policy.Directive.{Directive}
-use Rattle.csp_model.specs.declared.policy.Disposition.{Disposition}
+use Rattle.csp_policy.specs.Types.{Directive, Disposition, Policy, PolicyList, Source, Origin}
 use Rattle.csp_model.specs.declared.policy.Disposition.TheVariants.{Enforce, Report}
-use Rattle.csp_model.specs.declared.policy.Policy.{Policy}
-use Rattle.csp_model.specs.declared.policy.PolicyList.{PolicyList}
-use Rattle.csp_model.specs.declared.source.Source.{Source}
-use Rattle.csp_model.specs.declared.url.Origin.{Origin}
 use Rattle.csp_model.proofs.WordLaws.{IsSolid, words-space, one_word, word_before}
 use Rattle.csp_policy.specs.HeaderLines.{header_name, header_line, header_lines, is_word_char, IsWord, IsPrintableDirective, IsPrintable}
 use Rattle.csp_policy.specs.Refusal.{excess, list_of, refusal_at, unless_refused}

@@ -11,11 +11,8 @@ use Rattle.std.proofs.lemmas.List.Elements.{All-nil, All-cons, All-head, All-tai
 use Rattle.csp_model.specs.Ascii.{is_ascii_text, is_nonempty, lower, split_at, words}
 use Rattle.csp_model.specs.Policies.{Line, Skipped, Bad, Header, directive_of, directive_of_words, directives_of, firsts, header_at, header_of, is_field_value, is_for_meta, line_of, lines_of, policies, policies_in, policies_of, policy_with, without_status, IsReadablePolicy}
 use Rattle.csp_model.specs.Validity.{IsValidOrigin}
-use Rattle.csp_model.specs.declared.policy.Directive.{Directive}
-use Rattle.csp_model.specs.declared.policy.Disposition.{Disposition}
+use Rattle.csp_policy.specs.Types.{Directive, Disposition, Policy, Origin}
 use Rattle.csp_model.specs.declared.policy.Disposition.TheVariants.{Enforce, Report}
-use Rattle.csp_model.specs.declared.policy.Policy.{Policy}
-use Rattle.csp_model.specs.declared.url.Origin.{Origin}
 use Rattle.csp_policy.specs.HeaderLines.{is_word_char, IsWord, IsPrintableDirective, IsPrintable}
 use Rattle.csp_policy.proofs.PrintedLines.{all_flat, all_from, apart}
 use Rattle.csp_policy.proofs.Readable.{policies_readable}

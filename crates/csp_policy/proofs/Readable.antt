@@ -9,12 +9,8 @@ use Rattle.csp_model.specs.Ascii.{lower, is_ascii_text, words, split_at}
 use Rattle.csp_model.specs.Reading.{source_of}
 use Rattle.csp_model.specs.Validity.{IsValidOrigin}
 use Rattle.csp_model.specs.Policies.{directive_of_words, directive_of, directives_of, firsts, same_name, policy_with, policies_in, policies_of, policies, is_for_meta, token_count, longest_text, policy_limit, token_limit, text_limit, IsReadable, IsReadablePolicy, block_lines, Line, Skipped, Bad, Header}
-use Rattle.csp_model.specs.declared.policy.Directive.{Directive}
-use Rattle.csp_model.specs.declared.policy.Disposition.{Disposition}
+use Rattle.csp_policy.specs.Types.{Directive, Disposition, Policy, PolicyList, Origin}
 use Rattle.csp_model.specs.declared.policy.Disposition.TheVariants.{Enforce, Report}
-use Rattle.csp_model.specs.declared.policy.Policy.{Policy}
-use Rattle.csp_model.specs.declared.policy.PolicyList.{PolicyList}
-use Rattle.csp_model.specs.declared.url.Origin.{Origin}
 use Rattle.csp_policy.specs.Refusal.{excess}
 use Rattle.csp_policy.specs.declared.error.BlockError.TheVariants.{TooManyPolicies, TooManySources, LongToken}
 

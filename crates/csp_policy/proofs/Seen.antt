@@ -10,11 +10,10 @@ use Rattle.std.proofs.lemmas.Map.Text.{is_eq-slice_cmp}
 use Rattle.std.proofs.lemmas.List.Elements.{filter-append}
 use Rattle.std.proofs.lemmas.Slice.Eq.{bytes_eq-Decides}
 use Rattle.csp_model.specs.Policies.{is_for_meta}
-use Rattle.csp_model.specs.declared.policy.Directive.{Directive}
+use Rattle.csp_policy.specs.Types.{Directive, CaselessName}
 use Rattle.csp_policy.specs.Fates.{has_name}
 use Rattle.csp_policy.specs.Names.{folded, name_cmp, Knows}
 use Rattle.csp_policy.specs.Room.{kept_of, if_first}
-use Rattle.csp_policy.specs.declared.caseless_name.CaselessName.{CaselessName}
 use Rattle.csp_policy.proofs.Firsts.{is_new}
 
 bytes_eq_turned : (a b : List ℕ) → bytes_eq a b ≡ bytes_eq b a

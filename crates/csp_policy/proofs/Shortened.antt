@@ -4,7 +4,7 @@ use Rattle.std.proofs.lemmas.List.{take_all, length-take}
 use Rattle.std.proofs.lemmas.List.Sums.{sum_by_push}
 use Rattle.csp_model.specs.Ascii.{lower}
 use Rattle.csp_model.specs.Reading.{source_of}
-use Rattle.csp_model.specs.declared.policy.Directive.{Directive}
+use Rattle.csp_policy.specs.Types.{Directive}
 use Rattle.csp_policy.specs.Room.{directive_with, shortened, tokens_in, AreShortened}
 
 tokens_more : (ds : List Directive) (d : Directive) → tokens_in (ds ++ d ∷ []) ≡ tokens_in ds + length d.tokens

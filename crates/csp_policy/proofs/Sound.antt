@@ -6,15 +6,10 @@ use Rattle.std.specs.Str.{bytes_eq}
 use Rattle.csp_model.specs.Ascii.{is_ascii_text, lower, split_at, words}
 use Rattle.csp_model.specs.Policies.{Line, Skipped, Bad, Header, directive_of, directive_of_words, firsts, is_for_meta, policy_with}
 use Rattle.csp_model.specs.Reading.{source_of}
-use Rattle.csp_model.specs.declared.policy.Directive.{Directive}
-use Rattle.csp_model.specs.declared.policy.Disposition.{Disposition}
+use Rattle.csp_policy.specs.Types.{Directive, Disposition, Policy as KeptPolicy, Origin, Fate}
 use Rattle.csp_model.specs.declared.policy.Disposition.TheVariants.{Enforce, Report}
-use Rattle.csp_model.specs.declared.policy.Policy.{Policy as KeptPolicy}
-use Rattle.csp_model.specs.declared.url.Origin.{Origin}
 use Rattle.csp_policy.specs.Delivered.{policy_kept}
 use Rattle.csp_policy.specs.Fates.{Serialized, delivered_as, delivered_by, delivered_from, fate_of, fate_with, fates, fates_behind, has_name, kept}
-use Rattle.csp_policy.specs.declared.fate.Fate.{Fate}
-use Rattle.csp_policy.specs.declared.fate.Fate.TheVariants as fate
 use Rattle.csp_policy.specs.declared.fate.Reason.TheVariants.{Duplicate, NotAscii, NotInMeta}
 use Rattle.csp_policy.specs.Told.{Told, Policy, Dropped, directives_in, number_behind, told_dropped, told_from, told_policy, told_with}
 
@@ -40,12 +35,12 @@ sound_append (t ∷ ts) us h k = (h.0, sound_append ts us h.1 k)
 -- Directives
 
 abbrev IsReadFate : Fate → Type 0
-IsReadFate fate.Empty = ⊤
-IsReadFate (fate.Dropped reason) = ⊤
-IsReadFate (fate.Kept d) = IsRead d
+IsReadFate Fate.Empty = ⊤
+IsReadFate (Fate.Dropped reason) = ⊤
+IsReadFate (Fate.Kept d) = IsRead d
 
 chosen_read : (later stays : Bool) (d : Directive) → IsRead d
-    → IsReadFate (cond later (fate.Dropped Duplicate) (cond stays (fate.Kept d) (fate.Dropped NotInMeta)))
+    → IsReadFate (cond later (Fate.Dropped Duplicate) (cond stays (Fate.Kept d) (Fate.Dropped NotInMeta)))
 chosen_read true stays d is = tt
 chosen_read false true d is = is
 chosen_read false false d is = tt
@@ -58,14 +53,14 @@ words_read meta before (w ∷ ws) =
     chosen_read (has_name d.name before) (not meta || is_for_meta d) d refl
 
 ascii_read : (ascii meta : Bool) (before : List Directive) (ws : List (List ℕ))
-    → IsReadFate (cond ascii (fate_with meta before (directive_of_words ws)) (fate.Dropped NotAscii))
+    → IsReadFate (cond ascii (fate_with meta before (directive_of_words ws)) (Fate.Dropped NotAscii))
 ascii_read true meta before ws = words_read meta before ws
 ascii_read false meta before ws = tt
 
 one_read : (text : List ℕ) (f : Fate) (ds : List Directive) → IsReadFate f → AreRead ds → AreRead (cons_option (kept (text, f)) ds)
-one_read text fate.Empty ds is are = are
-one_read text (fate.Dropped reason) ds is are = are
-one_read text (fate.Kept d) ds is are = (is, are)
+one_read text Fate.Empty ds is are = are
+one_read text (Fate.Dropped reason) ds is are = are
+one_read text (Fate.Kept d) ds is are = (is, are)
 
 read_behind : (meta : Bool) (before xs : List (List ℕ)) → AreRead (filter_map kept (fates_behind meta before xs))
 read_behind meta before [] = tt
@@ -115,9 +110,9 @@ lines_from number (line ∷ lines) few =
 
 dropped_sound : (line : ℕ) (pieces : List (List ℕ × Fate)) → line < 2 ^ 64 → AreSound (filter_map (told_dropped line) pieces)
 dropped_sound line [] few = tt
-dropped_sound line ((text, fate.Empty) ∷ pieces) few = dropped_sound line pieces few
-dropped_sound line ((text, fate.Dropped reason) ∷ pieces) few = (few, dropped_sound line pieces few)
-dropped_sound line ((text, fate.Kept d) ∷ pieces) few = dropped_sound line pieces few
+dropped_sound line ((text, Fate.Empty) ∷ pieces) few = dropped_sound line pieces few
+dropped_sound line ((text, Fate.Dropped reason) ∷ pieces) few = (few, dropped_sound line pieces few)
+dropped_sound line ((text, Fate.Kept d) ∷ pieces) few = dropped_sound line pieces few
 
 policy_sound : (origin : Origin) (number : ℕ) (s : Serialized) (ds : List Directive) (ps : List KeptPolicy)
     → number + length (policy_with origin s.disposition s.meta ds ++ ps) ≤ 64 → s.line < 2 ^ 64 → AreRead ds

@@ -6,17 +6,11 @@ use Rattle.std.proofs.lemmas.List.{map-append}
 use Rattle.std.proofs.lemmas.List.Elements.{filter-append, filter_map-append}
 use Rattle.csp_model.specs.Ascii.{split_at}
 use Rattle.csp_model.specs.Policies.{policies, policy_with}
-use Rattle.csp_model.specs.declared.policy.Directive.{Directive}
-use Rattle.csp_model.specs.declared.policy.Policy.{Policy as KeptPolicy}
-use Rattle.csp_model.specs.declared.policy.PolicyList.{PolicyList}
-use Rattle.csp_model.specs.declared.url.Origin.{Origin}
+use Rattle.csp_policy.specs.Types.{Directive, Policy as KeptPolicy, PolicyList, Origin, BlockError, Fate}
 use Rattle.csp_policy.specs.Delivered.{policy_kept}
 use Rattle.csp_policy.specs.Fields.{trimmed}
 use Rattle.csp_policy.specs.Fates.{Serialized, fates, has_text, is_told, kept, piece_text}
 use Rattle.csp_policy.specs.Refusal.{list_of, refusal_of, unless_refused}
-use Rattle.csp_policy.specs.declared.error.BlockError.{BlockError}
-use Rattle.csp_policy.specs.declared.fate.Fate.{Fate}
-use Rattle.csp_policy.specs.declared.fate.Fate.TheVariants as fate
 use Rattle.csp_policy.specs.declared.fate.Reason.TheVariants.{Duplicate, NotAscii, NotInMeta}
 use Rattle.csp_policy.specs.ReadingLaws.{directives_told, is_piece, numbered, policy_line, policy_told}
 use Rattle.csp_policy.specs.Told.{Told, Dropped, directives_in, number_behind, reason_text, told_dropped, told_from, told_policy, told_with}
@@ -26,37 +20,37 @@ use Rattle.csp_policy.specs.Told.{Told, Dropped, directives_in, number_behind, r
 no_policy : (origin : Origin) (line : ℕ) (pieces : List (List ℕ × Fate))
     → filter_map (policy_told origin) (filter_map (told_dropped line) pieces) ≡ []
 no_policy origin line [] = refl
-no_policy origin line ((text, fate.Empty) ∷ pieces) = no_policy origin line pieces
-no_policy origin line ((text, fate.Dropped reason) ∷ pieces) = no_policy origin line pieces
-no_policy origin line ((text, fate.Kept d) ∷ pieces) = no_policy origin line pieces
+no_policy origin line ((text, Fate.Empty) ∷ pieces) = no_policy origin line pieces
+no_policy origin line ((text, Fate.Dropped reason) ∷ pieces) = no_policy origin line pieces
+no_policy origin line ((text, Fate.Kept d) ∷ pieces) = no_policy origin line pieces
 
 no_directive : (line : ℕ) (pieces : List (List ℕ × Fate))
     → flat_map directives_told (filter_map (told_dropped line) pieces) ≡ []
 no_directive line [] = refl
-no_directive line ((text, fate.Empty) ∷ pieces) = no_directive line pieces
-no_directive line ((text, fate.Dropped reason) ∷ pieces) = no_directive line pieces
-no_directive line ((text, fate.Kept d) ∷ pieces) = no_directive line pieces
+no_directive line ((text, Fate.Empty) ∷ pieces) = no_directive line pieces
+no_directive line ((text, Fate.Dropped reason) ∷ pieces) = no_directive line pieces
+no_directive line ((text, Fate.Kept d) ∷ pieces) = no_directive line pieces
 
 all_pieces : (line : ℕ) (pieces : List (List ℕ × Fate))
     → filter is_piece (filter_map (told_dropped line) pieces) ≡ filter_map (told_dropped line) pieces
 all_pieces line [] = refl
-all_pieces line ((text, fate.Empty) ∷ pieces) = all_pieces line pieces
-all_pieces line ((text, fate.Dropped Duplicate) ∷ pieces) =
+all_pieces line ((text, Fate.Empty) ∷ pieces) = all_pieces line pieces
+all_pieces line ((text, Fate.Dropped Duplicate) ∷ pieces) =
     ap (λ (l : List Told). Dropped (trimmed text) line (reason_text Duplicate) ∷ l) (all_pieces line pieces)
-all_pieces line ((text, fate.Dropped NotAscii) ∷ pieces) =
+all_pieces line ((text, Fate.Dropped NotAscii) ∷ pieces) =
     ap (λ (l : List Told). Dropped (trimmed text) line (reason_text NotAscii) ∷ l) (all_pieces line pieces)
-all_pieces line ((text, fate.Dropped NotInMeta) ∷ pieces) =
+all_pieces line ((text, Fate.Dropped NotInMeta) ∷ pieces) =
     ap (λ (l : List Told). Dropped (trimmed text) line (reason_text NotInMeta) ∷ l) (all_pieces line pieces)
-all_pieces line ((text, fate.Kept d) ∷ pieces) = all_pieces line pieces
+all_pieces line ((text, Fate.Kept d) ∷ pieces) = all_pieces line pieces
 
 no_line : (line : ℕ) (pieces : List (List ℕ × Fate))
     → filter_map policy_line (filter_map (told_dropped line) pieces) ≡ []
 no_line line [] = refl
-no_line line ((text, fate.Empty) ∷ pieces) = no_line line pieces
-no_line line ((text, fate.Dropped Duplicate) ∷ pieces) = no_line line pieces
-no_line line ((text, fate.Dropped NotAscii) ∷ pieces) = no_line line pieces
-no_line line ((text, fate.Dropped NotInMeta) ∷ pieces) = no_line line pieces
-no_line line ((text, fate.Kept d) ∷ pieces) = no_line line pieces
+no_line line ((text, Fate.Empty) ∷ pieces) = no_line line pieces
+no_line line ((text, Fate.Dropped Duplicate) ∷ pieces) = no_line line pieces
+no_line line ((text, Fate.Dropped NotAscii) ∷ pieces) = no_line line pieces
+no_line line ((text, Fate.Dropped NotInMeta) ∷ pieces) = no_line line pieces
+no_line line ((text, Fate.Kept d) ∷ pieces) = no_line line pieces
 
 -- One serialized policy
 

@@ -7,9 +7,7 @@ use Rattle.json.specs.Json.{object}
 use Rattle.json.specs.Token.{Token, begin_object, end_object, begin_array, end_array, key}
 use Rattle.json.specs.Tree.{items_tokens, json_tokens}
 use Rattle.csp_model.specs.Ascii.{is_nonempty}
-use Rattle.csp_model.specs.declared.policy.Directive.{Directive}
-use Rattle.csp_model.specs.declared.policy.Disposition.{Disposition}
-use Rattle.csp_model.specs.declared.source.Source.{Source}
+use Rattle.csp_policy.specs.Types.{Directive, Disposition, Source}
 use Rattle.csp_policy.specs.Fates.{Serialized}
 use Rattle.csp_policy.specs.Fields.{trimmed}
 use Rattle.csp_policy.specs.ReadingLines.{directive_items, directive_members, dropped_members, isomorphic_decode, token_items}

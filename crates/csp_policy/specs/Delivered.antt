@@ -2,12 +2,8 @@
 use Rattle.std.specs.Prelude.{ℕ, List}
 use Rattle.std.specs.List.{filter_map}
 use Rattle.csp_model.specs.Policies.{policy_with}
-use Rattle.csp_model.specs.declared.policy.Policy.{Policy}
-use Rattle.csp_model.specs.declared.url.Origin.{Origin}
+use Rattle.csp_policy.specs.Types.{Policy, Origin, Fate, Piece, SerializedPolicy}
 use Rattle.csp_policy.specs.Fates.{Serialized, fates, kept}
-use Rattle.csp_policy.specs.declared.fate.Fate.{Fate}
-use Rattle.csp_policy.specs.declared.fate.Piece.{Piece}
-use Rattle.csp_policy.specs.declared.serialized.SerializedPolicy.{SerializedPolicy}
 
 -- the piece, and what becomes of it
 abbrev pub piece_said : Piece → (List ℕ × Fate)

@@ -4,12 +4,9 @@ use Rattle.std.specs.List.{filter_map, list_any}
 use Rattle.std.specs.Str.{bytes_eq}
 use Rattle.csp_model.specs.Ascii.{code, lower, is_ascii_text, is_nonempty, words, split_at}
 use Rattle.csp_model.specs.Policies.{Line, Skipped, Bad, Header, block_lines, directive_of, directive_of_words, firsts, is_for_meta}
-use Rattle.csp_model.specs.declared.policy.Directive.{Directive}
-use Rattle.csp_model.specs.declared.policy.Disposition.{Disposition}
+use Rattle.csp_policy.specs.Types.{Directive, Disposition, Fate, Delivery}
 use Rattle.csp_model.specs.declared.policy.Disposition.TheVariants.{Enforce, Report}
-use Rattle.csp_policy.specs.declared.fate.Fate.{Fate}
 use Rattle.csp_policy.specs.declared.fate.Fate.TheVariants.{Empty, Dropped, Kept}
-use Rattle.csp_policy.specs.declared.serialized.Delivery.{Delivery}
 use Rattle.csp_policy.specs.declared.serialized.Delivery.TheVariants.{InHeader, InMeta, Not}
 use Rattle.csp_policy.specs.declared.fate.Reason.TheVariants.{Duplicate, NotAscii, NotInMeta}
 

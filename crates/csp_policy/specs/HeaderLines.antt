@@ -5,10 +5,8 @@ use Rattle.std.specs.List.{flat_map}
 use Rattle.csp_model.specs.Ascii.{code, lower}
 use Rattle.csp_model.specs.Policies.{IsReadablePolicy, is_for_meta, policy_text}
 use Rattle.csp_model.specs.Verdict.{is_enforce}
-use Rattle.csp_model.specs.declared.policy.Directive.{Directive}
+use Rattle.csp_policy.specs.Types.{Directive, Policy, Origin}
 use Rattle.csp_model.specs.declared.policy.Disposition.TheVariants.{Enforce}
-use Rattle.csp_model.specs.declared.policy.Policy.{Policy}
-use Rattle.csp_model.specs.declared.url.Origin.{Origin}
 
 -- the name of the header that delivers such a policy
 abbrev pub header_name : Policy → List ℕ

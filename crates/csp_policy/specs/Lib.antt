@@ -13,3 +13,4 @@ pub mod ReadingLaws
 pub mod ReadingLines
 pub mod Told
 pub mod Tokens
+pub mod Types

@@ -1,6 +1,6 @@
 -- A word of private contracts, which stands here since contracts cite only specs/: what a read line says.
 use Rattle.csp_model.specs.Policies as policies
-use Rattle.csp_policy.specs.declared.lines.Line.{Line}
+use Rattle.csp_policy.specs.Types.{Line}
 use Rattle.csp_policy.specs.declared.lines.Line.TheVariants.{Skipped, Bad, Header}
 
 abbrev pub line_said : Line → policies.Line

@@ -8,9 +8,8 @@ use Rattle.std.specs.Ordering.{nat_cmp}
 use Rattle.std.specs.declared.cmp.Ordering.{Ordering}
 use Rattle.csp_model.specs.Ascii.{lower}
 use Rattle.csp_model.specs.Policies.{directive_of, firsts}
-use Rattle.csp_model.specs.declared.policy.Directive.{Directive}
+use Rattle.csp_policy.specs.Types.{Directive, CaselessName}
 use Rattle.csp_policy.specs.Fates.{has_name}
-use Rattle.csp_policy.specs.declared.caseless_name.CaselessName.{CaselessName}
 
 -- the name in lower case
 abbrev pub folded : CaselessName → List ℕ

@@ -1,7 +1,7 @@
 -- Words of a private type's contracts, which stand here since they cite only specs/.
 use Rattle.std.specs.Prelude.{ℕ, List, [], Option, Some, None, option_copied}
 use Rattle.csp_model.specs.Ascii.{split_at}
-use Rattle.csp_policy.specs.declared.pieces.Pieces.{Pieces}
+use Rattle.csp_policy.specs.Types.{Pieces}
 
 -- the pieces of the text that is left behind a separator, where there is one
 abbrev pub pieces_behind : ℕ → Option (List ℕ) → List (List ℕ)

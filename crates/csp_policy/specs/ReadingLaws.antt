@@ -3,11 +3,8 @@ use Rattle.std.specs.Prelude.{ℕ, ◌+◌, not, Bool, false, if◌then◌else�
 use Rattle.std.specs.List.{filter_map, flat_map}
 use Rattle.std.specs.Str.{bytes_eq}
 use Rattle.csp_model.specs.Ascii.{code, split_at}
-use Rattle.csp_model.specs.declared.policy.Directive.{Directive}
-use Rattle.csp_model.specs.declared.policy.Policy.{Policy as KeptPolicy}
-use Rattle.csp_model.specs.declared.url.Origin.{Origin}
+use Rattle.csp_policy.specs.Types.{Directive, Policy as KeptPolicy, Origin, Fate}
 use Rattle.csp_policy.specs.Fates.{Serialized, delivered, fates}
-use Rattle.csp_policy.specs.declared.fate.Fate.{Fate}
 use Rattle.csp_policy.specs.Told.{Told, Policy, Dropped, told_dropped}
 
 -- The pieces of a file

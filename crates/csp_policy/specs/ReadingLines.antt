@@ -6,9 +6,7 @@ use Rattle.json.specs.Json.{Json, boolean, number, string, array, object, Items,
 use Rattle.json.specs.Print.{print}
 use Rattle.json.specs.Tree.{json_tokens}
 use Rattle.csp_model.specs.Names.{disposition_text}
-use Rattle.csp_model.specs.declared.policy.Directive.{Directive}
-use Rattle.csp_model.specs.declared.policy.Disposition.{Disposition}
-use Rattle.csp_model.specs.declared.source.Source.{Source}
+use Rattle.csp_policy.specs.Types.{Directive, Disposition, Source}
 use Rattle.csp_policy.specs.Told.{Told, Policy, Dropped, told, decides, kind_text}
 
 -- a token and what it stands for

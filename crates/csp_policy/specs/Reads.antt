@@ -1,8 +1,7 @@
 -- A word of private contracts, which stands here since contracts cite only specs/.
 use Rattle.std.specs.Prelude.{List, ◌++◌}
-use Rattle.csp_model.specs.declared.policy.Policy.{Policy}
+use Rattle.csp_policy.specs.Types.{Policy, Reader}
 use Rattle.csp_policy.specs.Room.{AreRead}
-use Rattle.csp_policy.specs.declared.reader.Reader.{Reader}
 
 -- after what was read before, the reader has read these policies too
 abbrev pub ReadsOn : Reader → Reader → List Policy → Type 0

@@ -1,10 +1,7 @@
 -- What a header block is read as: its policies, or what is refused in it.
 use Rattle.std.specs.Prelude.{ℕ, nat_lt, if◌then◌else◌, List, length, Option, Some, None, Result, Ok, Err}
 use Rattle.csp_model.specs.Policies.{first_bad, policies, token_count, longest_text, policy_limit, token_limit, text_limit}
-use Rattle.csp_model.specs.declared.policy.Policy.{Policy}
-use Rattle.csp_model.specs.declared.policy.PolicyList.{PolicyList}
-use Rattle.csp_model.specs.declared.url.Origin.{Origin}
-use Rattle.csp_policy.specs.declared.error.BlockError.{BlockError}
+use Rattle.csp_policy.specs.Types.{Policy, PolicyList, Origin, BlockError}
 use Rattle.csp_policy.specs.declared.error.BlockError.TheVariants.{BadLine, TooManyPolicies, TooManySources, LongToken}
 
 -- the first count of these policies that passes its limit

@@ -5,8 +5,7 @@ use Rattle.std.specs.List.{sum_by}
 use Rattle.csp_model.specs.Ascii.{lower}
 use Rattle.csp_model.specs.Reading.{source_of}
 use Rattle.csp_model.specs.Policies.{is_for_meta, token_count, policy_limit, token_limit}
-use Rattle.csp_model.specs.declared.policy.Directive.{Directive}
-use Rattle.csp_model.specs.declared.policy.Policy.{Policy}
+use Rattle.csp_policy.specs.Types.{Directive, Policy}
 
 -- the directive of this name, in whatever case, and these tokens
 abbrev pub directive_with : List ℕ → List (List ℕ) → Directive

@@ -4,9 +4,7 @@ use Rattle.std.specs.List.{flat_map}
 use Rattle.json.specs.Token.{Token, begin_object, end_object, begin_array, end_array, key, string, number, boolean}
 use Rattle.json.specs.Tree.{json_tokens}
 use Rattle.csp_model.specs.Names.{disposition_text}
-use Rattle.csp_model.specs.declared.policy.Directive.{Directive}
-use Rattle.csp_model.specs.declared.policy.Disposition.{Disposition}
-use Rattle.csp_model.specs.declared.source.Source.{Source}
+use Rattle.csp_policy.specs.Types.{Directive, Disposition, Source}
 use Rattle.csp_policy.specs.ReadingLines.{told_value}
 use Rattle.csp_policy.specs.Told.{Told, decides, kind_text}
 

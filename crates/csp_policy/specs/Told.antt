@@ -2,21 +2,13 @@
 use Rattle.std.specs.Prelude.{ℕ, ◌+◌, Bool, if◌then◌else◌, List, [], ◌∷◌, ◌++◌, Option, Some, None, codes}
 use Rattle.std.specs.List.{filter_map, list_any}
 use Rattle.std.specs.Str.{bytes_eq}
-use Rattle.csp_match.specs.Candidates.{names}
 use Rattle.csp_model.specs.Ascii.{lower}
-use Rattle.csp_model.specs.Names.{name_text}
+use Rattle.csp_model.specs.Names.{name_text, names}
 use Rattle.csp_model.specs.Verdict.{is_enforce}
-use Rattle.csp_model.specs.declared.name.Name.{Name}
+use Rattle.csp_policy.specs.Types.{Name, Directive, Disposition, Source, Fate, Reason}
 use Rattle.csp_model.specs.declared.name.Name.TheVariants.{Sandbox}
-use Rattle.csp_model.specs.declared.policy.Directive.{Directive}
-use Rattle.csp_model.specs.declared.policy.Disposition.{Disposition}
-use Rattle.csp_model.specs.declared.source.Source.{Source}
-use Rattle.csp_model.specs.declared.source.Source.TheVariants as source
 use Rattle.csp_policy.specs.Fates.{Serialized, delivered, fates, kept}
 use Rattle.csp_policy.specs.Fields.{trimmed}
-use Rattle.csp_policy.specs.declared.fate.Fate.{Fate}
-use Rattle.csp_policy.specs.declared.fate.Fate.TheVariants as fate
-use Rattle.csp_policy.specs.declared.fate.Reason.{Reason}
 use Rattle.csp_policy.specs.declared.fate.Reason.TheVariants.{Duplicate, NotAscii, NotInMeta}
 
 pub data Told : Type 0 where
@@ -36,9 +28,9 @@ directives_in pieces = filter_map kept pieces
 
 -- what is told of a piece that is dropped
 abbrev pub told_dropped : ℕ → (List ℕ × Fate) → Option Told
-told_dropped line (piece, fate.Empty) = None
-told_dropped line (piece, fate.Dropped reason) = Some (Dropped (trimmed piece) line (reason_text reason))
-told_dropped line (piece, fate.Kept directive) = None
+told_dropped line (piece, Fate.Empty) = None
+told_dropped line (piece, Fate.Dropped reason) = Some (Dropped (trimmed piece) line (reason_text reason))
+told_dropped line (piece, Fate.Kept directive) = None
 
 -- what is told of a serialized policy with these directives, and of one in which none is left
 abbrev pub told_policy : ℕ → Serialized → List Directive → Told
@@ -84,11 +76,11 @@ decides disposition name =
 
 -- what kind of a source expression a token is
 unfoldable pub kind_text : Source → List ℕ
-kind_text source.Star = codes "star"
-kind_text (source.SchemeOnly scheme) = codes "scheme"
-kind_text (source.Hosted scheme host port path) = codes "host"
-kind_text (source.Word word) = codes "keyword"
-kind_text (source.Nonce value) = codes "nonce"
-kind_text (source.Digest hash) = codes "hash"
-kind_text (source.Other token) =
+kind_text Source.Star = codes "star"
+kind_text (Source.SchemeOnly scheme) = codes "scheme"
+kind_text (Source.Hosted scheme host port path) = codes "host"
+kind_text (Source.Word word) = codes "keyword"
+kind_text (Source.Nonce value) = codes "nonce"
+kind_text (Source.Digest hash) = codes "hash"
+kind_text (Source.Other token) =
     if bytes_eq (lower token) (codes "'none'") then codes "none" else codes "other"

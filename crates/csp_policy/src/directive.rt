@@ -7,8 +7,7 @@ ghost use Rattle.csp_policy.specs.Fates as fates;
 ghost use Rattle.csp_policy.specs.Names.{KnowsNames};
 ghost use Rattle.csp_policy.specs.Room.{directive_with, shortened, kept_of, AreShortened};
 ghost use Rattle.csp_policy.specs.Standings.{standing_said, IsAsciiStanding};
-ghost use Rattle.csp_policy.specs.declared.directive.Standing.{Standing as StandingValue};
-ghost use Rattle.csp_policy.specs.declared.fate.Reason.{Reason as ReasonValue};
+ghost use Rattle.csp_policy.specs.Types.{Standing as StandingValue, Reason as ReasonValue};
 
 use crate::caseless_name::CaselessName;
 use crate::fate::Reason;

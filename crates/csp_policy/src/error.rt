@@ -25,7 +25,7 @@ pub enum BlockError {
 }
 
 impl From<Memory> for BlockError {
-    ghost use Rattle.csp_policy.specs.declared.error.BlockError.{BlockError};
+    ghost use Rattle.csp_policy.specs.Types.{BlockError};
 
     ghost from_gives = { λ _ made. made ≡ BlockError.Memory };
 

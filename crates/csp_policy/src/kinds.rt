@@ -3,7 +3,6 @@ ghost use Rattle.std.specs.Prelude.{◌≡◌};
 ghost use Rattle.csp_policy.specs.Told as spec;
 
 use crate::fate::Reason;
-use csp_match::names;
 use csp_model::{Disposition, Name, Source, name_text};
 
 fn is_name(known: Name, name: &str) -> bool
@@ -17,7 +16,7 @@ fn is_name(known: Name, name: &str) -> bool
 fn may_govern(name: &str) -> bool
     ensures { result ≡ spec.may_govern name.now }
 {
-    names().iter().any(|known| is_name(*known, name))
+    Name::ALL.iter().any(|known| is_name(*known, name))
 }
 
 // Whether a check may be governed by the directive of this name. A sandbox governs where the policy is enforced.

@@ -1,7 +1,7 @@
 //! Reads the policies of headers (Content Security Policy Level 3, sections 2.2 and 3.1 to 3.3).
 ghost use Rattle.std.specs.Prelude.{◌≡◌, ◌++◌, [], List as Items, MatchOption, OnOk, None, Some};
 ghost use Rattle.csp_model.specs.Policies as spec;
-ghost use Rattle.csp_model.specs.declared.policy.Policy.{Policy as AnyPolicy};
+ghost use Rattle.csp_policy.specs.Types.{Policy as AnyPolicy};
 ghost use Rattle.csp_policy.specs.Reads.{ReadsOn};
 ghost use Rattle.csp_policy.specs.Refusal as refusal;
 ghost use Rattle.csp_policy.specs.Room.{AreRead, kept_of};

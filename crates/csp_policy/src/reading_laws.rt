@@ -2,8 +2,7 @@
 ghost use Rattle.std.specs.Prelude.{◌≡◌, ℕ, ◌<◌, ◌-◌, ◌^◌, List as Items, Ok, filter, length, map};
 ghost use Rattle.std.specs.List.{filter_map, flat_map};
 ghost use Rattle.csp_model.specs.Policies.{policies};
-ghost use Rattle.csp_model.specs.declared.policy.PolicyList.{PolicyList};
-ghost use Rattle.csp_model.specs.declared.url.Origin.{Origin};
+ghost use Rattle.csp_policy.specs.Types.{PolicyList, Origin};
 ghost use Rattle.csp_policy.specs.Fates.{delivered, has_text, is_told, kept, piece_text};
 ghost use Rattle.csp_policy.specs.Refusal.{list_of};
 ghost use Rattle.csp_policy.specs.ReadingLaws.{directives_told, dropped_in, fates_in, is_piece, numbered};

@@ -30,11 +30,11 @@ use Rattle.csp_proof.specs.declared.proof.Body.{Body}
 use Rattle.csp_proof.specs.declared.proof.Body.TheVariants as body
 use Rattle.csp_proof.specs.declared.proof.Proof.{Proof}
 use Rattle.csp_proof.specs.declared.proof.Tree.{Tree}
-use Rattle.csp_proof.proofs.ShapesListed.{at_number, within_count}
+use Rattle.csp_facts.proofs.Listed.{at_number, within_count}
 
 -- Lists
 
-abbrev Each : {A : Type 0} → (A → Type 0) → List A → Type 0
+abbrev pub Each : {A : Type 0} → (A → Type 0) → List A → Type 0
 Each P [] = Unit {0}
 Each P (x ∷ xs) = P x × Each P xs
 
@@ -94,7 +94,7 @@ refused false allowed is not_allowed passes = cc is
 module _ (lists : Lists) (asked : Check) (valid : IsValidCheck asked) (by_first : All (IsSaid (hashes_in lists)) lists.first.policies)
     (by_second : All (IsSaid (hashes_in lists)) lists.second.policies) (allowed : list_allows lists.first asked ≡ true) where
   -- the policy of this number of the second list allows the check
-  abbrev Allowed : ℕ → Type 0
+  abbrev pub Allowed : ℕ → Type 0
   Allowed policy = (p : Policy) × (slice_get lists.second.policies policy ≡ Some p) × (allows p asked ≡ true)
 
   value_of : (expected : Bool) (kind : Shape) (literals : List Literal) (ps : List Policy) (i : ℕ) → All (IsSaid (hashes_in lists)) ps → HasShape asked kind → AreTrueOf (hashes_in lists) asked literals
@@ -134,7 +134,7 @@ module _ (lists : Lists) (asked : Check) (valid : IsValidCheck asked) (by_first 
   moved line None none = refl
   moved line (Some other) none = cc none
 
-  shared_sound : (pair : Pair) (line : ℕ) (b : Option Body) → HasShape asked pair.shape → bad_shared lists pair line b ≡ None → Allowed pair.policy
+  pub shared_sound : (pair : Pair) (line : ℕ) (b : Option Body) → HasShape asked pair.shape → bad_shared lists pair line b ≡ None → Allowed pair.policy
   shared_sound pair line None has none = cc none
   shared_sound pair line (Some (body.Same tree)) has none = cc none
   shared_sound pair line (Some (body.Nodes nodes)) has none = tree_sound pair line (cases_in nodes) has (moved line (bad_tree lists pair line (cases_in nodes)) none)
@@ -155,7 +155,7 @@ module _ (lists : Lists) (asked : Check) (valid : IsValidCheck asked) (by_first 
       let both = neither _ _ none in
       (λ has. body_sound all pair (tree.line + 1) tree.body has (below (is_for pair tree) tree _ both.0), from_sound all last ps trees both.1)
 
-  enforced_allow : (front ps : List Policy) → lists.second.policies ≡ front ++ ps → Each Allowed (enforced_from (length front) ps)
+  pub enforced_allow : (front ps : List Policy) → lists.second.policies ≡ front ++ ps → Each Allowed (enforced_from (length front) ps)
       → list_all (λ (p : Policy). not (is_enforce p.disposition) || allows p asked) ps ≡ true
   enforced_allow front [] is each = refl
   enforced_allow front (p ∷ ps) is each = elim (cases_Bool (is_enforce p.disposition)) [

@@ -10,7 +10,6 @@ pub mod Whole
 pub mod FirstLines
 pub mod Refused
 pub mod Ends
-pub mod ShapesListed
 pub mod CasesRead
 mod Examples
 pub mod Included

@@ -6,9 +6,7 @@ use Rattle.csp_model.specs.Fetch.{fetch_rule, SourcesAllow}
 use Rattle.csp_model.specs.DecideFetch.{sources_allow}
 use Rattle.csp_model.proofs.Deciding.{itself}
 use Rattle.csp_model.proofs.FetchDecided.{governed_decides, sources_decide}
-use Rattle.csp_model.specs.declared.check.Group.{Group}
-use Rattle.csp_model.specs.declared.source.Hash.{Hash}
-use Rattle.csp_model.specs.declared.policy.Policy.{Policy}
+use Rattle.csp_rules.specs.Types.{Group, Hash, Policy}
 use Rattle.csp_rules.specs.Listed.{ListedAllows, listed_allows}
 
 pub listed_decides : (policy : Policy) (kind : Group) (nonce : List ℕ) (integrity : List Hash) (parser_inserted listed : Bool)

@@ -5,9 +5,7 @@ use Rattle.csp_model.specs.DecideGoverning.{where_governed}
 use Rattle.csp_model.specs.Governing.{WhereGoverned}
 use Rattle.csp_model.specs.Fetch.{fetch_rule, SourcesAllow}
 use Rattle.csp_model.specs.DecideFetch.{sources_allow}
-use Rattle.csp_model.specs.declared.check.Group.{Group}
-use Rattle.csp_model.specs.declared.source.Hash.{Hash}
-use Rattle.csp_model.specs.declared.policy.Policy.{Policy}
+use Rattle.csp_rules.specs.Types.{Group, Hash, Policy}
 
 -- as `Fetch.FetchAllows`, with this answer in the place of the list's
 abbrev pub ListedAllows : Policy → Group → List ℕ → List Hash → Bool → Bool → Type 0

@@ -1,12 +1,12 @@
 //! The check of a fetch.
-ghost use Rattle.std.specs.Prelude.{◌≡◌, ◌↔◌, IsTrue};
+ghost use Rattle.std.specs.Prelude.{◌≡◌, ◌↔◌, Bool, IsTrue, unwrap_or};
 ghost use Rattle.csp_model.specs.DecideFetch as spec;
 ghost use Rattle.csp_model.specs.Fetch.{FetchAllows};
 ghost use Rattle.csp_rules.specs.Listed as listed_spec;
 
 use csp_match::{governor, list_matches};
-use csp_model::{FetchRule, Group, Hash, Keyword, List, Policy, Source, Text, Url};
-use csp_token::{has_keyword, integrity_matches, nonce_matches};
+use csp_model::{FetchRule, Group, Hash, Keyword, List, Policy, Text, Url};
+use csp_token::Tokens;
 
 /// Whether a policy allows a fetch, whatever its disposition (Content Security Policy Level 3, sections 6.1
 /// and 6.7.1).
@@ -32,9 +32,11 @@ pub fn fetch_allows(
         None => true,
         Some(found) => {
             let sources = &found.directive.sources;
-            let listed = list_matches(sources, &policy.origin, url, redirects != 0);
             let rule = group.rule(found.name);
-            sources_allow(rule, sources, nonce, integrity, parser_inserted, listed)
+            match decided_by_tokens(rule, sources, nonce, integrity, parser_inserted) {
+                Some(decided) => decided,
+                None => list_matches(sources, &policy.origin, url, redirects != 0),
+            }
         }
     }
 }
@@ -57,48 +59,43 @@ pub fn fetch_allows_listed(
     match governor(policy, group.directive()) {
         None => true,
         Some(found) => {
+            let sources = &found.directive.sources;
             let rule = group.rule(found.name);
-            sources_allow(
-                rule,
-                &found.directive.sources,
-                nonce,
-                integrity,
-                parser_inserted,
-                listed,
-            )
+            decided_by_tokens(rule, sources, nonce, integrity, parser_inserted).unwrap_or(listed)
         }
     }
 }
 
-// Whether a governing list allows a fetch, where `listed` says whether it matches the URL.
-fn sources_allow(
+/// What the tokens of a governing list decide on a fetch, before its URL is looked at: Some where they allow
+/// or refuse it from every URL, and None where it is allowed exactly if the list matches its URL (Content
+/// Security Policy Level 3, sections 6.1 and 6.7.1).
+pub fn decided_by_tokens<T: Tokens>(
     rule: FetchRule,
-    sources: &List<Source>,
+    tokens: &T,
     nonce: &Text,
     integrity: &List<Hash>,
     parser_inserted: bool,
-    listed: bool,
-) -> bool
-    ensures { result ≡ spec.sources_allow rule sources.now nonce.now integrity.now parser_inserted listed }
+) -> Option<bool>
+    ensures value { (listed : Bool) → unwrap_or result listed
+        ≡ spec.sources_allow rule (T.sources tokens.now) nonce.now integrity.now parser_inserted listed }
 {
     match rule {
-        FetchRule::List => listed,
-        FetchRule::Style => nonce_matches(nonce, sources) || listed,
-        FetchRule::Script => {
-            nonce_matches(nonce, sources)
-                || integrity_matches(integrity, sources)
-                || dynamic_or_listed(sources, parser_inserted, listed)
+        FetchRule::List => None,
+        FetchRule::Style => {
+            if tokens.nonce_matches(nonce) {
+                Some(true)
+            } else {
+                None
+            }
         }
-    }
-}
-
-// What the list says, or `'strict-dynamic'` in its place.
-fn dynamic_or_listed(sources: &List<Source>, parser_inserted: bool, listed: bool) -> bool
-    ensures { result ≡ spec.dynamic_or_listed sources.now parser_inserted listed }
-{
-    if has_keyword(sources, Keyword::StrictDynamic) {
-        !parser_inserted
-    } else {
-        listed
+        FetchRule::Script => {
+            if tokens.nonce_matches(nonce) || tokens.integrity_matches(integrity) {
+                Some(true)
+            } else if tokens.has_keyword(Keyword::StrictDynamic) {
+                Some(!parser_inserted)
+            } else {
+                None
+            }
+        }
     }
 }

@@ -1,13 +1,14 @@
 //! The checks of inline code and style, string compilation and WebAssembly.
-ghost use Rattle.std.specs.Prelude.{◌≡◌, ◌↔◌, IsTrue};
-ghost use Rattle.std.specs.List.{list_any};
+ghost use Rattle.std.specs.Prelude.{◌≡◌, ◌↔◌, ◌||◌, IsTrue};
 ghost use Rattle.csp_model.specs.DecideInline as spec;
+ghost use Rattle.csp_model.specs.DecideTokens.{has_keyword};
 ghost use Rattle.csp_model.specs.Inline.{InlineAllows, EvalAllows, WasmAllows};
-ghost use Rattle.csp_model.specs.Inline.{is_element_kind, is_script_kind, is_nonce_or_hash};
+ghost use Rattle.csp_model.specs.Inline.{is_element_kind, is_script_kind};
+ghost use Rattle.csp_model.specs.declared.source.Keyword.TheVariants as keyword;
 
 use csp_match::governor;
-use csp_model::{Digests, InlineKind, Keyword, List, Name, Policy, Source, Text};
-use csp_token::{digests_match, has_keyword, nonce_matches};
+use csp_model::{Digests, InlineKind, Keyword, Name, Policy, Text};
+use csp_token::Tokens;
 
 /// Whether a policy allows inline code or style of a kind, whatever its disposition (Content Security Policy
 /// Level 3, sections 4.2.3 and 6.7.3.3): by `'unsafe-inline'` where nothing makes it void, by the element's
@@ -19,7 +20,7 @@ pub fn inline_allows(policy: &Policy, kind: InlineKind, nonce: &Text, digests: &
 {
     match governor(policy, kind.directive()) {
         None => true,
-        Some(found) => sources_allow_inline(kind, nonce, digests, &found.directive.sources),
+        Some(found) => sources_allow_inline(kind, &found.directive.sources, nonce, digests),
     }
 }
 
@@ -32,7 +33,7 @@ pub fn eval_allows(policy: &Policy) -> bool
 {
     match governor(policy, Name::ScriptSrc) {
         None => true,
-        Some(found) => has_keyword(&found.directive.sources, Keyword::UnsafeEval),
+        Some(found) => sources_allow_eval(&found.directive.sources),
     }
 }
 
@@ -45,53 +46,54 @@ pub fn wasm_allows(policy: &Policy) -> bool
 {
     match governor(policy, Name::ScriptSrc) {
         None => true,
-        Some(found) => {
-            let sources = &found.directive.sources;
-            has_keyword(sources, Keyword::UnsafeEval)
-                || has_keyword(sources, Keyword::WasmUnsafeEval)
-        }
+        Some(found) => sources_allow_wasm(&found.directive.sources),
     }
 }
 
-fn sources_allow_inline(
+/// Whether a governing list allows inline code or style of a kind, as `inline_allows` says of the list that
+/// governs in a policy.
+pub fn sources_allow_inline<T: Tokens>(
     kind: InlineKind,
+    tokens: &T,
     nonce: &Text,
     digests: &Digests,
-    sources: &List<Source>,
 ) -> bool
-    ensures { result ≡ spec.sources_allow_inline kind nonce.now digests.now sources.now }
+    ensures value { result ≡ spec.sources_allow_inline kind nonce.now digests.now (T.sources tokens.now) }
 {
-    allows_all_inline(kind, sources)
-        || (is_element_kind(kind) && nonce_matches(nonce, sources))
-        || (digests_match(digests, sources) && hash_counts(kind, sources))
+    allows_all_inline(kind, tokens)
+        || (is_element_kind(kind) && tokens.nonce_matches(nonce))
+        || (hash_counts(kind, tokens) && tokens.digests_match(digests))
+}
+
+/// Whether a governing list allows the compilation of strings as script.
+pub fn sources_allow_eval<T: Tokens>(tokens: &T) -> bool
+    ensures value { result ≡ has_keyword keyword.UnsafeEval (T.sources tokens.now) }
+{
+    tokens.has_keyword(Keyword::UnsafeEval)
+}
+
+/// Whether a governing list allows the compilation of WebAssembly.
+pub fn sources_allow_wasm<T: Tokens>(tokens: &T) -> bool
+    ensures value { result ≡ (has_keyword keyword.UnsafeEval (T.sources tokens.now)
+        || has_keyword keyword.WasmUnsafeEval (T.sources tokens.now)) }
+{
+    tokens.has_keyword(Keyword::UnsafeEval) || tokens.has_keyword(Keyword::WasmUnsafeEval)
 }
 
 /// Whether `'unsafe-inline'` acts: no nonce, no hash and, for code, no `'strict-dynamic'` takes its place.
-pub fn allows_all_inline(kind: InlineKind, sources: &List<Source>) -> bool
-    ensures { result ≡ spec.allows_all_inline kind sources.now }
+pub fn allows_all_inline<T: Tokens>(kind: InlineKind, tokens: &T) -> bool
+    ensures { result ≡ spec.allows_all_inline kind (T.sources tokens.now) }
 {
-    has_keyword(sources, Keyword::UnsafeInline)
-        && !has_nonce_or_hash(sources)
-        && !(is_script_kind(kind) && has_keyword(sources, Keyword::StrictDynamic))
-}
-
-fn has_nonce_or_hash(sources: &List<Source>) -> bool
-    ensures { result ≡ list_any is_nonce_or_hash sources.now }
-{
-    sources.as_slice().iter().any(is_nonce_or_hash)
-}
-
-fn is_nonce_or_hash(source: &Source) -> bool
-    ensures { result ≡ is_nonce_or_hash source.now }
-{
-    matches!(source, Source::Nonce { .. } | Source::Digest { .. })
+    tokens.has_keyword(Keyword::UnsafeInline)
+        && !tokens.has_nonce_or_hash()
+        && !(is_script_kind(kind) && tokens.has_keyword(Keyword::StrictDynamic))
 }
 
 /// Whether a hash counts for the kind: for elements, and with `'unsafe-hashes'` for all.
-pub fn hash_counts(kind: InlineKind, sources: &List<Source>) -> bool
-    ensures { result ≡ spec.hash_counts kind sources.now }
+pub fn hash_counts<T: Tokens>(kind: InlineKind, tokens: &T) -> bool
+    ensures { result ≡ spec.hash_counts kind (T.sources tokens.now) }
 {
-    is_element_kind(kind) || has_keyword(sources, Keyword::UnsafeHashes)
+    is_element_kind(kind) || tokens.has_keyword(Keyword::UnsafeHashes)
 }
 
 /// Whether inline code or style of a kind is the text of a script or a style element.

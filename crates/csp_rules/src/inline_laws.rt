@@ -3,12 +3,8 @@ ghost use Rattle.std.specs.Prelude.{◌≡◌, ℕ, false, List as Items, Contai
 ghost use Rattle.csp_model.specs.DecideInline as spec;
 ghost use Rattle.csp_model.specs.Inline.{is_element_kind, is_script_kind};
 ghost use Rattle.csp_model.specs.Tokens.{HasKeyword};
-ghost use Rattle.csp_model.specs.declared.check.Digests.{Digests};
-ghost use Rattle.csp_model.specs.declared.check.InlineKind.{InlineKind};
-ghost use Rattle.csp_model.specs.declared.policy.Policy.{Policy};
-ghost use Rattle.csp_model.specs.declared.source.Hash.{Hash};
+ghost use Rattle.csp_rules.specs.Types.{Digests, InlineKind, Policy, Hash, Source};
 ghost use Rattle.csp_model.specs.declared.source.Keyword.TheVariants.{StrictDynamic};
-ghost use Rattle.csp_model.specs.declared.source.Source.{Source};
 ghost use Rattle.csp_model.specs.declared.source.Source.TheVariants as source;
 
 /// `'unsafe-inline'` is void beside a nonce or a hash, and for code beside `'strict-dynamic'` (Content

@@ -7,20 +7,16 @@
 
 mod fetch;
 pub mod fetch_laws;
-mod governed_fetch;
-mod governed_inline;
 mod inline;
 pub mod inline_laws;
 mod listed;
 pub mod navigation_laws;
 mod sandbox;
 
-pub use fetch::{fetch_allows, fetch_allows_listed};
-pub use governed_fetch::decided_by_tokens;
-pub use governed_inline::{governed_eval_allows, governed_inline_allows, governed_wasm_allows};
+pub use fetch::{decided_by_tokens, fetch_allows, fetch_allows_listed};
 pub use inline::{
     allows_all_inline, eval_allows, hash_counts, inline_allows, is_element_kind, is_script_kind,
-    wasm_allows,
+    sources_allow_eval, sources_allow_inline, sources_allow_wasm, wasm_allows,
 };
 pub use listed::{ancestor_allows, base_allows, form_allows, opaque_ancestor_allows};
 pub use sandbox::{capability_allows, token_grants, worker_start_allows};

@@ -1,9 +1,8 @@
 //! Laws of sandboxes, each the contract of a function with no body.
 ghost use Rattle.std.specs.Prelude.{◌≡◌, IsTrue};
 ghost use Rattle.csp_model.specs.DecideNavigation as spec;
-ghost use Rattle.csp_model.specs.declared.check.Capability.{Capability};
+ghost use Rattle.csp_rules.specs.Types.{Capability, Policy};
 ghost use Rattle.csp_model.specs.declared.policy.Disposition.TheVariants.{Report};
-ghost use Rattle.csp_model.specs.declared.policy.Policy.{Policy};
 
 /// The sandbox of a policy that only reports takes no capability away, and lets workers start.
 pub fn a_report_only_sandbox_allows_all()

@@ -1,15 +1,12 @@
-//! Checks and requests that are read, printed and judged by the library's calls.
-use crate::runs::{inputs, texts};
-use csp_io::MemorySink;
-use csp_model::{List, Origin};
+//! Checks that are read and printed by the library's calls, and requests of which violations are told.
+use csp_model::Origin;
 use csp_policy::read_block;
 use csp_request::{CheckError, Field, check_json, read_check, read_requests};
-use csp_run::{Status, run};
-use csp_verdict::{CompiledList, judge, violations};
+use csp_verdict::{judge, violations};
 use std::test::Fail;
 
 // A description of one check, and how the check is printed.
-const PRINTED: [(&str, &str); 9] = [
+const PRINTED: [(&str, &str); 11] = [
     (
         r#"{"kind":"fetch","destination":"image","url":"https://b.example:8443/a%20b/"}"#,
         r#"{"destination":"image","integrity":"","kind":"fetch","nonce":"","parser-inserted":false,"redirects":0,"url":{"host":"b.example","path":"/a%20b/","port":8443,"scheme":"https"}}"#,
@@ -17,6 +14,14 @@ const PRINTED: [(&str, &str); 9] = [
     (
         r#"{"kind":"fetch","destination":"paintworklet","url":"data:,","redirects":3,"nonce":"n","integrity":"SHA384-d?x"}"#,
         r#"{"destination":"script","integrity":"sha384-d","kind":"fetch","nonce":"n","parser-inserted":false,"redirects":3,"url":{"scheme":"data"}}"#,
+    ),
+    (
+        r#"{"kind":"fetch","destination":"script","url":"data:,","integrity":"sha256-abc?x SHA384-d md5-zz"}"#,
+        r#"{"destination":"script","integrity":"sha256-abc sha384-d","kind":"fetch","nonce":"","parser-inserted":false,"redirects":0,"url":{"scheme":"data"}}"#,
+    ),
+    (
+        r#"{"kind":"fetch","destination":"script","url":"data:,","integrity":"\tsha512-a-b\n sha256 sha384?-c"}"#,
+        r#"{"destination":"script","integrity":"sha512-a-b sha256- sha384-","kind":"fetch","nonce":"","parser-inserted":false,"redirects":0,"url":{"scheme":"data"}}"#,
     ),
     (r#"{"kind":"eval","source":"1"}"#, r#"{"kind":"eval"}"#),
     (r#"{"kind":"wasm"}"#, r#"{"kind":"wasm"}"#),
@@ -42,29 +47,13 @@ const PRINTED: [(&str, &str); 9] = [
     ),
 ];
 
-// A check is printed with all its members, and what is printed is the description of that check.
+// A check is printed with all its members.
 #[test]
 fn checks_are_printed_whole(rt: HostRuntime) -> Result<(), Fail> {
     for &(description, text) in &PRINTED {
         let check = read_check(rt.alloc(), description.as_bytes())?;
         let printed = check_json(rt.alloc(), &check)?;
         assert_eq!(rt; printed.as_slice(), text.as_bytes(), "at {description}");
-    }
-    Ok(())
-}
-
-// Between brackets it is a request file.
-#[test]
-fn a_printed_check_is_a_request(rt: HostRuntime) -> Result<(), Fail> {
-    for &(_, text) in &PRINTED {
-        let file = format!(in rt.alloc(); "[{text}]")?;
-        let requests = read_requests(rt.alloc(), file.as_bytes())?;
-        let check = read_check(rt.alloc(), text.as_bytes())?;
-        assert_eq!(rt; requests.len(), 1, "at {text}");
-        for request in requests.as_slice() {
-            assert_eq!(rt; request.checks.len(), 1, "at {text}");
-            assert!(rt; request.checks.get(0) == Some(&check), "at {text}");
-        }
     }
     Ok(())
 }
@@ -103,64 +92,21 @@ fn what_is_not_one_check(rt: HostRuntime) -> Result<(), Fail> {
     Ok(())
 }
 
-const POLICIES: &str =
-    "Content-Security-Policy: default-src 'self' https://*.b.example/x/ b.example:8443; \
-    script-src 'strict-dynamic' 'nonce-abc' 'sha256-47DEQpj8HBSa+/TImW+5JCeuQeRkm5NMpJWZG3hSuFU='; \
-    worker-src data:; form-action https://pay.example/x; sandbox allow-forms\n\
-    Content-Security-Policy-Report-Only: img-src *; base-uri 'none'; frame-ancestors https:\n";
-
-const REQUESTS: &str = r#"[
-    {"kind":"fetch","destination":"image","urls":["https://w.b.example/x/y","https://b.example/x/y"]},
-    {"kind":"fetch","destination":"image","url":"https://b.example:8443/"},
-    {"kind":"fetch","destination":"script","url":"https://c.example/","nonce":"abc"},
-    {"kind":"fetch","destination":"worker","url":"data:,","parser-inserted":true},
-    {"kind":"fetch","destination":"style","url":"https://a.example/"},
-    {"kind":"inline","type":"script","source":""},
-    {"kind":"inline","type":"style","source":"","nonce":"abc"},
-    {"kind":"eval"},
-    {"kind":"base","url":"https://a.example/"},
-    {"kind":"form","url":"https://pay.example/y","redirects":1},
-    {"kind":"ancestors","ancestors":["http://p.example","null"]},
-    {"kind":"capability","name":"forms"},
-    {"kind":"worker-start"}
-]"#;
-
-// A list that is made ready for many requests answers as the list itself does.
+// A script that is blocked, and what is told of it without a list that is made ready.
 #[test]
-fn a_compiled_list_answers_as_its_list(rt: HostRuntime) -> Result<(), Fail> {
-    let list = read_block(rt.alloc(), POLICIES.as_bytes(), &Origin::Opaque)?;
-    let compiled = CompiledList::new(rt.alloc(), &list)?;
-    let reporting = CompiledList::for_reports(rt.alloc(), &list)?;
-    let requests = read_requests(rt.alloc(), REQUESTS.as_bytes())?;
-    assert_eq!(rt; requests.len(), 13);
-    for request in requests.as_slice() {
-        let plain = judge(rt.alloc(), &list, request)?;
-        let made_ready = compiled.judge(rt.alloc(), request)?;
-        assert_eq!(rt; made_ready, plain);
-        let plain = violations(rt.alloc(), &list, request)?;
-        let made_ready = compiled.violations(rt.alloc(), request)?;
-        let printed_ahead = reporting.violations(rt.alloc(), request)?;
-        assert_eq!(rt; made_ready, plain);
-        assert_eq!(rt; printed_ahead, plain);
-    }
-    Ok(())
-}
-
-// As many requests as a file may have, under as many sources as a list may have, of which the last matches.
-#[test]
-fn many_requests_under_many_sources(rt: HostRuntime) -> Result<(), Fail> {
-    let sources = " https://a.example".repeat(rt.alloc(), 1023)?;
-    let policy = format!(in rt.alloc(); "Content-Security-Policy: img-src{sources} b.example")?;
-    let image = r#"{"kind":"fetch","destination":"image","url":"https://b.example/"}"#;
-    let others = format!(in rt.alloc(); ",{image}")?.repeat(rt.alloc(), 9_999)?;
-    let requests = format!(in rt.alloc(); "[{image}{others}]")?;
-    let words = texts(rt.alloc(), &["judge", "https://a.example", "p", "r"])?;
-    let mut files = inputs(rt.alloc(), policy.as_str(), requests.as_str())?;
-    let mut out = MemorySink::new(rt.alloc(), 1_000_000, 4096, List::new(rt.alloc()))?;
-    let mut desk = Vec::new(rt.alloc());
-    let status = run(rt.alloc(), &words, &mut files, &mut out, &mut desk);
-    assert_eq!(rt; status, Status::Clean);
-    assert!(rt; out.taken().starts_with(b"1 allowed\n2 allowed\n"));
-    assert!(rt; out.taken().ends_with(b"\n10000 allowed\n"));
+fn a_violation(rt: HostRuntime) -> Result<(), Fail> {
+    let list = read_block(
+        rt.alloc(),
+        b"Content-Security-Policy: default-src 'self'",
+        &Origin::Opaque,
+    )?;
+    let file = br#"[{"kind":"fetch","destination":"script","url":"https://b.example/s.js"}]"#;
+    let requests = read_requests(rt.alloc(), file)?;
+    let request = requests.get(0).ok_or("no request")?;
+    assert!(rt; judge(rt.alloc(), &list, request)?.blocked);
+    let found = violations(rt.alloc(), &list, request)?;
+    let first = found.get(0).ok_or("no violation")?;
+    assert_eq!(rt; first.blocked_uri.as_str(), "https://b.example/s.js");
+    assert_eq!(rt; first.policy.as_str(), "default-src 'self'");
     Ok(())
 }

@@ -1,6 +1,5 @@
 //! A request file that ends early.
-use crate::runs::{WORDS, judged};
-use csp_run::Status;
+use csp_request::{RequestError, read_requests};
 use std::test::Fail;
 
 // Scripts that the parser inserts and that it doesn't.
@@ -15,14 +14,10 @@ const SCRIPTS: &str = r#"[
 fn requests_cut_short(rt: HostRuntime) -> Result<(), Fail> {
     let mut cut = String::new(rt.alloc());
     for next in SCRIPTS.chars() {
-        let (status, written) = judged(rt.alloc(), &WORDS, "", cut.as_str())?;
-        assert_eq!(rt; status, Status::BadRequests, "before {next}");
-        assert_eq!(rt;
-            written.as_slice(),
-            b"bad requests: not a JSON array\n".as_slice()
-        );
+        let found = read_requests(rt.alloc(), cut.as_bytes()).err();
+        assert_eq!(rt; found, Some(RequestError::NotJson), "before {next}");
         cut.push(next)?;
     }
-    assert_eq!(rt; cut.as_str(), SCRIPTS);
+    assert_eq!(rt; read_requests(rt.alloc(), cut.as_bytes())?.len(), 3);
     Ok(())
 }

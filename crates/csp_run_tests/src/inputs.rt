@@ -1,23 +1,13 @@
 //! Tests of the inputs of csp_io, and of a read of each kind that fails.
 ghost use Rattle.std.specs.Prelude.{◌<◌};
 
-use crate::runs::numbers;
+use crate::runs::{files, numbers};
 use csp_io::{Failed, FileInputs, Inputs, MemoryInputs, ReadError, StartError, read_all};
-use csp_model::{Bytes, List, Memory, Text};
+use csp_model::{Bytes, Memory};
 use std::alloc::Global;
 use std::fs;
 use std::rt::Files;
 use std::test::Fail;
-
-// The files of these names and bytes.
-fn files(alloc: Global, all: &[(&str, &str)]) -> Result<List<(Text, Bytes)>, Memory> {
-    let mut made = List::new(alloc);
-    for (name, bytes) in all {
-        let bytes = Bytes::new(alloc, bytes.as_bytes())?;
-        made.push((Text::new(alloc, name)?, bytes))?;
-    }
-    Ok(made)
-}
 
 // Whether "hello" is read from the file of these bytes, which is neither the first nor the only
 // one of its name.

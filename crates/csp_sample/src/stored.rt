@@ -2,31 +2,35 @@
 //! the file `stdout`. Its texts were written by hand, but for the proofs and requests that the documents' examples
 //! show.
 //!
-//! A row is a line `=== WORDS`, lines that say what fails and what is shown, and the files in memory, each behind a
-//! line `--- NAME`. Where a row has no such line, the files are those of `data/`. A line of the head that begins with
-//! `#` is a comment. What a file holds is made from left to right, by text and by orders: `<<3 x text>>` adds so many
-//! copies, `<<from NAME>>` a file of `data/`; `<<line 3 is text>>`, `<<first 3 lines>>` and `<<no last byte>>` change what
+//! A row is a line `=== WORDS`, lines that say what fails, what is shown and which reporters there are, and the
+//! files in memory, each behind a line `--- NAME`. Where a row has no such line, the files are those of `data/`.
+//! A line of the head that begins with `#` is a comment. What a file holds is made from left to right, by text
+//! and by orders: `<<3 x text>>` adds so many copies, with the number of the copy in place of a `#`, and
+//! `<<from NAME>>` a file of `data/`; `<<line 3 is text>>`, `<<first 3 lines>>` and `<<no last byte>>` change what
 //! is there so far.
 
 use anyhow::Context;
-use csp_desk::{Lines, Reporter, Tally};
+use csp_desk::{FailingLines, Lines, Recent, Reporter, Tally};
 use csp_io::{FileInputs, Inputs, MemoryInputs, MemorySink};
 use csp_model::{Bytes, List, Memory, Text};
 use csp_run::{Status, exit_code, run};
 use std::alloc::Global;
 use std::fs;
 
-const FILES: [&str; 16] = [
+const FILES: [&str; 19] = [
     "examples.runs",
     "words.runs",
     "policies.runs",
     "reading.runs",
     "urls.runs",
+    "matching.runs",
     "kinds.runs",
     "descriptions.runs",
     "explaining.runs",
+    "reasons.runs",
     "reporting.runs",
     "comparing.runs",
+    "migrations.runs",
     "checking.runs",
     "embedding.runs",
     "tidying.runs",
@@ -52,36 +56,52 @@ enum Shown {
 #[derive(Drop)]
 struct Head<'a> {
     words: &'a str,
-    failing_read: Option<u64>,
-    failing_write: Option<u64>,
+    reporters: &'a str,
+    failing_read: Option<usize>,
+    failing_write: Option<usize>,
     room: usize,
     shown: Shown,
 }
 
 impl Head<'_> {
     fn read(text: &str) -> anyhow::Result<Head<'_>> {
-        let mut lines = text.split('\n');
-        let mut head = Head {
-            words: lines.next().unwrap_or(""),
-            failing_read: None,
-            failing_write: None,
-            room: 2_000_000,
-            shown: Shown::All,
-        };
-        for line in lines {
-            if let Some(call) = line.strip_prefix("reads fail at ") {
-                head.failing_read = Some(call.parse()?);
-            } else if let Some(call) = line.strip_prefix("writes fail at ") {
-                head.failing_write = Some(call.parse()?);
-            } else if let Some(room) = line.strip_prefix("room for bytes: ") {
-                head.room = room.parse()?;
-            } else if let Some(count) = line.strip_prefix("shown bytes: ") {
-                head.shown = Shown::Bytes(count.parse()?);
-            } else if line == "shown lines begin with a number" {
-                head.shown = Shown::Numbered;
-            }
+        Ok(Head {
+            words: said(text, "").unwrap_or(""),
+            reporters: said(text, "reporters: ").unwrap_or("lines tally"),
+            failing_read: number(text, "reads fail at ")?,
+            failing_write: number(text, "writes fail at ")?,
+            room: number(text, "room for bytes: ")?.unwrap_or(2_000_000),
+            shown: Shown::read(text)?,
+        })
+    }
+}
+
+impl Shown {
+    fn read(head: &str) -> anyhow::Result<Shown> {
+        if let Some(count) = number(head, "shown bytes: ")? {
+            return Ok(Shown::Bytes(count));
         }
-        Ok(head)
+        Ok(match said(head, "shown lines begin with a number") {
+            Some(_) => Shown::Numbered,
+            None => Shown::All,
+        })
+    }
+}
+
+// What the first line of the head that begins so goes on with.
+fn said<'a>(head: &'a str, front: &str) -> Option<&'a str> {
+    for line in head.split('\n') {
+        if let Some(rest) = line.strip_prefix(front) {
+            return Some(rest);
+        }
+    }
+    None
+}
+
+fn number(head: &str, front: &str) -> anyhow::Result<Option<usize>> {
+    match said(head, front) {
+        Some(digits) => Ok(Some(digits.parse()?)),
+        None => Ok(None),
     }
 }
 
@@ -107,21 +127,11 @@ fn run_row(rt: &HostRuntime, alloc: Global, row: &str) -> anyhow::Result<()> {
     let failing = numbers(alloc, head.failing_write)?;
     let mut out = MemorySink::new(alloc, head.room, 1, failing)?;
     let status = match files {
-        None => run_over_files(rt, alloc, head.words, &mut out)?,
+        None => run_words(alloc, &head, &mut FileInputs::new(rt, alloc), &mut out)?,
         Some(files) => run_in_memory(rt, alloc, &head, files, &mut out)?,
     };
     println!(rt; "=== {}\nexit code {}", head.words, exit_code(status))?;
     show(rt, str::from_utf8(out.taken())?, &head.shown)
-}
-
-fn run_over_files(
-    rt: &HostRuntime,
-    alloc: Global,
-    words: &str,
-    out: &mut MemorySink,
-) -> Result<Status, Memory> {
-    let mut inputs = FileInputs::new(rt, alloc);
-    run_words(alloc, words, &mut inputs, out)
 }
 
 fn run_in_memory(
@@ -138,28 +148,40 @@ fn run_in_memory(
         held.push((Text::new(alloc, name)?, bytes))?;
     }
     let mut inputs = MemoryInputs::new(held, PIECE, numbers(alloc, head.failing_read)?);
-    Ok(run_words(alloc, head.words, &mut inputs, out)?)
+    run_words(alloc, head, &mut inputs, out)
 }
 
-// Does what the words say, with one reporter of lines and one of counts, as the program has.
+// Does what the words say, with the reporters of the head.
 fn run_words<I: Inputs>(
     alloc: Global,
-    words: &str,
+    head: &Head<'_>,
     inputs: &mut I,
     out: &mut MemorySink,
-) -> Result<Status, Memory> {
-    let words = texts(alloc, words)?;
+) -> anyhow::Result<Status> {
+    let words = texts(alloc, head.words)?;
     let mut desk: Vec<Box<dyn Reporter>> = Vec::new(alloc);
-    desk.push(Box::new(alloc, Lines::new(alloc))?)?;
-    desk.push(Box::new(alloc, Tally::new(alloc))?)?;
+    for name in head.reporters.split(' ') {
+        match name {
+            "lines" => desk.push(Box::new(alloc, Lines::new(alloc))?)?,
+            "tally" => desk.push(Box::new(alloc, Tally::new(alloc))?)?,
+            "latest" => desk.push(Box::new(alloc, Recent::new(alloc, 1))?)?,
+            "count" => desk.push(Box::new(alloc, Recent::new(alloc, 0))?)?,
+            "failing" => {
+                let calls = numbers(alloc, Some(0))?;
+                desk.push(Box::new(alloc, FailingLines::new(alloc, calls))?)?;
+            }
+            _ => anyhow::ensure!(name == "none", "a reporter that isn't known"),
+        }
+    }
+    anyhow::ensure!(desk.len() <= 9, "too many reporters");
     Ok(run(alloc, &words, inputs, out, &mut desk))
 }
 
 // The number of the call that fails, if one does.
-fn numbers(alloc: Global, failing: Option<u64>) -> Result<List<u64>, Memory> {
+fn numbers(alloc: Global, failing: Option<usize>) -> Result<List<u64>, Memory> {
     let mut made = List::new(alloc);
     if let Some(call) = failing {
-        made.push(call)?;
+        made.push(call as u64)?;
     }
     Ok(made)
 }
@@ -211,7 +233,19 @@ fn carried_out(
         let (count, text) = order
             .split_once(" x ")
             .context("an order that isn't known")?;
-        made.push_str(text.repeat(alloc, count.parse()?)?.as_str())?;
+        made.push_str(copies(alloc, count.parse()?, text)?.as_str())?;
+    }
+    Ok(made)
+}
+
+// So many copies of the text, with the number of the copy, counted from 1, in place of a `#`.
+fn copies(alloc: Global, count: usize, text: &str) -> Result<String, Memory> {
+    let Some((front, end)) = text.split_once('#') else {
+        return Ok(text.repeat(alloc, count)?);
+    };
+    let mut made = String::new(alloc);
+    for number in 1..=count {
+        made.push_str(format!(in alloc; "{front}{number}{end}")?.as_str())?;
     }
     Ok(made)
 }

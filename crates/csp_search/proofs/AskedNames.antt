@@ -36,7 +36,7 @@ first_names q (suc n) = first_names q n ++ names_where (first_answer q n)
 
 -- at all of them, and that of the second list
 abbrev pub all_names : Question → List ℕ
-all_names q = first_names q (length q.first.now.policies) ++ names_where (second_answer q)
+all_names q = first_names q (length q.lists.now.first.now.policies) ++ names_where (second_answer q)
 
 -- The names of an answer are names of atoms that its policy's sentence speaks of
 
@@ -65,12 +65,12 @@ module _ (hashes : List Hash) (kind : Shape) where
 module _ (speak : AnswersSpeak) (there : NamesAreThere) (q : Question) (atoms : List Atom) where
   -- where all atoms of the policies are asked for
   names_asked : (policies : List Policy) (made : List PolicyAnswers) (place : ℕ) (found : Option Answer) → IsPosed q atoms
-      → AreAnswers atoms q.vocabulary.now.hashes policies made
-      → ((atom : Atom) → Contains (flat_map atoms_in (map (says q.vocabulary.now.hashes q.shape) policies)) atom → Contains (asked_atoms q) atom)
+      → AreAnswers atoms q.lists.now.vocabulary.hashes policies made
+      → ((atom : Atom) → Contains (flat_map atoms_in (map (says q.lists.now.vocabulary.hashes q.shape) policies)) atom → Contains (asked_atoms q) atom)
       → found ≡ enforced_answer policies made q.shape place → All (IsName q atoms) (names_where found)
   names_asked policies made place None posed are among same = All-nil (IsName q atoms)
   names_asked policies made place (Some answer) posed are among same =
-      let hashes = q.vocabulary.now.hashes in
+      let hashes = q.lists.now.vocabulary.hashes in
       let has = has_answer atoms hashes q.shape policies made place posed.listed are in
       let by = found_says atoms hashes q.shape (slice_get policies place) (answer_of made place (number q.shape)) answer has same in
       λ k d within.
@@ -84,21 +84,21 @@ module _ (speak : AnswersSpeak) (there : NamesAreThere) (q : Question) (atoms : 
 
   module _ (posed : IsPosed q atoms) where
     abbrev first_atoms : List Atom
-    first_atoms = atoms_of q.vocabulary.now.hashes q.shape q.first.now
+    first_atoms = atoms_of q.lists.now.vocabulary.hashes q.shape q.lists.now.first.now
 
     abbrev second_atoms : List Atom
-    second_atoms = atoms_of q.vocabulary.now.hashes q.shape q.second.now
+    second_atoms = atoms_of q.lists.now.vocabulary.hashes q.shape q.lists.now.second.now
 
     first_asked : (n : ℕ) → All (IsName q atoms) (first_names q n)
     first_asked zero = All-nil (IsName q atoms)
     first_asked (suc n) =
         All-append (IsName q atoms) (first_names q n) (names_where (first_answer q n)) (first_asked n)
-        (names_asked q.first.now.policies q.table.now.first n (first_answer q n) posed posed.first_answers (λ atom has. Contains-append_left first_atoms second_atoms atom has) refl)
+        (names_asked q.lists.now.first.now.policies q.lists.now.table.first n (first_answer q n) posed posed.lists.first_answers (λ atom has. Contains-append_left first_atoms second_atoms atom has) refl)
 
     all_asked : All (IsName q atoms) (all_names q)
     all_asked =
-        All-append (IsName q atoms) (first_names q (length q.first.now.policies)) (names_where (second_answer q)) (first_asked (length q.first.now.policies))
-        (names_asked q.second.now.policies q.table.now.second q.policy (second_answer q) posed posed.second_answers (λ atom has. Contains-append_right first_atoms second_atoms atom has) refl)
+        All-append (IsName q atoms) (first_names q (length q.lists.now.first.now.policies)) (names_where (second_answer q)) (first_asked (length q.lists.now.first.now.policies))
+        (names_asked q.lists.now.second.now.policies q.lists.now.table.second q.policy (second_answer q) posed posed.lists.second_answers (λ atom has. Contains-append_right first_atoms second_atoms atom has) refl)
 
 -- The names of each answer are among these
 
@@ -120,20 +120,20 @@ first_among q (suc n) place below = elim (cases_lt place n) [
       rw last (more_right (first_names q n) (names_where (first_answer q n)))
 ]
 
-nothing_past : (q : Question) (place : ℕ) → length q.first.now.policies ≤ place → first_answer q place ≡ None
+nothing_past : (q : Question) (place : ℕ) → length q.lists.now.first.now.policies ≤ place → first_answer q place ≡ None
 nothing_past q place past =
-    ap (λ (p : Option Policy). where_enforced p (answer_of q.table.now.first place (number q.shape))) (slice_get_past q.first.now.policies place past)
+    ap (λ (p : Option Policy). where_enforced p (answer_of q.lists.now.table.first place (number q.shape))) (slice_get_past q.lists.now.first.now.policies place past)
 
 each_among : (q : Question) (place : ℕ) → AreAmong (names_where (first_answer q place)) (all_names q)
 each_among q place =
-    let n = length q.first.now.policies in
+    let n = length q.lists.now.first.now.policies in
     elim (cases_lt place n) [
       | inl within ↦ more_left (names_where (first_answer q place)) (first_names q n) (names_where (second_answer q)) (first_among q n place within)
       | inr past ↦ rw (nothing_past q place past) (All-nil (Contains (first_names q n ++ names_where (second_answer q))))
     ]
 
 second_among : (q : Question) → AreAmong (names_where (second_answer q)) (all_names q)
-second_among q = more_right (first_names q (length q.first.now.policies)) (names_where (second_answer q))
+second_among q = more_right (first_names q (length q.lists.now.first.now.policies)) (names_where (second_answer q))
 
 -- So it is of the same names, sorted and each once
 

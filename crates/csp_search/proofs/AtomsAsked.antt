@@ -38,19 +38,19 @@ list_within law kind hashes list readable among =
     (λ k d within. law (get_or list.policies k d) kind hashes (readable.each k d within) (listed hashes list among k d within)))
 
 abbrev pub IsAtomOf : Question → Atom → Type 0
-IsAtomOf q = IsAtomAt q.shape q.vocabulary.now.hashes
+IsAtomOf q = IsAtomAt q.shape q.lists.now.vocabulary.hashes
 
 pub atoms_asked : AtomsAreOfShape → (q : Question) (names : List Atom) → IsPosed q names → All (IsAtomOf q) (asked_atoms q)
 atoms_asked law q names posed =
-    let first = q.first.now in
-    let second = q.second.now in
-    let hashes = q.vocabulary.now.hashes in
+    let first = q.lists.now.first.now in
+    let second = q.lists.now.second.now in
+    let hashes = q.lists.now.vocabulary.hashes in
     let joined = hashes_of first ++ hashes_of second in
     let among : (h : Hash) → Contains joined h → Contains hashes h =
-    λ h has. subst (λ (hs : List Hash). Contains hs h) (sym posed.hashes) ((Contains-distinct joined h).1 has) in
+    λ h has. subst (λ (hs : List Hash). Contains hs h) (sym posed.lists.hashes) ((Contains-distinct joined h).1 has) in
     All-append (IsAtomOf q) (atoms_of hashes q.shape first) (atoms_of hashes q.shape second)
-    (list_within law q.shape hashes first posed.first (λ h has. among h (Contains-append_left (hashes_of first) (hashes_of second) h has)))
-    (list_within law q.shape hashes second posed.second (λ h has. among h (Contains-append_right (hashes_of first) (hashes_of second) h has)))
+    (list_within law q.shape hashes first posed.lists.first (λ h has. among h (Contains-append_left (hashes_of first) (hashes_of second) h has)))
+    (list_within law q.shape hashes second posed.lists.second (λ h has. among h (Contains-append_right (hashes_of first) (hashes_of second) h has)))
 
 -- The literals of a branch and of its cell
 
@@ -67,7 +67,7 @@ module _ (q : Question) (names : List Atom) (ls : List Literal) (branch : IsBran
     pub cell_among : All (λ (l : Literal). Contains (asked_atoms q) l.atom) cell.literals
     cell_among = All-weaker (Contains ls) IsAsked (λ l has. All-contains IsAsked ls l branch.among has) cell.literals is.each
 
-    pub cell_known : All (IsAtomOf q) (asked_atoms q) → AreOfVocabulary q.vocabulary.now.hashes cell.literals
+    pub cell_known : All (IsAtomOf q) (asked_atoms q) → AreOfVocabulary q.lists.now.vocabulary.hashes cell.literals
     cell_known each =
-        All-weaker IsAsked (λ (l : Literal). IsOfVocabulary q.vocabulary.now.hashes l.atom)
+        All-weaker IsAsked (λ (l : Literal). IsOfVocabulary q.lists.now.vocabulary.hashes l.atom)
         (λ l has. (All-contains (IsAtomOf q) (asked_atoms q) l.atom each has).known) cell.literals cell_among

@@ -43,15 +43,15 @@ module _ (speaks : AnswersSpeak) (decides : LiteralsDecide) (q : Question) (name
       let each = subst (λ (atoms : List Atom). All IsKnown atoms) (sym (speaks names answer)) (All-map IsKnown (atom_in names) (names_of answer) named) in
       some_of (surely literals (sentence_in names answer)) (decides literals (sentence_in names answer) each)
 
-  first_known : (place : ℕ) → IsDecided (hashes_in (lists_of q)) q.shape literals (slice_get q.first.now.policies place)
+  first_known : (place : ℕ) → IsDecided (hashes_in (lists_of q)) q.shape literals (slice_get q.lists.now.first.now.policies place)
   first_known place = by (first_answer q place) refl (are.first place) where
-    by : (o : Option Answer) → o ≡ first_answer q place → IfSome o AreAmong → IsDecided (hashes_in (lists_of q)) q.shape literals (slice_get q.first.now.policies place)
+    by : (o : Option Answer) → o ≡ first_answer q place → IfSome o AreAmong → IsDecided (hashes_in (lists_of q)) q.shape literals (slice_get q.lists.now.first.now.policies place)
     by None same among = (first_silent q names literals posed place same).decided
     by (Some answer) same among = (first_tells q names literals posed place answer same).decided (answer_known answer among)
 
-  second_known : IsDecided (hashes_in (lists_of q)) q.shape literals (slice_get q.second.now.policies q.policy)
+  second_known : IsDecided (hashes_in (lists_of q)) q.shape literals (slice_get q.lists.now.second.now.policies q.policy)
   second_known = by (second_answer q) refl are.second where
-    by : (o : Option Answer) → o ≡ second_answer q → IfSome o AreAmong → IsDecided (hashes_in (lists_of q)) q.shape literals (slice_get q.second.now.policies q.policy)
+    by : (o : Option Answer) → o ≡ second_answer q → IfSome o AreAmong → IsDecided (hashes_in (lists_of q)) q.shape literals (slice_get q.lists.now.second.now.policies q.policy)
     by None same among = (second_silent q names literals posed same).decided
     by (Some answer) same among = (second_tells q names literals posed answer same).decided (answer_known answer among)
 

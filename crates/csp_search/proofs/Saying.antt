@@ -94,39 +94,39 @@ module _ (atoms : List Atom) (hashes : List Hash) (kind : Shape) where
 -- The answers of a question say what its policies say
 
 first_has : (q : Question) (atoms : List Atom) (place : ℕ) → IsPosed q atoms
-    → HasAnswer atoms (hashes_in (lists_of q)) q.shape (slice_get q.first.now.policies place) (answer_of q.table.now.first place (number q.shape))
+    → HasAnswer atoms (hashes_in (lists_of q)) q.shape (slice_get q.lists.now.first.now.policies place) (answer_of q.lists.now.table.first place (number q.shape))
 first_has q atoms place posed =
-    has_answer atoms (hashes_in (lists_of q)) q.shape q.first.now.policies q.table.now.first place posed.listed
-    (subst (λ (hs : List Hash). AreAnswers atoms hs q.first.now.policies q.table.now.first) posed.hashes posed.first_answers)
+    has_answer atoms (hashes_in (lists_of q)) q.shape q.lists.now.first.now.policies q.lists.now.table.first place posed.listed
+    (subst (λ (hs : List Hash). AreAnswers atoms hs q.lists.now.first.now.policies q.lists.now.table.first) posed.lists.hashes posed.lists.first_answers)
 
 second_has : (q : Question) (atoms : List Atom) → IsPosed q atoms
-    → HasAnswer atoms (hashes_in (lists_of q)) q.shape (slice_get q.second.now.policies q.policy) (answer_of q.table.now.second q.policy (number q.shape))
+    → HasAnswer atoms (hashes_in (lists_of q)) q.shape (slice_get q.lists.now.second.now.policies q.policy) (answer_of q.lists.now.table.second q.policy (number q.shape))
 second_has q atoms posed =
-    has_answer atoms (hashes_in (lists_of q)) q.shape q.second.now.policies q.table.now.second q.policy posed.listed
-    (subst (λ (hs : List Hash). AreAnswers atoms hs q.second.now.policies q.table.now.second) posed.hashes posed.second_answers)
+    has_answer atoms (hashes_in (lists_of q)) q.shape q.lists.now.second.now.policies q.lists.now.table.second q.policy posed.listed
+    (subst (λ (hs : List Hash). AreAnswers atoms hs q.lists.now.second.now.policies q.lists.now.table.second) posed.lists.hashes posed.lists.second_answers)
 
 module _ (q : Question) (atoms : List Atom) (literals : List Literal) (posed : IsPosed q atoms) where
   pub first_tells : (place : ℕ) (found : Answer) → Some found ≡ first_answer q place
-      → Tells atoms (hashes_in (lists_of q)) q.shape literals (slice_get q.first.now.policies place) found
+      → Tells atoms (hashes_in (lists_of q)) q.shape literals (slice_get q.lists.now.first.now.policies place) found
   first_tells place found same =
-      let policy = slice_get q.first.now.policies place in
+      let policy = slice_get q.lists.now.first.now.policies place in
       found_tells atoms (hashes_in (lists_of q)) q.shape literals policy found
-      (found_says atoms (hashes_in (lists_of q)) q.shape policy (answer_of q.table.now.first place (number q.shape)) found (first_has q atoms place posed) same)
+      (found_says atoms (hashes_in (lists_of q)) q.shape policy (answer_of q.lists.now.table.first place (number q.shape)) found (first_has q atoms place posed) same)
 
-  pub first_silent : (place : ℕ) → None ≡ first_answer q place → SaysNothing atoms (hashes_in (lists_of q)) q.shape literals (slice_get q.first.now.policies place)
+  pub first_silent : (place : ℕ) → None ≡ first_answer q place → SaysNothing atoms (hashes_in (lists_of q)) q.shape literals (slice_get q.lists.now.first.now.policies place)
   first_silent place same =
-      none_tells atoms (hashes_in (lists_of q)) q.shape literals (slice_get q.first.now.policies place) (answer_of q.table.now.first place (number q.shape)) (first_has q atoms place posed) same
+      none_tells atoms (hashes_in (lists_of q)) q.shape literals (slice_get q.lists.now.first.now.policies place) (answer_of q.lists.now.table.first place (number q.shape)) (first_has q atoms place posed) same
 
   pub second_tells : (found : Answer) → Some found ≡ second_answer q
-      → Tells atoms (hashes_in (lists_of q)) q.shape literals (slice_get q.second.now.policies q.policy) found
+      → Tells atoms (hashes_in (lists_of q)) q.shape literals (slice_get q.lists.now.second.now.policies q.policy) found
   second_tells found same =
-      let policy = slice_get q.second.now.policies q.policy in
+      let policy = slice_get q.lists.now.second.now.policies q.policy in
       found_tells atoms (hashes_in (lists_of q)) q.shape literals policy found
-      (found_says atoms (hashes_in (lists_of q)) q.shape policy (answer_of q.table.now.second q.policy (number q.shape)) found (second_has q atoms posed) same)
+      (found_says atoms (hashes_in (lists_of q)) q.shape policy (answer_of q.lists.now.table.second q.policy (number q.shape)) found (second_has q atoms posed) same)
 
-  pub second_silent : None ≡ second_answer q → SaysNothing atoms (hashes_in (lists_of q)) q.shape literals (slice_get q.second.now.policies q.policy)
+  pub second_silent : None ≡ second_answer q → SaysNothing atoms (hashes_in (lists_of q)) q.shape literals (slice_get q.lists.now.second.now.policies q.policy)
   second_silent same =
-      none_tells atoms (hashes_in (lists_of q)) q.shape literals (slice_get q.second.now.policies q.policy) (answer_of q.table.now.second q.policy (number q.shape)) (second_has q atoms posed) same
+      none_tells atoms (hashes_in (lists_of q)) q.shape literals (slice_get q.lists.now.second.now.policies q.policy) (answer_of q.lists.now.table.second q.policy (number q.shape)) (second_has q atoms posed) same
 
 -- what holds where it is decided holds where something is known
 pub decided_tells : {P : Type 0} (known said : Option Bool) → known ≡ said → (IsSome said → P) → MatchOption known ⊤ (λ _. P)

@@ -32,10 +32,10 @@ enforced_answer policies answers kind place =
     where_enforced (slice_get policies place) (answer_of answers place (number kind))
 
 abbrev pub first_answer : Question → ℕ → Option Answer
-first_answer q place = enforced_answer q.first.now.policies q.table.now.first q.shape place
+first_answer q place = enforced_answer q.lists.now.first.now.policies q.lists.now.table.first q.shape place
 
 abbrev pub second_answer : Question → Option Answer
-second_answer q = enforced_answer q.second.now.policies q.table.now.second q.shape q.policy
+second_answer q = enforced_answer q.lists.now.second.now.policies q.lists.now.table.second q.shape q.policy
 
 -- Names
 

@@ -38,8 +38,8 @@ fn enforced_answer<'q>(
 pub(crate) fn first_answer<'q>(question: Question<'q>, place: usize) -> Option<&'q Answer>
     ensures { option_copied result ≡ spec.first_answer question.entry place }
 {
-    let policies = question.first.policies.as_slice();
-    let answers = question.table.first.as_slice();
+    let policies = question.lists.first.policies.as_slice();
+    let answers = question.lists.table.first.as_slice();
     enforced_answer(policies, answers, question.shape, place)
 }
 
@@ -47,8 +47,8 @@ pub(crate) fn first_answer<'q>(question: Question<'q>, place: usize) -> Option<&
 pub(crate) fn second_answer<'q>(question: Question<'q>) -> Option<&'q Answer>
     ensures { option_copied result ≡ spec.second_answer question.entry }
 {
-    let policies = question.second.policies.as_slice();
-    let answers = question.table.second.as_slice();
+    let policies = question.lists.second.policies.as_slice();
+    let answers = question.lists.table.second.as_slice();
     enforced_answer(policies, answers, question.shape, question.policy as usize)
 }
 
@@ -59,7 +59,7 @@ pub(crate) fn asked_names(alloc: Global, question: Question) -> Result<Vec<usize
 {
     an_answer_speaks_of_its_names();
     let mut names = Vec::new(alloc);
-    for place in 0..question.first.policies.len() {
+    for place in 0..question.lists.first.policies.len() {
         add_names(alloc, first_answer(question, place), &mut names)?;
     }
     add_names(alloc, second_answer(question), &mut names)?;

@@ -19,7 +19,7 @@ pub(crate) fn first_standing(question: Question, branch: &Branch, place: usize) 
         (lists_of question.entry) (pair_of question.entry) branch.now.literals place }
     ensures known { MatchOption result ⊤ (λ _. spec.IsDecided
         (hashes_in (lists_of question.entry)) question.entry.shape branch.now.literals
-        (slice_get question.entry.first.now.policies place)) }
+        (slice_get question.entry.lists.now.first.now.policies place)) }
 {
     match first_answer(question, place) {
         Some(answer) => decided(branch, answer),
@@ -34,7 +34,7 @@ pub(crate) fn second_standing(question: Question, branch: &Branch) -> Option<boo
         (lists_of question.entry) (pair_of question.entry) branch.now.literals }
     ensures known { MatchOption result ⊤ (λ _. spec.IsDecided
         (hashes_in (lists_of question.entry)) question.entry.shape branch.now.literals
-        (slice_get question.entry.second.now.policies question.entry.policy)) }
+        (slice_get question.entry.lists.now.second.now.policies question.entry.policy)) }
 {
     match second_answer(question) {
         Some(answer) => decided(branch, answer),
@@ -83,7 +83,7 @@ pub(crate) fn leaf_of(question: Question, branch: &Branch) -> Option<Node>
     if is_met(question, branch) {
         return Some(Node::Met);
     }
-    for place in 0..question.first.policies.len() {
+    for place in 0..question.lists.first.policies.len() {
         if is_blocked(question, branch, place) {
             let policy = place as u32;
             return Some(Node::Blocked { policy });

@@ -16,4 +16,4 @@ mod tree;
 mod view;
 
 pub use probing::probe;
-pub use searching::{Found, Question, search};
+pub use searching::{AnsweredLists, Found, Question, search};

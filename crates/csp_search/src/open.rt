@@ -80,7 +80,7 @@ pub(crate) fn open_check(alloc: Global, asked: Asked, walker: &Walker) -> Result
     literals_that_decide_each_atom_decide_a_sentence();
     the_atoms_of_a_formula_are_of_its_shape();
     let cell = cell_of(alloc, asked.question.shape, walker)?;
-    representative(alloc, &cell, cell.shape(), asked.question.vocabulary)
+    representative(alloc, &cell, cell.shape(), &asked.question.lists.vocabulary)
 }
 
 // The cell of the checks of a shape of which the literals that lead to a branch are true.
@@ -91,7 +91,6 @@ fn cell_of(alloc: Global, shape: Shape, walker: &Walker) -> Result<Cell, Memory>
     ensures { IfOk result (IsCellOf shape walker.now.literals) }
 {
     let names = walker.branch().names();
-    names.are_in_order();
     let atoms = names.atoms();
     let mut cell = Cell::new(alloc, shape);
     for change in walker.changes() {

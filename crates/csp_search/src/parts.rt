@@ -5,8 +5,8 @@ use csp_answer::Answer;
 use csp_model::{Algorithm, CheckPart, Memory};
 use std::alloc::Global;
 
-// The parts of a check.
-const PARTS: [CheckPart; 9] = [
+// The parts of a check, in the order of their numbers.
+pub(crate) const PARTS: [CheckPart; 9] = [
     CheckPart::Host,
     CheckPart::Path,
     CheckPart::Port,

@@ -95,7 +95,7 @@ impl<'p> Plan<'p> {
             None => None,
         };
         let mut firsts = Vec::new(alloc);
-        for place in 0..question.first.policies.len() {
+        for place in 0..question.lists.first.policies.len() {
             if first_answer(question, place).is_some() {
                 firsts.push(place)?;
             }

@@ -148,7 +148,7 @@ fn allow_firsts(asked: Asked, walker: &mut Walker)
     ensures kept { at_root walker.new ≡ at_root walker.old }
     ensures stands { StandsOn asked.entry walker.new }
 {
-    for place in 0..asked.question.first.policies.len() {
+    for place in 0..asked.question.lists.first.policies.len() {
         if let Some(answer) = first_answer(asked.question, place) {
             allow(asked, walker, answer);
         }

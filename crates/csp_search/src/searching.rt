@@ -12,15 +12,20 @@ use csp_model::{Check, List, Memory, PolicyList};
 use csp_proof::Node;
 use std::alloc::Global;
 
-/// Whether a policy of the second list allows all checks of a shape that the first list allows.
-#[derive(Clone, Copy, Debug)]
-pub struct Question<'a> {
+/// Two lists of policies, and what both answer.
+#[derive(Debug, Drop)]
+pub struct AnsweredLists<'a> {
     pub first: &'a PolicyList,
     pub second: &'a PolicyList,
     /// The vocabulary of both lists.
-    pub vocabulary: &'a Vocabulary,
-    /// What the policies of both lists answer.
-    pub table: &'a AnswerTable,
+    pub vocabulary: Vocabulary,
+    pub table: AnswerTable,
+}
+
+/// Whether a policy of the second list allows all checks of a shape that the first list allows.
+#[derive(Clone, Copy, Debug)]
+pub struct Question<'a> {
+    pub lists: &'a AnsweredLists<'a>,
     pub shape: Shape,
     /// The number of the policy of the second list, counted from 0. The policy is enforced.
     pub policy: u32,

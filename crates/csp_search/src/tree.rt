@@ -52,7 +52,6 @@ fn walk(alloc: Global, asked: Asked, walker: &mut Walker) -> Result<Found, Memor
             }
             Step::Split { name } => {
                 let names = walker.branch().names();
-                names.are_in_order();
                 let atom = names.atoms()[name].copy(alloc)?;
                 nodes.push(Node::Split { atom })?;
                 walker.take(name, true);

@@ -1,6 +1,7 @@
 //! What a branch tells a plan.
 ghost use Rattle.std.specs.Prelude.{◌<◌, IfSome};
 
+use crate::parts::PARTS;
 use crate::searching::Question;
 use csp_answer::Conjunction;
 use csp_branch::{Branch, part_number};
@@ -110,15 +111,11 @@ impl<'v> View<'v> {
         let names = self.branch.names();
         let (unled, mut rest) = parted(conjunctions, Some(0));
         let mut left = vec![in alloc; unled]?;
-        while let Some(part) = rest.first().and_then(|first| self.part(first.lead?)) {
+        for part in PARTS {
             let (on_part, others) = parted(rest, Some(names.start(part_number(part) + 1)));
             match self.place(part) {
                 Some(place) => self.add_about(place, on_part, &mut left)?,
                 None => left.push(on_part)?,
-            }
-            // It never does, since they are sorted.
-            if others.len() >= rest.len() {
-                break;
             }
             rest = others;
         }

@@ -15,12 +15,7 @@ use Rattle.csp_model.specs.Grammar.{is_scheme_char, is_scheme, is_label_char, is
 use Rattle.csp_model.specs.Reading.{is_host_char, is_no_slash, authority, host_source}
 use Rattle.csp_model.proofs.SkipLaws.{skip_while-cons}
 use Rattle.csp_model.proofs.FinalBytes.{ends_in_front}
-use Rattle.csp_model.specs.declared.source.HostPart.{HostPart}
-use Rattle.csp_model.specs.declared.source.HostPart.TheVariants as host
-use Rattle.csp_model.specs.declared.source.PortPart.{PortPart}
-use Rattle.csp_model.specs.declared.source.PathPart.{PathPart}
-use Rattle.csp_model.specs.declared.source.Source.{Source}
-use Rattle.csp_model.specs.declared.source.Source.TheVariants as source
+use Rattle.csp_source.specs.Types.{HostPart, PortPart, PathPart, Source}
 
 -- a text that is empty, or whose first byte fails
 abbrev pub Stops : (ℕ → Bool) → List ℕ → Type 0
@@ -98,15 +93,15 @@ under_chars b t = let e = star_dot b (grind arith) in let k = name_chars (drop 2
 pub host_chars : (b : List ℕ) (h : HostPart) → host_part_of b ≡ Some h → list_all is_host_char b ≡ true
 unfolding host_part_of is_host_char
 host_chars b h e =
-    let plain = if is_name b then Some (host.Exact (lower b)) else None in
-    let under = if starts_with nat_eq b (codes "*.") && is_name (drop 2 b) then Some (host.Under (lower (drop 2 b))) else plain in
-    elim (chosen (bytes_eq b (codes "*")) (Some host.Any) under h e) [
+    let plain = if is_name b then Some (HostPart.Exact (lower b)) else None in
+    let under = if starts_with nat_eq b (codes "*.") && is_name (drop 2 b) then Some (HostPart.Under (lower (drop 2 b))) else plain in
+    elim (chosen (bytes_eq b (codes "*")) (Some HostPart.Any) under h e) [
       | inl one ↦ star_chars b one.0
       | inr two ↦
-          elim (chosen (starts_with nat_eq b (codes "*.") && is_name (drop 2 b)) (Some (host.Under (lower (drop 2 b)))) plain h two.1) [
+          elim (chosen (starts_with nat_eq b (codes "*.") && is_name (drop 2 b)) (Some (HostPart.Under (lower (drop 2 b)))) plain h two.1) [
             | inl three ↦ under_chars b three.0
             | inr four ↦
-                elim (chosen (is_name b) (Some (host.Exact (lower b))) None h four.1) [ inl five ↦ name_chars b five.0 | inr six ↦ cc ]
+                elim (chosen (is_name b) (Some (HostPart.Exact (lower b))) None h four.1) [ inl five ↦ name_chars b five.0 | inr six ↦ cc ]
           ]
     ]
 
@@ -160,7 +155,7 @@ no_scheme_after (x ∷ []) d p q e k = grind (arith, common_steps)
 no_scheme_after (x ∷ y ∷ c) d p q e k = grind (arith, common_steps, bytes_eq-Decides (y ∷ c) (codes "*"))
 
 pub authority_again : (scheme : Option (List ℕ)) (b c d : List ℕ) (h : HostPart) (p : PortPart) (q : PathPart) → host_part_of b ≡ Some h → port_part_of c ≡ Some p → path_part_of d ≡ Some q
-    → authority scheme (b ++ (c ++ d)) ≡ Some (source.Hosted scheme h p q)
+    → authority scheme (b ++ (c ++ d)) ≡ Some (Source.Hosted scheme h p q)
 unfolding authority
 authority_again scheme b c d h p q eb ec ed =
     let f = take_while-append is_host_char b (c ++ d) (host_chars b h eb) (port_stops c d p ec (path_stops d q ed).0) in
@@ -169,7 +164,7 @@ authority_again scheme b c d h p q eb ec ed =
     let k2 = skip_while-append is_no_slash c d (port_chars c p ec) (path_stops d q ed).1 in
     simp (f, k, f2, k2, eb, ec, ed)
 
-pub host_again : (token : List ℕ) (scheme : Option (List ℕ)) (h : HostPart) (p : PortPart) (q : PathPart) → IsHostSource token scheme h p q → host_source token ≡ Some (source.Hosted scheme h p q)
+pub host_again : (token : List ℕ) (scheme : Option (List ℕ)) (h : HostPart) (p : PortPart) (q : PathPart) → IsHostSource token scheme h p q → host_source token ≡ Some (Source.Hosted scheme h p q)
 unfolding is_scheme_char host_source
 host_again token None h p q (a, b, c, d, e, sa, eb, ec, ed) =
     let e' : token ≡ b ++ (c ++ d) = e ∙ ap (λ x. x ++ (b ++ (c ++ d))) sa in
@@ -185,13 +180,13 @@ host_again token (Some scheme) h p q (a, b, c, d, e, (letters, ea, good, lowered
 
 -- and back
 pub authority_takes : (scheme : Option (List ℕ)) (text : List ℕ) (s : Source) → authority scheme text ≡ Some s
-    → (h : HostPart) × (p : PortPart) × (q : PathPart) × (s ≡ source.Hosted scheme h p q) × (host_part_of (take_while is_host_char text) ≡ Some h)
+    → (h : HostPart) × (p : PortPart) × (q : PathPart) × (s ≡ Source.Hosted scheme h p q) × (host_part_of (take_while is_host_char text) ≡ Some h)
     × (port_part_of (take_while is_no_slash (skip_while is_host_char text)) ≡ Some p) × (path_part_of (skip_while is_no_slash (skip_while is_host_char text)) ≡ Some q)
 unfolding authority
 authority_takes scheme text s e = go (host_part_of (take_while is_host_char text)) (port_part_of (take_while is_no_slash (skip_while is_host_char text))) (path_part_of (skip_while is_no_slash (skip_while is_host_char text))) e where
   go : (h : Option HostPart) (p : Option PortPart) (q : Option PathPart)
-      → option_and_then (λ host_part. option_and_then (λ port_part. option_map (λ path_part. source.Hosted scheme host_part port_part path_part) q) p) h ≡ Some s
-      → (h' : HostPart) × (p' : PortPart) × (q' : PathPart) × (s ≡ source.Hosted scheme h' p' q') × (h ≡ Some h') × (p ≡ Some p') × (q ≡ Some q')
+      → option_and_then (λ host_part. option_and_then (λ port_part. option_map (λ path_part. Source.Hosted scheme host_part port_part path_part) q) p) h ≡ Some s
+      → (h' : HostPart) × (p' : PortPart) × (q' : PathPart) × (s ≡ Source.Hosted scheme h' p' q') × (h ≡ Some h') × (p ≡ Some p') × (q ≡ Some q')
   go None p q e = cc
   go (Some h) None q e = cc
   go (Some h) (Some p) None e = cc
@@ -207,7 +202,7 @@ scheme_end (c ∷ d ∷ []) h = grind (arith, common_steps)
 scheme_end (c ∷ d ∷ f ∷ s) h = grind (arith, common_steps)
 
 pub host_takes : (token : List ℕ) (s : Source) → host_source token ≡ Some s
-    → (scheme : Option (List ℕ)) × (h : HostPart) × (p : PortPart) × (q : PathPart) × (s ≡ source.Hosted scheme h p q) × IsHostSource token scheme h p q
+    → (scheme : Option (List ℕ)) × (h : HostPart) × (p : PortPart) × (q : PathPart) × (s ≡ Source.Hosted scheme h p q) × IsHostSource token scheme h p q
 unfolding host_source
 host_takes token s e =
     let letters = take_while is_scheme_char token in

@@ -1,18 +1,13 @@
 -- A token that is built as a kind is read as it, and back; "*" apart.
-use Rattle.std.proofs.Common.{arith, ◌≡◌, ◌∙◌, sym, ap, refl, subst, ℕ, ◌-◌, suc, false, length, take, List, [], ◌∷◌, ◌++◌, Some, None, Option, inl, inr}
+use Rattle.std.proofs.Common.{arith, ◌≡◌, ◌∙◌, sym, ap, refl, subst, ℕ, ◌-◌, suc, false, length, take, drop, List, [], ◌∷◌, ◌++◌, Some, None, Option, inl, inr}
 use Rattle.std.specs.Prelude.{codes, ◌⊎◌, ◌≢◌}
 use Rattle.std.specs.Char.{to_ascii_lowercase}
 use Rattle.std.specs.Option.{option_map}
 use Rattle.csp_model.specs.Ascii.{lower, without_last}
 use Rattle.csp_model.specs.Grammar.{is_scheme, IsKind, IsQuoted, keyword_text, algorithm_text, is_scheme_char, is_label_char, is_name, host_part_of}
 use Rattle.csp_model.specs.Reading.{first_of, kind_of, scheme_source, host_source, keyword_source, nonce_source, hash_source, quoted_value, authority, is_host_char}
-use Rattle.csp_model.specs.declared.source.Algorithm.{Algorithm}
+use Rattle.csp_source.specs.Types.{Algorithm, Hash, Keyword, Source}
 use Rattle.csp_model.specs.declared.source.Algorithm.TheVariants.{Sha256, Sha384, Sha512}
-use Rattle.csp_model.specs.declared.source.Hash.{Hash}
-use Rattle.csp_model.specs.declared.source.Keyword.{Keyword}
-use Rattle.csp_model.specs.declared.source.Keyword.TheVariants as keyword
-use Rattle.csp_model.specs.declared.source.Source.{Source}
-use Rattle.csp_model.specs.declared.source.Source.TheVariants as source
 use Rattle.csp_source.proofs.HostLaws.{and_false, host_again, host_takes}
 use Rattle.csp_source.proofs.SchemeLaws.{scheme_again, scheme_takes, no_host}
 use Rattle.csp_source.proofs.QuotedLaws.{keyword_is, keyword_from, keyword_again, keyword_takes, quoted_again, quoted_takes, quoted_lower, quoted_none}
@@ -56,22 +51,22 @@ hash_none : (algorithm : Algorithm) (token : List ℕ) → quoted_value (39 ∷ 
 unfolding hash_source
 hash_none algorithm token e = rw e refl
 
-nonce_again : (token value : List ℕ) → IsQuoted (codes "'nonce-") token value → nonce_source token ≡ Some (source.Nonce value)
+nonce_again : (token value : List ℕ) → IsQuoted (codes "'nonce-") token value → nonce_source token ≡ Some (Source.Nonce value)
 unfolding nonce_source
 nonce_again token value h = rw (quoted_again (codes "'nonce-") token value h) refl
 
-hash_again : (hash : Hash) (token : List ℕ) → IsQuoted (39 ∷ algorithm_text hash.algorithm ++ codes "-") token hash.value → hash_source hash.algorithm token ≡ Some (source.Digest hash)
+hash_again : (hash : Hash) (token : List ℕ) → IsQuoted (39 ∷ algorithm_text hash.algorithm ++ codes "-") token hash.value → hash_source hash.algorithm token ≡ Some (Source.Digest hash)
 unfolding hash_source
 hash_again hash token h = rw (quoted_again (39 ∷ algorithm_text hash.algorithm ++ codes "-") token hash.value h) refl
 
-nonce_kind : (token value : List ℕ) → IsQuoted (codes "'nonce-") token value → kind_of token ≡ Some (source.Nonce value)
+nonce_kind : (token value : List ℕ) → IsQuoted (codes "'nonce-") token value → kind_of token ≡ Some (Source.Nonce value)
 nonce_kind token value h =
     let low = quoted_lower (codes "'nonce-") token value h in
     let k : keyword_source token ≡ None = keyword_is token ∙ ap keyword_from low in
     quoted_kind token _ low ∙ rw (k, nonce_again token value h) refl
 
 digest_kind : (algorithm : Algorithm) (value token : List ℕ) → IsQuoted (39 ∷ algorithm_text algorithm ++ codes "-") token value
-    → kind_of token ≡ Some (source.Digest (record { algorithm = algorithm; value = value }))
+    → kind_of token ≡ Some (Source.Digest (record { algorithm = algorithm; value = value }))
 digest_kind Sha256 value token h =
     let low = quoted_lower (codes "'sha256-") token value h in
     let k : keyword_source token ≡ None = keyword_is token ∙ ap keyword_from low in
@@ -93,15 +88,9 @@ digest_kind Sha512 value token h =
 
 -- the keywords begin with "'"
 keyword_begins : (word : Keyword) → (rest : List ℕ) × (keyword_text word ≡ 39 ∷ rest)
-keyword_begins keyword.SelfOrigin = (_, refl)
-keyword_begins keyword.UnsafeInline = (_, refl)
-keyword_begins keyword.UnsafeEval = (_, refl)
-keyword_begins keyword.WasmUnsafeEval = (_, refl)
-keyword_begins keyword.StrictDynamic = (_, refl)
-keyword_begins keyword.UnsafeHashes = (_, refl)
-keyword_begins keyword.ReportSample = (_, refl)
+keyword_begins word = (drop 1 (keyword_text word), grind arith)
 
-word_kind : (token : List ℕ) (word : Keyword) → lower token ≡ keyword_text word → kind_of token ≡ Some (source.Word word)
+word_kind : (token : List ℕ) (word : Keyword) → lower token ≡ keyword_text word → kind_of token ≡ Some (Source.Word word)
 word_kind token word e =
     let (rest, is) = keyword_begins word in
     quoted_kind token rest (e ∙ is) ∙ rw (keyword_again token word e) refl
@@ -124,36 +113,36 @@ unfolding kind_of
 host_kind token s e = rw (no_scheme_hosted token s e, e) refl
 
 abbrev pub IsNoStar : Source → Type 0
-IsNoStar source.Star = ⊥
+IsNoStar Source.Star = ⊥
 IsNoStar kind = Unit {0}
 
 -- a token that is built as some kind but "*" is of that kind
 pub kind_built : (token : List ℕ) (kind : Source) → IsNoStar kind → IsKind token kind → kind_of token ≡ Some kind
-kind_built token source.Star some h = absurd some
-kind_built token (source.SchemeOnly scheme) some h = scheme_kind token _ (scheme_again token scheme h)
-kind_built token (source.Hosted scheme host_part port_part path_part) some h = host_kind token _ (host_again token scheme host_part port_part path_part h.1)
-kind_built token (source.Word word) some h = word_kind token word h
-kind_built token (source.Nonce value) some h = nonce_kind token value h
-kind_built token (source.Digest hash) some h = digest_kind hash.algorithm hash.value token h
-kind_built token (source.Other text) some h = absurd h
+kind_built token Source.Star some h = absurd some
+kind_built token (Source.SchemeOnly scheme) some h = scheme_kind token _ (scheme_again token scheme h)
+kind_built token (Source.Hosted scheme host_part port_part path_part) some h = host_kind token _ (host_again token scheme host_part port_part path_part h.1)
+kind_built token (Source.Word word) some h = word_kind token word h
+kind_built token (Source.Nonce value) some h = nonce_kind token value h
+kind_built token (Source.Digest hash) some h = digest_kind hash.algorithm hash.value token h
+kind_built token (Source.Other text) some h = absurd h
 
 -- ---- and back
 
 nonce_takes : (token : List ℕ) (s : Source) → nonce_source token ≡ Some s → IsKind token s
 unfolding nonce_source
 nonce_takes token s e = go (quoted_value (codes "'nonce-") token) refl e where
-  go : (o : Option (List ℕ)) → quoted_value (codes "'nonce-") token ≡ o → option_map (λ value. source.Nonce value) o ≡ Some s → IsKind token s
+  go : (o : Option (List ℕ)) → quoted_value (codes "'nonce-") token ≡ o → option_map (λ value. Source.Nonce value) o ≡ Some s → IsKind token s
   go None is e = cc
-  go (Some value) is e = let same : source.Nonce value ≡ s = cc in subst (IsKind token) same (quoted_takes (codes "'nonce-") token value is)
+  go (Some value) is e = let same : Source.Nonce value ≡ s = cc in subst (IsKind token) same (quoted_takes (codes "'nonce-") token value is)
 
 hash_takes : (algorithm : Algorithm) (token : List ℕ) (s : Source) → hash_source algorithm token ≡ Some s → IsKind token s
 unfolding hash_source
 hash_takes algorithm token s e = go (quoted_value (39 ∷ algorithm_text algorithm ++ codes "-") token) refl e where
   go : (o : Option (List ℕ)) → quoted_value (39 ∷ algorithm_text algorithm ++ codes "-") token ≡ o
-      → option_map (λ value. source.Digest (record { algorithm = algorithm; value = value })) o ≡ Some s → IsKind token s
+      → option_map (λ value. Source.Digest (record { algorithm = algorithm; value = value })) o ≡ Some s → IsKind token s
   go None is e = cc
   go (Some value) is e =
-      let same : source.Digest (record { algorithm = algorithm; value = value }) ≡ s = cc in
+      let same : Source.Digest (record { algorithm = algorithm; value = value }) ≡ s = cc in
       subst (IsKind token) same (quoted_takes (39 ∷ algorithm_text algorithm ++ codes "-") token value is)
 
 first_takes : {A : Type 0} (o : Option A) (rest : List (Option A)) (a : A) → first_of (o ∷ rest) ≡ Some a → (o ≡ Some a) ⊎ (first_of rest ≡ Some a)

@@ -11,8 +11,7 @@ use Rattle.std.proofs.lemmas.Slice.Eq.{bytes_eq-Decides}
 use Rattle.std.proofs.lemmas.Str.Ascii.{lowercase-lowercase}
 use Rattle.csp_model.specs.Ascii.{lower, split_at, without_final}
 use Rattle.csp_model.specs.Grammar.{is_scheme_char, is_scheme, is_label_char, is_label, is_name, host_part_of}
-use Rattle.csp_model.specs.declared.source.HostPart.{HostPart}
-use Rattle.csp_model.specs.declared.source.HostPart.TheVariants as host
+use Rattle.csp_source.specs.Types.{HostPart}
 use Rattle.csp_source.specs.Spelling.{host_spelling}
 use Rattle.csp_model.proofs.FinalBytes.{without_final-push, last_view}
 use Rattle.csp_source.proofs.HostLaws.{chosen, weaker, parts_pass, without_final_pass, star_dot}
@@ -122,21 +121,21 @@ no_star_dot s h = elim (bool_view (starts_with nat_eq s (codes "*."))) [
   | inr other ↦ other
 ]
 
-exact_host : (s : List ℕ) → is_name s ≡ true → host_part_of s ≡ Some (host.Exact (lower s))
+exact_host : (s : List ℕ) → is_name s ≡ true → host_part_of s ≡ Some (HostPart.Exact (lower s))
 unfolding host_part_of
 exact_host s h = rw (no_star s h, no_star_dot s h, h) refl
 
-under_host : (s : List ℕ) → is_name s ≡ true → host_part_of (codes "*." ++ s) ≡ Some (host.Under (lower s))
+under_host : (s : List ℕ) → is_name s ≡ true → host_part_of (codes "*." ++ s) ≡ Some (HostPart.Under (lower s))
 unfolding host_part_of
 under_host s h = rw h refl
 
-spelt_under : (s : List ℕ) → is_name s ≡ true → host_part_of (codes "*." ++ lower s) ≡ Some (host.Under (lower s))
-spelt_under s h = under_host (lower s) (is_name-lower s h) ∙ ap (λ x. Some (host.Under x)) (lower-lower s)
+spelt_under : (s : List ℕ) → is_name s ≡ true → host_part_of (codes "*." ++ lower s) ≡ Some (HostPart.Under (lower s))
+spelt_under s h = under_host (lower s) (is_name-lower s h) ∙ ap (λ x. Some (HostPart.Under x)) (lower-lower s)
 
-spelt_exact : (s : List ℕ) → is_name s ≡ true → host_part_of (lower s) ≡ Some (host.Exact (lower s))
-spelt_exact s h = exact_host (lower s) (is_name-lower s h) ∙ ap (λ x. Some (host.Exact x)) (lower-lower s)
+spelt_exact : (s : List ℕ) → is_name s ≡ true → host_part_of (lower s) ≡ Some (HostPart.Exact (lower s))
+spelt_exact s h = exact_host (lower s) (is_name-lower s h) ∙ ap (λ x. Some (HostPart.Exact x)) (lower-lower s)
 
-any_host : host_part_of (codes "*") ≡ Some host.Any
+any_host : host_part_of (codes "*") ≡ Some HostPart.Any
 unfolding host_part_of
 any_host = refl
 
@@ -144,16 +143,16 @@ pub host_spelt : (text : List ℕ) (host_part : HostPart) → host_part_of text 
 unfolding host_part_of
 host_spelt text host_part e =
     let Spelt : HostPart → Type 0 = λ part. host_part_of (host_spelling part) ≡ Some part in
-    let exact = if is_name text then Some (host.Exact (lower text)) else None in
-    let under = if starts_with nat_eq text (codes "*.") && is_name (drop 2 text) then Some (host.Under (lower (drop 2 text))) else exact in
-    elim (chosen (bytes_eq text (codes "*")) (Some host.Any) under host_part e) [
-      | inl one ↦ let is : host.Any ≡ host_part = cc in subst Spelt is any_host
+    let exact = if is_name text then Some (HostPart.Exact (lower text)) else None in
+    let under = if starts_with nat_eq text (codes "*.") && is_name (drop 2 text) then Some (HostPart.Under (lower (drop 2 text))) else exact in
+    elim (chosen (bytes_eq text (codes "*")) (Some HostPart.Any) under host_part e) [
+      | inl one ↦ let is : HostPart.Any ≡ host_part = cc in subst Spelt is any_host
       | inr two ↦
-          elim (chosen (starts_with nat_eq text (codes "*.") && is_name (drop 2 text)) (Some (host.Under (lower (drop 2 text)))) exact host_part two.1) [
-            | inl three ↦ let is : host.Under (lower (drop 2 text)) ≡ host_part = cc in subst Spelt is (spelt_under (drop 2 text) (grind (arith, three.0)))
+          elim (chosen (starts_with nat_eq text (codes "*.") && is_name (drop 2 text)) (Some (HostPart.Under (lower (drop 2 text)))) exact host_part two.1) [
+            | inl three ↦ let is : HostPart.Under (lower (drop 2 text)) ≡ host_part = cc in subst Spelt is (spelt_under (drop 2 text) (grind (arith, three.0)))
             | inr four ↦
-                elim (chosen (is_name text) (Some (host.Exact (lower text))) None host_part four.1) [
-                  | inl five ↦ let is : host.Exact (lower text) ≡ host_part = cc in subst Spelt is (spelt_exact text five.0)
+                elim (chosen (is_name text) (Some (HostPart.Exact (lower text))) None host_part four.1) [
+                  | inl five ↦ let is : HostPart.Exact (lower text) ≡ host_part = cc in subst Spelt is (spelt_exact text five.0)
                   | inr six ↦ cc
                 ]
           ]

@@ -7,7 +7,7 @@ use Rattle.std.proofs.lemmas.Bool.{false≢true, eqb-true}
 use Rattle.percent_encoding.specs.Percent.{percent_decode}
 use Rattle.csp_model.specs.Ascii.{split_at, is_nonempty, without_last}
 use Rattle.csp_model.specs.Grammar.{is_segment, are_segments, pieces_of, path_part_of}
-use Rattle.csp_model.specs.declared.source.PathPart.TheVariants as path
+use Rattle.csp_source.specs.Types.{PathPart}
 use Rattle.csp_model.proofs.FinalBytes.{without_last-push, ends_in-push}
 
 -- a text has a first part
@@ -75,12 +75,12 @@ chosen true x h = refl
 chosen false x h = absurd (false≢true h)
 
 -- the path of a good text that ends in "/"
-pub path_part_of-slash : (c : ℕ) (front : List ℕ) → is_some (path_part_of (c ∷ (front ++ 47 ∷ []))) ≡ true → path_part_of (c ∷ (front ++ 47 ∷ [])) ≡ Some (path.Prefix (pieces_of front))
+pub path_part_of-slash : (c : ℕ) (front : List ℕ) → is_some (path_part_of (c ∷ (front ++ 47 ∷ []))) ≡ true → path_part_of (c ∷ (front ++ 47 ∷ [])) ≡ Some (PathPart.Prefix (pieces_of front))
 unfolding path_part_of
 path_part_of-slash c front h =
-    chosen _ _ h ∙ ap Some (rw (ends_in-push 47 47 (c ∷ front)) (ap path.Prefix (pieces_of-push front)))
+    chosen _ _ h ∙ ap Some (rw (ends_in-push 47 47 (c ∷ front)) (ap PathPart.Prefix (pieces_of-push front)))
 
-pub path_part_of-at_slash : (text rest front : List ℕ) (c : ℕ) → text ≡ c ∷ rest → rest ≡ front ++ 47 ∷ [] → is_some (path_part_of text) ≡ true → path_part_of text ≡ Some (path.Prefix (pieces_of front))
+pub path_part_of-at_slash : (text rest front : List ℕ) (c : ℕ) → text ≡ c ∷ rest → rest ≡ front ++ 47 ∷ [] → is_some (path_part_of text) ≡ true → path_part_of text ≡ Some (PathPart.Prefix (pieces_of front))
 path_part_of-at_slash text rest front c e ends h =
     let whole : text ≡ c ∷ (front ++ 47 ∷ []) = e ∙ ap (λ x. c ∷ x) ends in
     ap path_part_of whole ∙ path_part_of-slash c front (sym (ap (λ x. is_some (path_part_of x)) whole) ∙ h)

@@ -10,8 +10,7 @@ use Rattle.std.proofs.lemmas.List.Folds.{list_all-append}
 use Rattle.std.proofs.lemmas.List.Sums.{fold_push}
 use Rattle.std.proofs.lemmas.Slice.Eq.{bytes_eq-Decides}
 use Rattle.csp_model.specs.Grammar.{are_digits, decimal_value, port_numbered, port_part_of}
-use Rattle.csp_model.specs.declared.source.PortPart.{PortPart}
-use Rattle.csp_model.specs.declared.source.PortPart.TheVariants as port
+use Rattle.csp_source.specs.Types.{PortPart}
 use Rattle.csp_source.specs.Spelling.{port_spelling}
 use Rattle.csp_source.proofs.HostLaws.{chosen}
 
@@ -55,49 +54,49 @@ numbered : (digits : List ℕ) → are_digits digits ≡ true → port_part_of (
 unfolding port_part_of
 numbered digits h = rw (no_star digits h, h) refl
 
-number_spelt : (n : ℕ) → n < 65536 → port_part_of (58 ∷ decimal n) ≡ Some (port.Number n)
+number_spelt : (n : ℕ) → n < 65536 → port_part_of (58 ∷ decimal n) ≡ Some (PortPart.Number n)
 number_spelt n h =
     let spells = decimal_spells n (omega arith) in
     let small : nat_lt n 65536 ≡ true = grind (arith, nat_tests) in
-    numbered (decimal n) spells.good ∙ ap (λ m. Some (port_numbered m)) spells.value ∙ ap (λ b. Some (cond b (port.Number n) port.TooLarge)) small
+    numbered (decimal n) spells.good ∙ ap (λ m. Some (port_numbered m)) spells.value ∙ ap (λ b. Some (cond b (PortPart.Number n) PortPart.TooLarge)) small
 
-large_spelt : port_part_of (codes ":65536") ≡ Some port.TooLarge
+large_spelt : port_part_of (codes ":65536") ≡ Some PortPart.TooLarge
 unfolding port_part_of
 large_spelt = refl
 
-any_spelt : port_part_of (codes ":*") ≡ Some port.Any
+any_spelt : port_part_of (codes ":*") ≡ Some PortPart.Any
 unfolding port_part_of
 any_spelt = refl
 
-absent_spelt : port_part_of [] ≡ Some port.Absent
+absent_spelt : port_part_of [] ≡ Some PortPart.Absent
 unfolding port_part_of
 absent_spelt = refl
 
 -- the number of a port is below 65,536
-small_numbered : (m n : ℕ) → port_numbered m ≡ port.Number n → n < 65536
+small_numbered : (m n : ℕ) → port_numbered m ≡ PortPart.Number n → n < 65536
 small_numbered m n e = go (nat_lt m 65536) refl e where
-  go : (b : Bool) → nat_lt m 65536 ≡ b → cond b (port.Number m) port.TooLarge ≡ port.Number n → n < 65536
+  go : (b : Bool) → nat_lt m 65536 ≡ b → cond b (PortPart.Number m) PortPart.TooLarge ≡ PortPart.Number n → n < 65536
   go true is e = let same : m ≡ n = cc in let below : m < 65536 = grind (arith, nat_tests) in omega arith
   go false is e = cc
 
-small_port : (text : List ℕ) (n : ℕ) → port_part_of text ≡ Some (port.Number n) → n < 65536
+small_port : (text : List ℕ) (n : ℕ) → port_part_of text ≡ Some (PortPart.Number n) → n < 65536
 unfolding port_part_of
 small_port [] n e = cc
 small_port (c ∷ text) n e =
-    let behind = if bytes_eq text (codes "*") then Some port.Any else if are_digits text then Some (port_numbered (decimal_value text)) else None in
-    elim (chosen (not (c == 58)) None behind (port.Number n) e) [
+    let behind = if bytes_eq text (codes "*") then Some PortPart.Any else if are_digits text then Some (port_numbered (decimal_value text)) else None in
+    elim (chosen (not (c == 58)) None behind (PortPart.Number n) e) [
       | inl other ↦ cc
-      | inr one ↦ elim (chosen (bytes_eq text (codes "*")) (Some port.Any) (if are_digits text then Some (port_numbered (decimal_value text)) else None) (port.Number n) one.1) [
+      | inr one ↦ elim (chosen (bytes_eq text (codes "*")) (Some PortPart.Any) (if are_digits text then Some (port_numbered (decimal_value text)) else None) (PortPart.Number n) one.1) [
         | inl two ↦ cc
-        | inr three ↦ elim (chosen (are_digits text) (Some (port_numbered (decimal_value text))) None (port.Number n) three.1) [
-          | inl four ↦ let is : port_numbered (decimal_value text) ≡ port.Number n = cc in small_numbered (decimal_value text) n is
+        | inr three ↦ elim (chosen (are_digits text) (Some (port_numbered (decimal_value text))) None (PortPart.Number n) three.1) [
+          | inl four ↦ let is : port_numbered (decimal_value text) ≡ PortPart.Number n = cc in small_numbered (decimal_value text) n is
           | inr five ↦ cc
         ]
       ]
     ]
 
 pub port_spelt : (text : List ℕ) (p : PortPart) → port_part_of text ≡ Some p → port_part_of (port_spelling p) ≡ Some p
-port_spelt text port.Absent e = absent_spelt
-port_spelt text port.Any e = any_spelt
-port_spelt text (port.Number n) e = number_spelt n (small_port text n e)
-port_spelt text port.TooLarge e = large_spelt
+port_spelt text PortPart.Absent e = absent_spelt
+port_spelt text PortPart.Any e = any_spelt
+port_spelt text (PortPart.Number n) e = number_spelt n (small_port text n e)
+port_spelt text PortPart.TooLarge e = large_spelt

@@ -10,31 +10,22 @@ use Rattle.std.proofs.lemmas.Slice.Eq.{bytes_eq-Decides}
 use Rattle.csp_model.specs.Ascii.{lower, ends_in, without_last}
 use Rattle.csp_model.specs.Grammar.{keyword_text, is_base64_value, IsQuoted}
 use Rattle.csp_model.specs.Reading.{keywords, keyword_source, quoted_value}
-use Rattle.csp_model.specs.declared.source.Keyword.{Keyword}
-use Rattle.csp_model.specs.declared.source.Keyword.TheVariants as keyword
-use Rattle.csp_model.specs.declared.source.Source.{Source}
-use Rattle.csp_model.specs.declared.source.Source.TheVariants as source
+use Rattle.csp_source.specs.Types.{Keyword, Source}
 use Rattle.csp_model.proofs.FinalBytes.{ends_in-push, ends_in_front, without_last-push}
 use Rattle.csp_source.proofs.HostLaws.{chosen}
 
 -- the source of the keyword that a text in lower case is
 abbrev pub keyword_from : List ℕ → Option Source
-keyword_from text = option_map (λ word. source.Word word) (find (λ word. bytes_eq text (keyword_text word)) keywords)
+keyword_from text = option_map (λ word. Source.Word word) (find (λ word. bytes_eq text (keyword_text word)) keywords)
 
 pub keyword_is : (token : List ℕ) → keyword_source token ≡ keyword_from (lower token)
 unfolding keyword_source
 keyword_is token = refl
 
-keyword_found : (word : Keyword) → keyword_from (keyword_text word) ≡ Some (source.Word word)
-keyword_found keyword.SelfOrigin = refl
-keyword_found keyword.UnsafeInline = refl
-keyword_found keyword.UnsafeEval = refl
-keyword_found keyword.WasmUnsafeEval = refl
-keyword_found keyword.StrictDynamic = refl
-keyword_found keyword.UnsafeHashes = refl
-keyword_found keyword.ReportSample = refl
+keyword_found : (word : Keyword) → keyword_from (keyword_text word) ≡ Some (Source.Word word)
+keyword_found word = grind arith
 
-pub keyword_again : (token : List ℕ) (word : Keyword) → lower token ≡ keyword_text word → keyword_source token ≡ Some (source.Word word)
+pub keyword_again : (token : List ℕ) (word : Keyword) → lower token ≡ keyword_text word → keyword_source token ≡ Some (Source.Word word)
 keyword_again token word e = keyword_is token ∙ ap keyword_from e ∙ keyword_found word
 
 find_passes : {X : Type 0} (p : X → Bool) (xs : List X) (x : X) → find p xs ≡ Some x → p x ≡ true
@@ -44,11 +35,11 @@ find_passes p (y ∷ xs) x e = elim (chosen (p y) (Some y) (find p xs) x e) [
   | inr two ↦ find_passes p xs x two.1
 ]
 
-word_takes : (o : Option Keyword) (s : Source) → option_map (λ word. source.Word word) o ≡ Some s → (word : Keyword) × (o ≡ Some word) × (s ≡ source.Word word)
+word_takes : (o : Option Keyword) (s : Source) → option_map (λ word. Source.Word word) o ≡ Some s → (word : Keyword) × (o ≡ Some word) × (s ≡ Source.Word word)
 word_takes None s e = cc
 word_takes (Some word) s e = (word, refl, cc)
 
-pub keyword_takes : (token : List ℕ) (s : Source) → keyword_source token ≡ Some s → (word : Keyword) × (s ≡ source.Word word) × (lower token ≡ keyword_text word)
+pub keyword_takes : (token : List ℕ) (s : Source) → keyword_source token ≡ Some s → (word : Keyword) × (s ≡ Source.Word word) × (lower token ≡ keyword_text word)
 unfolding keyword_source
 keyword_takes token s e =
     let (word, found, is) = word_takes (find (λ w. bytes_eq (lower token) (keyword_text w)) keywords) s e in

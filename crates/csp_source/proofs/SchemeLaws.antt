@@ -7,21 +7,20 @@ use Rattle.std.proofs.lemmas.Grind.{common_steps}
 use Rattle.csp_model.specs.Ascii.{lower, ends_in, without_last, skip_while}
 use Rattle.csp_model.specs.Grammar.{is_scheme_char, is_scheme, is_label_char, host_part_of, port_part_of, IsSchemeSource}
 use Rattle.csp_model.specs.Reading.{is_host_char, is_no_slash, authority, host_source, scheme_source}
-use Rattle.csp_model.specs.declared.source.Source.{Source}
-use Rattle.csp_model.specs.declared.source.Source.TheVariants as source
+use Rattle.csp_source.specs.Types.{Source}
 use Rattle.csp_model.proofs.SkipLaws.{skip_while-cons}
 use Rattle.csp_model.proofs.FinalBytes.{ends_in-push, ends_in_front, without_last-push}
 use Rattle.csp_source.proofs.HostLaws.{chosen, take_while-append, skip_while-append, scheme_chars}
 
-pub scheme_again : (token scheme : List ℕ) → IsSchemeSource token scheme → scheme_source token ≡ Some (source.SchemeOnly scheme)
+pub scheme_again : (token scheme : List ℕ) → IsSchemeSource token scheme → scheme_source token ≡ Some (Source.SchemeOnly scheme)
 unfolding scheme_source
 scheme_again token scheme (letters, e, good, lowered) =
     rw (e, ends_in-push 58 58 letters, without_last-push letters 58, good, lowered) refl
 
-pub scheme_takes : (token : List ℕ) (s : Source) → scheme_source token ≡ Some s → (scheme : List ℕ) × (s ≡ source.SchemeOnly scheme) × IsSchemeSource token scheme
+pub scheme_takes : (token : List ℕ) (s : Source) → scheme_source token ≡ Some s → (scheme : List ℕ) × (s ≡ Source.SchemeOnly scheme) × IsSchemeSource token scheme
 unfolding scheme_source
 scheme_takes token s e =
-    elim (chosen (ends_in 58 token && is_scheme (without_last token)) (Some (source.SchemeOnly (lower (without_last token)))) None s e) [
+    elim (chosen (ends_in 58 token && is_scheme (without_last token)) (Some (Source.SchemeOnly (lower (without_last token)))) None s e) [
       | inl one ↦
           let ends : ends_in 58 token ≡ true = grind (arith, one.0) in
           let good : is_scheme (without_last token) ≡ true = grind (arith, one.0) in

@@ -15,8 +15,7 @@ use Rattle.percent_encoding.proofs.PercentLemmas.{IsByte, All-percent_decode, pe
 use Rattle.csp_model.specs.Ascii.{split_at, is_nonempty, is_ascii_text, ends_in, without_last}
 use Rattle.csp_model.specs.Grammar.{is_path_char, is_segment, are_segments, path_part_of}
 use Rattle.csp_model.specs.Paths.{path_text}
-use Rattle.csp_model.specs.declared.source.PathPart.{PathPart}
-use Rattle.csp_model.specs.declared.source.PathPart.TheVariants as path
+use Rattle.csp_source.specs.Types.{PathPart}
 use Rattle.csp_model.specs.declared.path.TheConstants.{ESCAPED}
 use Rattle.csp_model.proofs.PathText.{split_at-path_text, decoded_again}
 use Rattle.csp_source.specs.Spelling.{path_spelling}
@@ -138,7 +137,7 @@ ends_slash text =
 
 -- what the parts of a path say, which is the path
 path_from : List (List ℕ) → Option PathPart
-path_from parts = if are_segments parts then Some (if last_empty parts then path.Prefix (without_last (map percent_decode parts)) else path.Exact (map percent_decode parts)) else None
+path_from parts = if are_segments parts then Some (if last_empty parts then PathPart.Prefix (without_last (map percent_decode parts)) else PathPart.Exact (map percent_decode parts)) else None
 
 path_is : (text : List ℕ) → path_part_of (47 ∷ text) ≡ path_from (split_at 47 text)
 unfolding path_part_of path_from
@@ -172,7 +171,7 @@ decoded_bytes parts h = All-map (All IsByte) percent_decode parts (All-weaker (A
 path_again : (parts : List (List ℕ)) (q : PathPart) → All (All IsByte) parts → path_from parts ≡ Some q → path_from (map (percent_encode ESCAPED) (map percent_decode parts)) ≡ Some q
 unfolding path_from
 path_again parts q bytes e =
-    elim (chosen (are_segments parts) (Some (if last_empty parts then path.Prefix (without_last (map percent_decode parts)) else path.Exact (map percent_decode parts))) None q e) [
+    elim (chosen (are_segments parts) (Some (if last_empty parts then PathPart.Prefix (without_last (map percent_decode parts)) else PathPart.Exact (map percent_decode parts))) None q e) [
       | inl one ↦
           let good = segments_again parts one.0 in
           let last = last_by (percent_encode ESCAPED) encoded_nonempty (map percent_decode parts) ∙ last_by percent_decode decoded_nonempty parts in
@@ -193,7 +192,7 @@ pieces_end front =
     ∙ ap (λ x. path_text front ++ ((47 ∷ x) ++ [])) (percent_encode-nil ESCAPED)
 
 spelt_by : (b : Bool) (piece : List ℕ) (pieces : List (List ℕ)) → last_empty (piece ∷ pieces) ≡ b
-    → path_spelling (cond b (path.Prefix (without_last (piece ∷ pieces))) (path.Exact (piece ∷ pieces))) ≡ path_text (piece ∷ pieces)
+    → path_spelling (cond b (PathPart.Prefix (without_last (piece ∷ pieces))) (PathPart.Exact (piece ∷ pieces))) ≡ path_text (piece ∷ pieces)
 spelt_by true piece pieces h =
     let (front, e) = last_of piece pieces h in
     ap (λ x. path_text (without_last x) ++ codes "/") e ∙ ap (λ x. path_text x ++ codes "/") (without_last-push front [])
@@ -204,9 +203,9 @@ spelt_by false piece pieces h = refl
 spelling_is : (s : List ℕ) (parts : List (List ℕ)) (q : PathPart) → path_from (s ∷ parts) ≡ Some q → path_spelling q ≡ path_text (map percent_decode (s ∷ parts))
 unfolding path_from
 spelling_is s parts q e =
-    elim (chosen (are_segments (s ∷ parts)) (Some (if last_empty (s ∷ parts) then path.Prefix (without_last (map percent_decode (s ∷ parts))) else path.Exact (map percent_decode (s ∷ parts)))) None q e) [
+    elim (chosen (are_segments (s ∷ parts)) (Some (if last_empty (s ∷ parts) then PathPart.Prefix (without_last (map percent_decode (s ∷ parts))) else PathPart.Exact (map percent_decode (s ∷ parts)))) None q e) [
       | inl one ↦
-          let is : (if last_empty (s ∷ parts) then path.Prefix (without_last (map percent_decode (s ∷ parts))) else path.Exact (map percent_decode (s ∷ parts))) ≡ q = cc in
+          let is : (if last_empty (s ∷ parts) then PathPart.Prefix (without_last (map percent_decode (s ∷ parts))) else PathPart.Exact (map percent_decode (s ∷ parts))) ≡ q = cc in
           sym (ap path_spelling is) ∙ spelt_by (last_empty (s ∷ parts)) (percent_decode s) (map percent_decode parts) (last_by percent_decode decoded_nonempty (s ∷ parts))
       | inr two ↦ cc
     ]
@@ -234,11 +233,11 @@ behind_slash text q ascii e =
     let (s, parts, is) = first_part (λ b. b == 47) text in
     spelt_parts s parts q (subst (All (All IsByte)) is (split_bytes text ascii)) (sym (ap path_from is) ∙ sym (path_is text) ∙ e)
 
-absent_spelt : path_part_of [] ≡ Some path.Absent
+absent_spelt : path_part_of [] ≡ Some PathPart.Absent
 unfolding path_part_of
 absent_spelt = refl
 
-absent_is : (q : PathPart) → path_part_of [] ≡ Some q → path.Absent ≡ q
+absent_is : (q : PathPart) → path_part_of [] ≡ Some q → PathPart.Absent ≡ q
 unfolding path_part_of
 absent_is q e = cc
 

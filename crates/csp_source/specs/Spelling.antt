@@ -5,14 +5,7 @@ use Rattle.csp_model.specs.Ascii.{code, is_ascii_text}
 use Rattle.csp_model.specs.Grammar.{keyword_text, algorithm_text}
 use Rattle.csp_model.specs.Paths.{path_text}
 use Rattle.csp_model.specs.Reading.{source_of}
-use Rattle.csp_model.specs.declared.source.HostPart.{HostPart}
-use Rattle.csp_model.specs.declared.source.HostPart.TheVariants as host
-use Rattle.csp_model.specs.declared.source.PortPart.{PortPart}
-use Rattle.csp_model.specs.declared.source.PortPart.TheVariants as port
-use Rattle.csp_model.specs.declared.source.PathPart.{PathPart}
-use Rattle.csp_model.specs.declared.source.PathPart.TheVariants as path
-use Rattle.csp_model.specs.declared.source.Source.{Source}
-use Rattle.csp_model.specs.declared.source.Source.TheVariants as source
+use Rattle.csp_source.specs.Types.{HostPart, PortPart, PathPart, Source}
 
 -- the scheme and "://", where there is one
 abbrev pub scheme_spelling : Option (List ℕ) → List ℕ
@@ -20,34 +13,34 @@ scheme_spelling None = []
 scheme_spelling (Some scheme) = scheme ++ codes "://"
 
 abbrev pub host_spelling : HostPart → List ℕ
-host_spelling host.Any = codes "*"
-host_spelling (host.Under suffix) = codes "*." ++ suffix
-host_spelling (host.Exact text) = text
+host_spelling HostPart.Any = codes "*"
+host_spelling (HostPart.Under suffix) = codes "*." ++ suffix
+host_spelling (HostPart.Exact text) = text
 
 abbrev pub port_spelling : PortPart → List ℕ
-port_spelling port.Absent = []
-port_spelling port.Any = codes ":*"
-port_spelling (port.Number n) = codes ":" ++ decimal n
-port_spelling port.TooLarge = codes ":65536"
+port_spelling PortPart.Absent = []
+port_spelling PortPart.Any = codes ":*"
+port_spelling (PortPart.Number n) = codes ":" ++ decimal n
+port_spelling PortPart.TooLarge = codes ":65536"
 
 -- a path that ends in "/" has one more
 abbrev pub path_spelling : PathPart → List ℕ
-path_spelling path.Absent = []
-path_spelling (path.Exact pieces) = path_text pieces
-path_spelling (path.Prefix pieces) = path_text pieces ++ codes "/"
+path_spelling PathPart.Absent = []
+path_spelling (PathPart.Exact pieces) = path_text pieces
+path_spelling (PathPart.Prefix pieces) = path_text pieces ++ codes "/"
 
 -- what a source is written as
 abbrev pub spelling : Source → List ℕ
-spelling source.Star = codes "*"
-spelling (source.SchemeOnly scheme) = scheme ++ codes ":"
-spelling (source.Hosted scheme host_part port_part path_part) =
+spelling Source.Star = codes "*"
+spelling (Source.SchemeOnly scheme) = scheme ++ codes ":"
+spelling (Source.Hosted scheme host_part port_part path_part) =
     scheme_spelling scheme
     ++ (host_spelling host_part ++ (port_spelling port_part ++ path_spelling path_part))
-spelling (source.Word word) = keyword_text word
-spelling (source.Nonce value) = codes "'nonce-" ++ (value ++ codes "'")
-spelling (source.Digest hash) =
+spelling (Source.Word word) = keyword_text word
+spelling (Source.Nonce value) = codes "'nonce-" ++ (value ++ codes "'")
+spelling (Source.Digest hash) =
     (code "'" ∷ algorithm_text hash.algorithm ++ codes "-") ++ (hash.value ++ codes "'")
-spelling (source.Other token) = token
+spelling (Source.Other token) = token
 
 -- some ASCII token reads as the source
 abbrev pub IsRead : Source → Type 0

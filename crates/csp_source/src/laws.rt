@@ -2,7 +2,7 @@
 ghost use Rattle.std.specs.Prelude.{◌≡◌, ℕ, List};
 ghost use Rattle.csp_model.specs.Grammar.{IsSource};
 ghost use Rattle.csp_model.specs.Reading.{source_of};
-ghost use Rattle.csp_model.specs.declared.source.Source.{Source};
+ghost use Rattle.csp_source.specs.Types.{Source};
 
 /// A law, which does nothing: a token is built as a source of one kind, with one value, or else is of no
 /// kind; and that is what it reads as (Content Security Policy Level 3, section 2.3.1).

@@ -10,41 +10,20 @@ ghost use Rattle.csp_model.specs.Reading as spec;
 use csp_model::{Algorithm, Hash, Keyword, Memory, Source, Text, is_base64_value};
 use std::alloc::Global;
 
-// The keyword in lower case.
-pub(crate) fn keyword_text(word: Keyword) -> &'static str
-    ensures { result.now ≡ grammar.keyword_text word }
-{
-    match word {
-        Keyword::SelfOrigin => "'self'",
-        Keyword::UnsafeInline => "'unsafe-inline'",
-        Keyword::UnsafeEval => "'unsafe-eval'",
-        Keyword::WasmUnsafeEval => "'wasm-unsafe-eval'",
-        Keyword::StrictDynamic => "'strict-dynamic'",
-        Keyword::UnsafeHashes => "'unsafe-hashes'",
-        Keyword::ReportSample => "'report-sample'",
-    }
-}
-
 // The token is the keyword, in letters of either case.
 fn spells(token: &[u8], word: Keyword) -> bool
     ensures { result ≡ bytes_eq (lower token.now) (grammar.keyword_text word) }
 {
-    token.eq_ignore_ascii_case(keyword_text(word).as_bytes())
+    token.eq_ignore_ascii_case(word.as_str().as_bytes())
 }
 
 fn keyword_of(token: &[u8]) -> Option<Keyword>
     ensures { result ≡ find (λ word. bytes_eq (lower token.now) (grammar.keyword_text word)) spec.keywords }
 {
-    const KEYWORDS: [Keyword; 7] = [
-        Keyword::SelfOrigin,
-        Keyword::UnsafeInline,
-        Keyword::UnsafeEval,
-        Keyword::WasmUnsafeEval,
-        Keyword::StrictDynamic,
-        Keyword::UnsafeHashes,
-        Keyword::ReportSample,
-    ];
-    KEYWORDS.iter().copied().find(|word| spells(token, *word))
+    Keyword::ALL
+        .iter()
+        .copied()
+        .find(|word| spells(token, *word))
 }
 
 // The source that is a keyword.

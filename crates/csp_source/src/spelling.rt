@@ -3,7 +3,7 @@ ghost use Rattle.std.specs.Prelude.{◌≡◌, ◌++◌, IfOk, OnOk, string_byte
 ghost use Rattle.csp_model.specs.Reading.{source_of};
 ghost use Rattle.csp_source.specs.Spelling as spec;
 
-use crate::quoted::{hash_word, keyword_text};
+use crate::quoted::hash_word;
 use csp_model::{HostPart, Memory, PathPart, PortPart, Source, Text};
 use itoa::Buffer;
 use std::alloc::Global;
@@ -96,7 +96,7 @@ fn push_source(text: &mut String, source: &Source) -> Result<(), Memory>
             push_port(text, *port)?;
             push_path_part(text, path)?;
         }
-        Source::Word { word } => text.push_str(keyword_text(*word))?,
+        Source::Word { word } => text.push_str(word.as_str())?,
         Source::Nonce { value } => push_quoted(text, "'nonce-", value)?,
         Source::Digest { hash } => push_quoted(text, hash_word(hash.algorithm), &hash.value)?,
         Source::Other { token } => text.push_str(token.as_str())?,

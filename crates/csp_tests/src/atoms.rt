@@ -1,13 +1,14 @@
-//! Tests of csp_facts.
-use crate::values::{are_hashes, fetch, hash, inline_style, is_copied, policies};
+//! Tests of csp_facts: tables of what literals say of atoms, and of atoms that hold.
+use crate::values::{check, policies};
 use csp_facts::{Atom, Literal, Vocabulary, follows, holds, vocabulary_of};
-use csp_model::{Algorithm, Check, Digest, Group, Host, List, Memory, Path, Text};
-use csp_url::read_url;
+use csp_model::{Algorithm, Digest, Hash, Host, Memory, Path, Text};
+use csp_token::{integrity_text, read_integrity};
 use std::alloc::Global;
+use std::process::Abort;
 use std::test::Fail;
 
 // The atom of a kind and a text behind a space; that of a path has "/" between its pieces.
-fn atom(alloc: Global, spelling: &str) -> Result<Atom, Memory> {
+pub(crate) fn atom(alloc: Global, spelling: &str) -> Result<Atom, Memory> {
     let (kind, text) = spelling.split_once(' ').unwrap_or((spelling, ""));
     Ok(match kind {
         "host" => Atom::HostIs(Host::Domain(Text::new(alloc, text)?)),
@@ -20,7 +21,10 @@ fn atom(alloc: Global, spelling: &str) -> Result<Atom, Memory> {
         "below" => Atom::PathUnder(Path::read(alloc, text.as_bytes())?),
         "scheme" => Atom::SchemeIs(Text::new(alloc, text)?),
         "nonce" => Atom::NonceIs(Text::new(alloc, text)?),
-        "has" => Atom::IntegrityHas(hash(alloc, Algorithm::Sha256, text)?),
+        "has" => Atom::IntegrityHas(Hash {
+            algorithm: Algorithm::Sha256,
+            value: Text::new(alloc, text)?,
+        }),
         "ones" => Atom::DigestIs(Digest::Sha256([1; 32])),
         "twos" => Atom::DigestIs(Digest::Sha256([2; 32])),
         "longer" => Atom::DigestIs(Digest::Sha384([1; 48])),
@@ -28,7 +32,7 @@ fn atom(alloc: Global, spelling: &str) -> Result<Atom, Memory> {
     })
 }
 
-fn literal(alloc: Global, positive: bool, spelling: &str) -> Result<Literal, Memory> {
+pub(crate) fn literal(alloc: Global, positive: bool, spelling: &str) -> Result<Literal, Memory> {
     Ok(Literal {
         atom: atom(alloc, spelling)?,
         positive,
@@ -123,105 +127,74 @@ const OF_THE_REST: [Row; 20] = [
 ];
 
 // What a literal says of an atom.
-fn said(alloc: Global, known: &Literal, asked: &str) -> Result<Option<bool>, Memory> {
+fn said(alloc: Global, positive: bool, known: &str, asked: &str) -> Result<Option<bool>, Memory> {
+    let known = literal(alloc, positive, known)?;
     let asked = atom(alloc, asked)?;
-    let answer = follows(known, &asked);
+    let answer = follows(&known, &asked);
     drop(asked);
+    drop(known);
     Ok(answer)
 }
 
-// The first row that is answered otherwise.
-fn first_wrong(alloc: Global, rows: &[Row]) -> Result<Option<Row>, Memory> {
-    for row in rows {
-        let &(positive, known, asked, wanted) = row;
-        let literal = literal(alloc, positive, known)?;
-        let answer = said(alloc, &literal, asked);
-        drop(literal);
-        if answer? != wanted {
-            return Ok(Some(*row));
-        }
+fn are_said(rt: &(impl Abort + AllocGlobal), rows: &[Row]) -> Result<(), Memory> {
+    for &(positive, known, asked, wanted) in rows {
+        let answer = said(rt.alloc(), positive, known, asked)?;
+        assert_eq!(rt; answer, wanted, "{positive} {known}, {asked}");
     }
-    Ok(None)
+    Ok(())
 }
 
 #[test]
 fn what_literals_say(rt: HostRuntime) -> Result<(), Fail> {
-    assert_eq!(rt; first_wrong(rt.alloc(), &OF_HOSTS)?, None);
-    assert_eq!(rt; first_wrong(rt.alloc(), &OF_PORTS_AND_PATHS)?, None);
-    assert_eq!(rt; first_wrong(rt.alloc(), &OF_THE_REST)?, None);
+    are_said(&rt, &OF_HOSTS)?;
+    are_said(&rt, &OF_PORTS_AND_PATHS)?;
+    are_said(&rt, &OF_THE_REST)?;
     Ok(())
 }
 
-// The first atom that the check answers otherwise, with the vocabulary of the hash `abc`.
-fn first_otherwise(
-    alloc: Global,
-    check: &Check,
-    rows: &[(&'static str, bool)],
-) -> Result<Option<&'static str>, Memory> {
-    let mut hashes = List::new(alloc);
-    hashes.push(hash(alloc, Algorithm::Sha256, "abc")?)?;
-    let vocabulary = Vocabulary { hashes };
-    for &(spelling, wanted) in rows {
-        let atom = atom(alloc, spelling)?;
-        let answer = holds(&atom, check, &vocabulary);
-        drop(atom);
-        if answer != wanted {
-            return Ok(Some(spelling));
-        }
-    }
-    Ok(None)
-}
-
-const OF_A_SCRIPT: [(&str, bool); 16] = [
-    ("host x.a.example", true),
-    ("address x.a.example", false),
-    ("under a.example", true),
-    ("under x.a.example", false),
-    ("domain", true),
-    ("https", true),
-    ("http", false),
-    ("path p/q", true),
-    ("below p", true),
-    ("below p/q", false),
-    ("scheme https", false),
-    ("nonce abc", true),
-    ("has d", true),
-    ("has e", false),
-    ("outside", true),
-    ("ones", false),
+// A check, an atom, and whether it holds for the check, with the vocabulary of the hash `abc`.
+const HELD: [(&str, &str, bool); 21] = [
+    ("script", "host x.a.example", true),
+    ("script", "address x.a.example", false),
+    ("script", "under a.example", true),
+    ("script", "under x.a.example", false),
+    ("script", "domain", true),
+    ("script", "https", true),
+    ("script", "http", false),
+    ("script", "path p/q", true),
+    ("script", "below p", true),
+    ("script", "below p/q", false),
+    ("script", "scheme https", false),
+    ("script", "nonce abc", true),
+    ("script", "has d", true),
+    ("script", "has e", false),
+    ("script", "outside", true),
+    ("script", "ones", false),
+    ("style", "longer", true),
+    ("style", "twos", false),
+    ("style", "outside", false),
+    ("plain", "scheme data", true),
+    ("plain", "domain", false),
 ];
 
-#[test]
-fn what_holds_for_a_script(rt: HostRuntime) -> Result<(), Fail> {
-    let url = "https://x.a.example/p/q";
-    let script = fetch(rt.alloc(), Group::ScriptElem, url, 0, false)?;
-    let wrong = first_otherwise(rt.alloc(), &script, &OF_A_SCRIPT);
-    drop(script);
-    assert_eq!(rt; wrong?, None);
-    Ok(())
-}
-
-const OF_A_STYLE: [(&str, bool); 3] = [("longer", true), ("twos", false), ("outside", false)];
-
-#[test]
-fn what_holds_for_a_style(rt: HostRuntime) -> Result<(), Fail> {
-    let style = inline_style(rt.alloc())?;
-    let wrong = first_otherwise(rt.alloc(), &style, &OF_A_STYLE);
-    drop(style);
-    assert_eq!(rt; wrong?, None);
-    Ok(())
-}
-
-const OF_A_PLAIN_URL: [(&str, bool); 2] = [("scheme data", true), ("domain", false)];
-
-#[test]
-fn what_holds_for_a_plain_url(rt: HostRuntime) -> Result<(), Fail> {
-    let base = Check::Base {
-        url: read_url(rt.alloc(), "data:,")?,
+fn holds_for(alloc: Global, name: &str, spelling: &str) -> Result<bool, Fail> {
+    let vocabulary = Vocabulary {
+        hashes: read_integrity(alloc, "sha256-abc")?,
     };
-    let wrong = first_otherwise(rt.alloc(), &base, &OF_A_PLAIN_URL);
-    drop(base);
-    assert_eq!(rt; wrong?, None);
+    let check = check(alloc, name)?;
+    let atom = atom(alloc, spelling)?;
+    let answer = holds(&atom, &check, &vocabulary);
+    drop(atom);
+    drop(check);
+    Ok(answer)
+}
+
+#[test]
+fn what_holds(rt: HostRuntime) -> Result<(), Fail> {
+    for &(name, spelling, wanted) in &HELD {
+        let answer = holds_for(rt.alloc(), name, spelling)?;
+        assert_eq!(rt; answer, wanted, "{spelling} for {name}");
+    }
     Ok(())
 }
 
@@ -234,20 +207,7 @@ fn vocabulary_of_two_lists(rt: HostRuntime) -> Result<(), Fail> {
     )?;
     let second = policies(&rt, "Content-Security-Policy: x 'sha256-c' 'sha256-a'")?;
     let made = vocabulary_of(rt.alloc(), &first, &second)?;
-    let wanted = [
-        (Algorithm::Sha256, "b"),
-        (Algorithm::Sha256, "a"),
-        (Algorithm::Sha256, "c"),
-    ];
-    assert!(rt; are_hashes(&made.hashes, &wanted));
-    Ok(())
-}
-
-#[test]
-fn copies(rt: HostRuntime) -> Result<(), Fail> {
-    for &spelling in &["under a.example", "host b.example", "path x/y", "has abc"] {
-        assert!(rt; is_copied(rt.alloc(), literal(rt.alloc(), false, spelling)?)?);
-        assert!(rt; is_copied(rt.alloc(), atom(rt.alloc(), spelling)?)?);
-    }
+    let text = integrity_text(rt.alloc(), &made.hashes)?;
+    assert_eq!(rt; text.as_str(), "sha256-b sha256-a sha256-c");
     Ok(())
 }

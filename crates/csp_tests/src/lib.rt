@@ -1,5 +1,5 @@
-//! Tests of the public calls below `csp_verdict`, and of `csp_why`: worked examples and the vectors of the standards
-//! as tables, each call once with memory enough.
+//! Tests of the public calls below `csp_verdict` that no command shows: worked examples, each call once with
+//! memory enough. What a command shows is a stored run of `csp_sample`.
 //!
 //! Nothing stands on this crate. What a proved clause says of every input is not tested again.
 //! A value of many cases is let go by `drop`, since its end is dear to prove where it stands.
@@ -8,17 +8,7 @@
 #[cfg(test)]
 mod atoms;
 #[cfg(test)]
-mod desks;
-#[cfg(test)]
-mod matching;
-#[cfg(test)]
-mod model;
-#[cfg(test)]
-mod policies;
-#[cfg(test)]
-mod readings;
-#[cfg(test)]
-mod reasons;
+mod copies;
 #[cfg(test)]
 mod shapes;
 #[cfg(test)]

@@ -14,7 +14,7 @@ const OF_FETCHES: [(Group, &str, u32, bool, u8); 6] = [
 ];
 
 #[test]
-fn fetches(rt: HostRuntime) -> Result<(), Fail> {
+fn shapes_of_fetches(rt: HostRuntime) -> Result<(), Fail> {
     for &(group, url, redirects, parser_inserted, number) in &OF_FETCHES {
         let check = fetch(rt.alloc(), group, url, redirects, parser_inserted)?;
         let shape = shape_of(&check);
@@ -39,19 +39,6 @@ const FIRST_FETCHES: [(u8, Group, bool); 12] = [
     (120, Group::Worker, false),
     (132, Group::Worker, true),
 ];
-
-#[test]
-fn the_first_fetch_of_each_group(rt: HostRuntime) {
-    for &(number, group, parser_inserted) in &FIRST_FETCHES {
-        let shape = Shape::Fetch {
-            group,
-            scheme: Some(Scheme::Http),
-            redirected: false,
-            parser_inserted,
-        };
-        assert_eq!(rt; shape_at(number), Some(shape), "{number}");
-    }
-}
 
 const HTTP: Option<Scheme> = Some(Scheme::Http);
 
@@ -101,8 +88,18 @@ const FIRST_OF_OTHER_KINDS: [(u8, Shape); 12] = [
     (188, Shape::WorkerStart),
 ];
 
+// The first shape of each kind.
 #[test]
-fn the_first_of_each_other_kind(rt: HostRuntime) {
+fn shapes_by_number(rt: HostRuntime) {
+    for &(number, group, parser_inserted) in &FIRST_FETCHES {
+        let shape = Shape::Fetch {
+            group,
+            scheme: HTTP,
+            redirected: false,
+            parser_inserted,
+        };
+        assert_eq!(rt; shape_at(number), Some(shape), "{number}");
+    }
     for &(number, shape) in &FIRST_OF_OTHER_KINDS {
         assert_eq!(rt; shape_at(number), Some(shape), "{number}");
     }

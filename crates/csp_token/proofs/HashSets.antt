@@ -16,16 +16,10 @@ use Rattle.csp_model.specs.DecideTokens.{hash_matches}
 use Rattle.csp_model.specs.DecideEquality.{same_hash}
 use Rattle.csp_model.specs.Tokens.{StandsFor, digest_by, plain_value, size_of}
 use Rattle.csp_model.specs.Validity.{IsOfSize, IsValidDigests}
-use Rattle.csp_model.specs.declared.check.Digest.{Digest}
-use Rattle.csp_model.specs.declared.check.Digest.TheVariants as one
-use Rattle.csp_model.specs.declared.check.Digests.{Digests}
-use Rattle.csp_model.specs.declared.source.Algorithm.{Algorithm}
+use Rattle.csp_token.specs.Types.{Digest, Digests, Algorithm, Hash, DigestSets, PairSets}
 use Rattle.csp_model.specs.declared.source.Algorithm.TheVariants.{Sha256, Sha384, Sha512}
-use Rattle.csp_model.specs.declared.source.Hash.{Hash}
 use Rattle.csp_token.specs.Digests.{IsDigest, IsDigestOf}
 use Rattle.csp_token.specs.Index.{has_text, has_bytes, has_pair, has_digest, values_of}
-use Rattle.csp_token.specs.declared.hash_sets.DigestSets.{DigestSets}
-use Rattle.csp_token.specs.declared.hash_sets.PairSets.{PairSets}
 use Rattle.csp_token.proofs.Base64.{one_digest}
 use Rattle.csp_token.proofs.Sizes.{bytes_of_size}
 
@@ -156,9 +150,9 @@ module _ (old : DigestSets) (hash : Hash) (digest : List ℕ) (stands : StandsFo
 
 -- the digest of one algorithm
 abbrev digest_of : Algorithm → Digests → Digest
-digest_of Sha256 digests = one.Sha256 digests.sha256
-digest_of Sha384 digests = one.Sha384 digests.sha384
-digest_of Sha512 digests = one.Sha512 digests.sha512
+digest_of Sha256 digests = Digest.Sha256 digests.sha256
+digest_of Sha384 digests = Digest.Sha384 digests.sha384
+digest_of Sha512 digests = Digest.Sha512 digests.sha512
 
 no_match : (a : Algorithm) (value : List ℕ) (asked : Digests) → IsValidDigests asked
     → ((digest : Digest) → IsDigest digest → ¬ IsDigestOf (of_parts a value) digest)

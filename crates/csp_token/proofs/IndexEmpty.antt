@@ -12,14 +12,10 @@ use Rattle.std.proofs.lemmas.Slice.Eq.{bytes_eq-Decides}
 use Rattle.csp_model.specs.DecideTokens.{is_nonce, is_hash}
 use Rattle.csp_model.specs.Inline.{is_nonce_or_hash}
 use Rattle.csp_model.specs.DecideEquality.{same_algorithm}
-use Rattle.csp_model.specs.declared.source.Algorithm.{Algorithm}
+use Rattle.csp_token.specs.Types.{Algorithm, Hash, Source, PairSets}
 use Rattle.csp_model.specs.declared.source.Algorithm.TheVariants.{Sha256, Sha384, Sha512}
-use Rattle.csp_model.specs.declared.source.Hash.{Hash}
-use Rattle.csp_model.specs.declared.source.Source.{Source}
-use Rattle.csp_model.specs.declared.source.Source.TheVariants as source
 use Rattle.csp_token.specs.Algorithms.{is_of_algorithm, names}
-use Rattle.csp_token.specs.Index.{has_text, has_algorithm, has_pair, is_empty, values_of}
-use Rattle.csp_token.specs.declared.hash_sets.PairSets.{PairSets}
+use Rattle.csp_token.specs.Index.{has_text, has_pair, is_empty, values_of}
 use Rattle.csp_token.proofs.AnyOf.{any_of_two, any_of_three}
 
 -- a source has the texts for which a test passes
@@ -60,15 +56,15 @@ module _ (p : List ℕ → Source → Bool) (r : Source → Bool)
   same_empty set sources same = same_keys set.keys sources same
 
 abbrev is_nonce_source : Source → Bool
-is_nonce_source (source.Nonce value) = true
+is_nonce_source (Source.Nonce value) = true
 is_nonce_source s = false
 
 some_nonce : (s : Source) → is_nonce_source s ≡ true → (text : List ℕ) × (is_nonce text s ≡ true)
-some_nonce (source.Nonce value) h = (value, (bytes_eq-Decides value value).1 refl)
+some_nonce (Source.Nonce value) h = (value, (bytes_eq-Decides value value).1 refl)
 some_nonce s h = absurd (false≢true h)
 
 nonce_source : (text : List ℕ) (s : Source) → is_nonce text s ≡ true → is_nonce_source s ≡ true
-nonce_source text (source.Nonce value) h = refl
+nonce_source text (Source.Nonce value) h = refl
 nonce_source text s h = h
 
 -- a hash-source of this algorithm and value
@@ -76,17 +72,13 @@ abbrev is_pair : Algorithm → List ℕ → Source → Bool
 is_pair algorithm value = is_hash (record { algorithm = algorithm; value = value })
 
 some_value : (a : Algorithm) (s : Source) → is_of_algorithm a s ≡ true → (text : List ℕ) × (is_pair a text s ≡ true)
-some_value a (source.Digest hash) h =
+some_value a (Source.Digest hash) h =
     (hash.value, and_from (same_algorithm hash.algorithm a) (bytes_eq hash.value hash.value) h ((bytes_eq-Decides hash.value hash.value).1 refl))
 some_value a s h = absurd (false≢true h)
 
 value_source : (a : Algorithm) (text : List ℕ) (s : Source) → is_pair a text s ≡ true → is_of_algorithm a s ≡ true
-value_source a text (source.Digest hash) h = (and_parts (same_algorithm hash.algorithm a) (bytes_eq hash.value text) h).0
+value_source a text (Source.Digest hash) h = (and_parts (same_algorithm hash.algorithm a) (bytes_eq hash.value text) h).0
 value_source a text s h = h
-
-twice : (t : Bool) → not (not t) ≡ t
-twice true = refl
-twice false = refl
 
 unnamed : (a : Algorithm) (sources : List Source) (pairs : PairSets)
     → ((pair : Hash) → has_pair pair pairs ≡ list_any (is_hash pair) sources)
@@ -95,15 +87,10 @@ unnamed a sources pairs each =
     same_empty (is_pair a) (is_of_algorithm a) (some_value a) (value_source a) (values_of a pairs) sources
     (λ value. each (record { algorithm = a; value = value }))
 
-pub algorithm_known : (a : Algorithm) (sources : List Source) (pairs : PairSets)
-    → ((pair : Hash) → has_pair pair pairs ≡ list_any (is_hash pair) sources)
-    → has_algorithm a pairs ≡ names a sources
-algorithm_known a sources pairs each = ap not (unnamed a sources pairs each) ∙ twice (names a sources)
-
 -- a nonce-source, or a hash-source of one of the algorithms
 by_kind : (s : Source) → is_nonce_or_hash s
     ≡ (is_nonce_source s || (is_of_algorithm Sha256 s || (is_of_algorithm Sha384 s || is_of_algorithm Sha512 s)))
-by_kind (source.Digest hash) = by_algorithm hash.algorithm where
+by_kind (Source.Digest hash) = by_algorithm hash.algorithm where
   by_algorithm : (a : Algorithm) → true ≡ (same_algorithm a Sha256 || (same_algorithm a Sha384 || same_algorithm a Sha512))
   by_algorithm Sha256 = refl
   by_algorithm Sha384 = refl

@@ -6,16 +6,9 @@ use Rattle.std.proofs.lemmas.List.Folds.{list_any-append}
 use Rattle.csp_model.specs.DecideTokens.{is_keyword, is_nonce, is_hash, is_hash_of, hash_matches}
 use Rattle.csp_model.specs.DecideEquality.{same_hash, same_keyword}
 use Rattle.csp_model.specs.Validity.{IsValidDigests}
-use Rattle.csp_model.specs.declared.check.Digests.{Digests}
-use Rattle.csp_model.specs.declared.source.Hash.{Hash}
-use Rattle.csp_model.specs.declared.source.Keyword.{Keyword}
-use Rattle.csp_model.specs.declared.source.Source.{Source}
-use Rattle.csp_model.specs.declared.source.Source.TheVariants as source
+use Rattle.csp_token.specs.Types.{Digests, Hash, Keyword, Source, DigestSets, PairSets, Keywords}
 use Rattle.csp_token.specs.Index.{has_text, has_pair, has_digest, IsIndexOf}
 use Rattle.csp_token.specs.Keywords as keywords
-use Rattle.csp_token.specs.declared.hash_sets.DigestSets.{DigestSets}
-use Rattle.csp_token.specs.declared.hash_sets.PairSets.{PairSets}
-use Rattle.csp_token.specs.declared.keyword.Keywords.{Keywords}
 use Rattle.csp_token.proofs.HashSets.{or_none, text_cmp, more_text}
 
 one_more : (p : Source → Bool) (sources : List Source) (s : Source)
@@ -38,50 +31,50 @@ module _ (sources : List Source) (words : Keywords) (nonces : BTreeSet (Bor (Lis
     (was : IsIndexOf sources words nonces pairs digests) where
   pub with_word : (word : Keyword) (now : Keywords)
       → ((asked : Keyword) → keywords.has asked now ≡ (keywords.has asked words || same_keyword word asked))
-      → IsIndexOf (sources ++ source.Word word ∷ []) now nonces pairs digests
+      → IsIndexOf (sources ++ Source.Word word ∷ []) now nonces pairs digests
   with_word word now more = record {
     has_words = λ asked.
-        gained (is_keyword asked) sources (source.Word word) (keywords.has asked words) (keywords.has asked now) (more asked)
+        gained (is_keyword asked) sources (Source.Word word) (keywords.has asked words) (keywords.has asked now) (more asked)
         (was.has_words asked);
-    has_nonces = λ asked. passed (is_nonce asked) sources (source.Word word) (has_text asked nonces) refl (was.has_nonces asked);
-    has_pairs = λ asked. passed (is_hash asked) sources (source.Word word) (has_pair asked pairs) refl (was.has_pairs asked);
+    has_nonces = λ asked. passed (is_nonce asked) sources (Source.Word word) (has_text asked nonces) refl (was.has_nonces asked);
+    has_pairs = λ asked. passed (is_hash asked) sources (Source.Word word) (has_pair asked pairs) refl (was.has_pairs asked);
     has_digests = λ asked valid.
-        passed (is_hash_of asked) sources (source.Word word) (has_digest asked digests) refl (was.has_digests asked valid);
+        passed (is_hash_of asked) sources (Source.Word word) (has_digest asked digests) refl (was.has_digests asked valid);
   }
 
   pub with_nonce : (key : Bor (List ℕ)) (now : BTreeSet (Bor (List ℕ))) → Updates text_cmp nonces now key true
-      → IsIndexOf (sources ++ source.Nonce key.now ∷ []) words now pairs digests
+      → IsIndexOf (sources ++ Source.Nonce key.now ∷ []) words now pairs digests
   with_nonce key now updates = record {
-    has_words = λ asked. passed (is_keyword asked) sources (source.Nonce key.now) (keywords.has asked words) refl (was.has_words asked);
+    has_words = λ asked. passed (is_keyword asked) sources (Source.Nonce key.now) (keywords.has asked words) refl (was.has_words asked);
     has_nonces = λ asked.
-        gained (is_nonce asked) sources (source.Nonce key.now) (has_text asked nonces) (has_text asked now)
+        gained (is_nonce asked) sources (Source.Nonce key.now) (has_text asked nonces) (has_text asked now)
         (more_text nonces now key updates asked) (was.has_nonces asked);
-    has_pairs = λ asked. passed (is_hash asked) sources (source.Nonce key.now) (has_pair asked pairs) refl (was.has_pairs asked);
+    has_pairs = λ asked. passed (is_hash asked) sources (Source.Nonce key.now) (has_pair asked pairs) refl (was.has_pairs asked);
     has_digests = λ asked valid.
-        passed (is_hash_of asked) sources (source.Nonce key.now) (has_digest asked digests) refl (was.has_digests asked valid);
+        passed (is_hash_of asked) sources (Source.Nonce key.now) (has_digest asked digests) refl (was.has_digests asked valid);
   }
 
   pub with_hash : (hash : Hash) (now : PairSets) (then : DigestSets)
       → ((asked : Hash) → has_pair asked now ≡ (has_pair asked pairs || same_hash hash asked))
       → ((asked : Digests) → IsValidDigests asked → has_digest asked then ≡ (has_digest asked digests || hash_matches hash asked))
-      → IsIndexOf (sources ++ source.Digest hash ∷ []) words nonces now then
+      → IsIndexOf (sources ++ Source.Digest hash ∷ []) words nonces now then
   with_hash hash now then more_pairs more_digests = record {
-    has_words = λ asked. passed (is_keyword asked) sources (source.Digest hash) (keywords.has asked words) refl (was.has_words asked);
-    has_nonces = λ asked. passed (is_nonce asked) sources (source.Digest hash) (has_text asked nonces) refl (was.has_nonces asked);
+    has_words = λ asked. passed (is_keyword asked) sources (Source.Digest hash) (keywords.has asked words) refl (was.has_words asked);
+    has_nonces = λ asked. passed (is_nonce asked) sources (Source.Digest hash) (has_text asked nonces) refl (was.has_nonces asked);
     has_pairs = λ asked.
-        gained (is_hash asked) sources (source.Digest hash) (has_pair asked pairs) (has_pair asked now) (more_pairs asked)
+        gained (is_hash asked) sources (Source.Digest hash) (has_pair asked pairs) (has_pair asked now) (more_pairs asked)
         (was.has_pairs asked);
     has_digests = λ asked valid.
-        gained (is_hash_of asked) sources (source.Digest hash) (has_digest asked digests) (has_digest asked then)
+        gained (is_hash_of asked) sources (Source.Digest hash) (has_digest asked digests) (has_digest asked then)
         (more_digests asked valid) (was.has_digests asked valid);
   }
 
   -- a source that is nothing of these
-  pub with_other : (s : Source) → ((word : Keyword) → s ≢ source.Word word) → ((value : List ℕ) → s ≢ source.Nonce value)
-      → ((hash : Hash) → s ≢ source.Digest hash) → IsIndexOf (sources ++ s ∷ []) words nonces pairs digests
-  with_other (source.Word word) no_word no_nonce no_hash = absurd (no_word word refl)
-  with_other (source.Nonce value) no_word no_nonce no_hash = absurd (no_nonce value refl)
-  with_other (source.Digest hash) no_word no_nonce no_hash = absurd (no_hash hash refl)
+  pub with_other : (s : Source) → ((word : Keyword) → s ≢ Source.Word word) → ((value : List ℕ) → s ≢ Source.Nonce value)
+      → ((hash : Hash) → s ≢ Source.Digest hash) → IsIndexOf (sources ++ s ∷ []) words nonces pairs digests
+  with_other (Source.Word word) no_word no_nonce no_hash = absurd (no_word word refl)
+  with_other (Source.Nonce value) no_word no_nonce no_hash = absurd (no_nonce value refl)
+  with_other (Source.Digest hash) no_word no_nonce no_hash = absurd (no_hash hash refl)
   with_other s no_word no_nonce no_hash = record {
     has_words = λ asked. passed (is_keyword asked) sources s (keywords.has asked words) refl (was.has_words asked);
     has_nonces = λ asked. passed (is_nonce asked) sources s (has_text asked nonces) refl (was.has_nonces asked);

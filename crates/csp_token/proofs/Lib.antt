@@ -5,8 +5,8 @@ pub mod HashSets
 pub mod IndexEmpty
 pub mod IndexSteps
 pub mod NamedDigests
+pub mod PairsOfTokens
 pub mod ReadsBack
 pub mod Sizes
-pub mod Tokens
 pub mod Values
 pub mod Words

@@ -9,14 +9,10 @@ use Rattle.sha2.specs.Sha512.{sha384, sha512}
 use Rattle.csp_model.specs.DecideTokens.{is_hash_of, digests_match}
 use Rattle.csp_model.specs.DecideEquality.{same_algorithm}
 use Rattle.csp_model.specs.Tokens.{digest_by, plain_value}
-use Rattle.csp_model.specs.declared.check.Digests.{Digests}
-use Rattle.csp_model.specs.declared.source.Algorithm.{Algorithm}
+use Rattle.csp_token.specs.Types.{Digests, Algorithm, Source, Algorithms}
 use Rattle.csp_model.specs.declared.source.Algorithm.TheVariants.{Sha256, Sha384, Sha512}
-use Rattle.csp_model.specs.declared.source.Source.{Source}
-use Rattle.csp_model.specs.declared.source.Source.TheVariants as source
 use Rattle.csp_token.specs.Algorithms.{is_of_algorithm, names, Covers}
 use Rattle.csp_token.specs.Digests.{AgreeWhereNamed, digests_for, digests_of}
-use Rattle.csp_token.specs.declared.digest.Algorithms.{Algorithms}
 
 pub same_algorithm_refl : (a : Algorithm) → same_algorithm a a ≡ true
 same_algorithm_refl Sha256 = refl
@@ -26,7 +22,7 @@ same_algorithm_refl Sha512 = refl
 -- at one source, digests that agree on its algorithm
 one_matches : (a b : Digests) (s : Source) → ((x : Algorithm) → is_of_algorithm x s ≡ true → digest_by x a ≡ digest_by x b)
     → is_hash_of a s ≡ is_hash_of b s
-one_matches a b (source.Digest hash) agree =
+one_matches a b (Source.Digest hash) agree =
     ap (λ d. bytes_eq (plain_value hash.value) (encode_of standard d))
     (agree hash.algorithm (same_algorithm_refl hash.algorithm))
 one_matches a b s agree = refl

@@ -7,9 +7,8 @@ use Rattle.std.proofs.lemmas.List.Elements.{All-head, All-tail, All-weaker}
 use Rattle.std.proofs.lemmas.List.Sums.{AllPass-from_list_all}
 use Rattle.csp_model.specs.Ascii.{code}
 use Rattle.csp_model.specs.Validity.{IsIntegrityValue}
-use Rattle.csp_model.specs.declared.source.Algorithm.{Algorithm}
+use Rattle.csp_token.specs.Types.{Algorithm, Hash}
 use Rattle.csp_model.specs.declared.source.Algorithm.TheVariants.{Sha256, Sha384, Sha512}
-use Rattle.csp_model.specs.declared.source.Hash.{Hash}
 use Rattle.csp_model.proofs.WordLaws.{IsSolid, one_word, word_before}
 use Rattle.csp_token.proofs.Values.{is_value_byte}
 use Rattle.csp_token.specs.Integrity.{is_hyphen, is_question_mark, hash_of_pair, hash_of_token, hash_text, integrity_of, integrity_text}

@@ -2,15 +2,12 @@
 use Rattle.std.specs.Prelude.{Bool, false, List, IsTrue}
 use Rattle.std.specs.List.{list_any}
 use Rattle.csp_model.specs.DecideEquality.{same_algorithm}
-use Rattle.csp_model.specs.declared.source.Algorithm.{Algorithm}
+use Rattle.csp_token.specs.Types.{Algorithm, Source, Algorithms}
 use Rattle.csp_model.specs.declared.source.Algorithm.TheVariants.{Sha256, Sha384, Sha512}
-use Rattle.csp_model.specs.declared.source.Source.{Source}
-use Rattle.csp_model.specs.declared.source.Source.TheVariants as source
-use Rattle.csp_token.specs.declared.digest.Algorithms.{Algorithms}
 
 -- a hash-source of this algorithm
 abbrev pub is_of_algorithm : Algorithm → Source → Bool
-is_of_algorithm algorithm (source.Digest hash) = same_algorithm hash.algorithm algorithm
+is_of_algorithm algorithm (Source.Digest hash) = same_algorithm hash.algorithm algorithm
 is_of_algorithm algorithm s = false
 
 -- a source list has a hash-source of this algorithm

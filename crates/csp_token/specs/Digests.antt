@@ -4,13 +4,8 @@ use Rattle.sha2.specs.Sha256.{sha256}
 use Rattle.sha2.specs.Sha512.{sha384, sha512}
 use Rattle.csp_model.specs.Tokens.{StandsFor, algorithm_of, bytes_of, digest_by, size_of}
 use Rattle.csp_model.specs.Validity.{IsOfSize}
-use Rattle.csp_model.specs.declared.check.Digests.{Digests}
-use Rattle.csp_model.specs.declared.check.Digest.{Digest}
-use Rattle.csp_model.specs.declared.source.Algorithm.{Algorithm}
-use Rattle.csp_model.specs.declared.source.Hash.{Hash}
-use Rattle.csp_model.specs.declared.source.Source.{Source}
+use Rattle.csp_token.specs.Types.{Digests, Digest, Algorithm, Hash, Source, Algorithms}
 use Rattle.csp_token.specs.Algorithms.{names}
-use Rattle.csp_token.specs.declared.digest.Algorithms.{Algorithms}
 
 -- the three digests of the bytes
 abbrev pub digests_of : List ℕ → Digests

@@ -1,5 +1,5 @@
 -- What an index holds of a source list.
-use Rattle.std.specs.Prelude.{◌≡◌, ◌&&◌, ◌||◌, ◌==◌, ℕ, Bool, not, List}
+use Rattle.std.specs.Prelude.{◌≡◌, ◌&&◌, ◌||◌, ◌==◌, ℕ, Bool, List}
 use Rattle.std.specs.Borrow.{Bor}
 use Rattle.std.specs.BTreeSet.{BTreeSet, btree_set_len, contains_by}
 use Rattle.std.specs.Cmp.Lexicographic.{slice_cmp}
@@ -31,10 +31,6 @@ abbrev pub values_of : Algorithm → PairSets → BTreeSet (Bor (List ℕ))
 values_of Sha256 pairs = pairs.sha256
 values_of Sha384 pairs = pairs.sha384
 values_of Sha512 pairs = pairs.sha512
-
--- the sets have a pair of this algorithm
-abbrev pub has_algorithm : Algorithm → PairSets → Bool
-has_algorithm algorithm pairs = not (btree_set_len (values_of algorithm pairs) == 0)
 
 -- the sets have no pair
 abbrev pub is_empty : PairSets → Bool

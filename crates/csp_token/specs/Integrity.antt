@@ -3,7 +3,7 @@ use Rattle.std.specs.Prelude.{ℕ, ◌==◌, Bool, List, ◌∷◌, ◌++◌, ma
 use Rattle.std.specs.List.{before_first, after_first, filter_map, join_with_byte}
 use Rattle.csp_model.specs.Ascii.{code, lower, words}
 use Rattle.csp_model.specs.Grammar.{algorithm_text, algorithm_named}
-use Rattle.csp_model.specs.declared.source.Hash.{Hash}
+use Rattle.csp_token.specs.Types.{Hash}
 
 unfoldable pub is_hyphen : ℕ → Bool
 is_hyphen c = c == code "-"

@@ -3,3 +3,4 @@ pub mod Digests
 pub mod Index
 pub mod Integrity
 pub mod Keywords
+pub mod Types

@@ -1,13 +1,13 @@
 //! Digests and the hashes that stand for them (Content Security Policy Level 3, section 6.7.3.3).
 ghost use Rattle.std.specs.Prelude.{◌≡◌, ◌↔◌, IsTrue, IsNone, IfSome};
 ghost use Rattle.csp_model.specs.DecideTokens as tests;
-ghost use Rattle.csp_model.specs.Tokens.{HashMatches, DigestsMatch};
+ghost use Rattle.csp_model.specs.Tokens.{HashMatches};
 ghost use Rattle.csp_model.specs.Validity.{IsValidDigests};
 ghost use Rattle.csp_token.specs.Digests as spec;
 
 use crate::base64_value::{decoded, stands_for};
 use crate::size::digests_are_bytes;
-use csp_model::{Algorithm, Digest, Digests, Hash, List, Source};
+use csp_model::{Algorithm, Digest, Digests, Hash, Source};
 use sha2::Digest as _;
 
 /// The three digests of a source text's bytes (FIPS 180-4).
@@ -88,19 +88,6 @@ pub fn digest_matches(hash: &Hash, digests: &Digests) -> bool
         Algorithm::Sha384 => stands_for(value, &digests.sha384),
         Algorithm::Sha512 => stands_for(value, &digests.sha512),
     }
-}
-
-/// Whether some hash-source of a source list stands for the digest of its algorithm (Content Security Policy
-/// Level 3, section 6.7.3.3).
-#[tactic(auto, using(csp_model::proofs::TokensDecided::digests_decide))]
-pub fn digests_match(digests: &Digests, sources: &List<Source>) -> bool
-    ensures value { result ≡ tests.digests_match digests.now sources.now }
-    ensures matches { IsTrue result ↔ DigestsMatch digests.now sources.now }
-{
-    sources
-        .as_slice()
-        .iter()
-        .any(|source| is_hash_of(source, digests))
 }
 
 /// Whether a source is a hash-source that stands for the digest of its algorithm.

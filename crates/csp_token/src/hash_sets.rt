@@ -4,8 +4,7 @@ ghost use Rattle.std.specs.List.{list_all};
 ghost use Rattle.csp_model.specs.DecideTokens.{hash_matches};
 ghost use Rattle.csp_model.specs.DecideEquality.{same_hash};
 ghost use Rattle.csp_model.specs.Validity.{IsValidDigests};
-ghost use Rattle.csp_model.specs.declared.check.Digests.{Digests as DigestsValue};
-ghost use Rattle.csp_model.specs.declared.source.Hash.{Hash as HashValue};
+ghost use Rattle.csp_token.specs.Types.{Digests as DigestsValue, Hash as HashValue};
 ghost use Rattle.csp_token.specs.Index as spec;
 
 use crate::digest::hash_of;
@@ -56,16 +55,6 @@ impl<'a> PairSets<'a> {
         ensures { result ≡ spec.is_empty self.now }
     {
         self.sha256.is_empty() && self.sha384.is_empty() && self.sha512.is_empty()
-    }
-
-    pub(crate) fn has_algorithm(&self, algorithm: Algorithm) -> bool
-        ensures { result ≡ spec.has_algorithm algorithm self.now }
-    {
-        match algorithm {
-            Algorithm::Sha256 => !self.sha256.is_empty(),
-            Algorithm::Sha384 => !self.sha384.is_empty(),
-            Algorithm::Sha512 => !self.sha512.is_empty(),
-        }
     }
 
     fn has(&self, pair: &Hash) -> bool

@@ -1,24 +1,12 @@
-//! Keywords in source lists.
-ghost use Rattle.std.specs.Prelude.{◌≡◌, ◌↔◌, ◌||◌, IsTrue, false};
+//! Keywords.
+ghost use Rattle.std.specs.Prelude.{◌≡◌, ◌||◌, OnOk, false};
 ghost use Rattle.csp_model.specs.DecideTokens as spec;
 ghost use Rattle.csp_model.specs.DecideEquality.{same_keyword};
-ghost use Rattle.csp_model.specs.Tokens.{HasKeyword};
-ghost use Rattle.csp_model.specs.declared.source.Keyword.{Keyword as AnyKeyword};
+ghost use Rattle.csp_token.specs.Types.{Keyword as AnyKeyword};
 ghost use Rattle.csp_token.specs.Keywords.{has};
 
-use csp_model::{Keyword, List, Source};
-
-/// Whether a source list has a keyword.
-#[tactic(auto, using(csp_model::proofs::TokensDecided::keyword_decides))]
-pub fn has_keyword(sources: &List<Source>, word: Keyword) -> bool
-    ensures value { result ≡ spec.has_keyword word sources.now }
-    ensures has { IsTrue result ↔ HasKeyword word sources.now }
-{
-    sources
-        .as_slice()
-        .iter()
-        .any(|source| is_keyword(source, word))
-}
+use csp_model::{Keyword, List, Memory, Source};
+use std::alloc::Global;
 
 /// Whether a source is a keyword.
 pub fn is_keyword(source: &Source, word: Keyword) -> bool
@@ -30,61 +18,37 @@ pub fn is_keyword(source: &Source, word: Keyword) -> bool
     }
 }
 
-// Some of the keywords, as a flag for each.
-#[derive(Clone, Copy)]
+// Some of the keywords, each once.
+#[derive(Drop)]
 pub(crate) struct Keywords {
-    self_origin: bool,
-    unsafe_inline: bool,
-    unsafe_eval: bool,
-    wasm_unsafe_eval: bool,
-    strict_dynamic: bool,
-    unsafe_hashes: bool,
-    report_sample: bool,
+    words: List<Keyword>,
 }
 
 impl Keywords {
     // None of them.
-    pub(crate) fn none() -> Keywords
+    pub(crate) fn new(alloc: Global) -> Keywords
         ensures { (asked : AnyKeyword) → has asked result ≡ false }
     {
         Keywords {
-            self_origin: false,
-            unsafe_inline: false,
-            unsafe_eval: false,
-            wasm_unsafe_eval: false,
-            strict_dynamic: false,
-            unsafe_hashes: false,
-            report_sample: false,
+            words: List::new(alloc),
         }
     }
 
     // With one more.
-    pub(crate) fn add(&mut self, word: Keyword)
-        ensures { (asked : AnyKeyword)
-            → has asked self.new ≡ (has asked self.old || same_keyword word asked) }
+    pub(crate) fn add(&mut self, word: Keyword) -> Result<(), Memory>
+        ensures { OnOk result ((asked : AnyKeyword)
+            → has asked self.new ≡ (has asked self.old || same_keyword word asked)) }
     {
-        match word {
-            Keyword::SelfOrigin => self.self_origin = true,
-            Keyword::UnsafeInline => self.unsafe_inline = true,
-            Keyword::UnsafeEval => self.unsafe_eval = true,
-            Keyword::WasmUnsafeEval => self.wasm_unsafe_eval = true,
-            Keyword::StrictDynamic => self.strict_dynamic = true,
-            Keyword::UnsafeHashes => self.unsafe_hashes = true,
-            Keyword::ReportSample => self.report_sample = true,
+        if self.has(word) {
+            Ok(())
+        } else {
+            Ok(self.words.push(word)?)
         }
     }
 
-    pub(crate) fn has(self, word: Keyword) -> bool
-        ensures { result ≡ has word self }
+    pub(crate) fn has(&self, word: Keyword) -> bool
+        ensures { result ≡ has word self.now }
     {
-        match word {
-            Keyword::SelfOrigin => self.self_origin,
-            Keyword::UnsafeInline => self.unsafe_inline,
-            Keyword::UnsafeEval => self.unsafe_eval,
-            Keyword::WasmUnsafeEval => self.wasm_unsafe_eval,
-            Keyword::StrictDynamic => self.strict_dynamic,
-            Keyword::UnsafeHashes => self.unsafe_hashes,
-            Keyword::ReportSample => self.report_sample,
-        }
+        self.words.as_slice().iter().any(|other| *other == word)
     }
 }

@@ -1,11 +1,9 @@
 //! Laws of the definitions, each the contract of a function with no body.
 ghost use Rattle.std.specs.Prelude.{◌≡◌, ℕ, List};
 ghost use Rattle.csp_model.specs.DecideTokens.{digests_match};
-ghost use Rattle.csp_model.specs.declared.check.Digests.{Digests};
-ghost use Rattle.csp_model.specs.declared.source.Source.{Source};
+ghost use Rattle.csp_token.specs.Types.{Digests, Source, Algorithms};
 ghost use Rattle.csp_token.specs.Algorithms.{Covers};
 ghost use Rattle.csp_token.specs.Digests.{AgreeWhereNamed, digests_for, digests_of};
-ghost use Rattle.csp_token.specs.declared.digest.Algorithms.{Algorithms};
 
 /// Whether digests match a source list rests on those alone whose algorithms the list's hash-sources name. So
 /// the digests by those algorithms match where all three would.

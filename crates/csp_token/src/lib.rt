@@ -11,11 +11,11 @@ mod keyword;
 pub mod laws;
 mod matching;
 mod size;
+mod tokens;
 
-pub use digest::{
-    Algorithms, digest_matches, digests, digests_for, digests_match, hash_of, is_hash_of,
-};
+pub use digest::{Algorithms, digest_matches, digests, digests_for, hash_of, is_hash_of};
 pub use index::TokenIndex;
 pub use integrity::{integrity_text, read_integrity};
-pub use keyword::{has_keyword, is_keyword};
+pub use keyword::is_keyword;
 pub use matching::{integrity_matches, is_hash, is_nonce, nonce_matches};
+pub use tokens::Tokens;

@@ -9,7 +9,7 @@ use Rattle.csp_model.specs.declared.url.Url.TheVariants.{Hosted}
 use Rattle.csp_model.specs.declared.url.Origin.TheVariants.{Tuple}
 use Rattle.csp_model.specs.Validity.{is_domain, is_domain_byte, ends_in_number, is_address, is_four_numbers, is_bracketed, is_piece, is_lower_scheme}
 use Rattle.csp_model.specs.Grammar.{is_scheme_char}
-use Rattle.csp_url.specs.declared.error.Part.TheVariants as part
+use Rattle.csp_url.specs.Types.{Part}
 use Rattle.csp_url.specs.declared.error.PartsError.TheVariants.{Bad}
 use Rattle.csp_url.specs.Reading.{found_path, url_of}
 use Rattle.csp_url.specs.Parts.{url_of_parts}
@@ -33,7 +33,7 @@ pub no_url : url_of (codes "//") ≡ None
 unfolding url_on_literals percent_encoding_on_literals
 no_url = refl
 
-pub upper_case_host : url_of_parts (codes "https") (Some (codes "B.example")) None (codes "/") ≡ Err (Bad part.Host)
+pub upper_case_host : url_of_parts (codes "https") (Some (codes "B.example")) None (codes "/") ≡ Err (Bad Part.Host)
 unfolding is_lower_scheme is_scheme_char is_domain is_domain_byte ends_in_number is_address is_four_numbers is_bracketed
 upper_case_host = refl
 

@@ -3,10 +3,9 @@ use Rattle.std.proofs.Common.{◌≡◌, refl, subst, ℕ, List, Option, Some, N
 use Rattle.std.specs.Prelude.{[], option_and_then, option_map, unwrap_or}
 use Rattle.url.specs.Parts.{Parts}
 use Rattle.csp_model.specs.Validity.{IsValidUrl}
-use Rattle.csp_model.specs.declared.url.Url.{Url}
+use Rattle.csp_url.specs.Types.{Url, ShownUrl}
 use Rattle.csp_url.specs.Reading.{parts_of, url_from, url_of}
 use Rattle.csp_url.specs.Texts.{shown_url, shown_text, shown_url_from, shown_url_of, stripped_from, stripped_of}
-use Rattle.csp_url.specs.declared.strip.ShownUrl.{ShownUrl}
 use Rattle.csp_url.proofs.Valid.{url_valid}
 
 abbrev IsBoth : Option Url → List ℕ → ShownUrl → Type 0

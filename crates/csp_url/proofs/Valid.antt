@@ -15,20 +15,12 @@ use Rattle.csp_model.specs.Grammar.{pieces_of}
 use Rattle.csp_model.specs.Answers.{Gives}
 use Rattle.csp_model.specs.Schemes.{scheme_named, default_port}
 use Rattle.csp_model.specs.Validity.{is_domain, is_address, is_piece, is_lower_scheme, IsValidHost, IsValidPort, IsValidUrl, IsValidOrigin}
-use Rattle.csp_model.specs.declared.url.Scheme.{Scheme}
+use Rattle.csp_url.specs.Types.{Scheme, Host, Url, Origin, Part, PartsError}
 use Rattle.csp_model.specs.declared.url.Scheme.TheVariants.{Http, Https, Ws, Wss, Ftp}
-use Rattle.csp_model.specs.declared.url.Host.{Host}
 use Rattle.csp_model.specs.declared.url.Host.TheVariants.{Domain, Address}
-use Rattle.csp_model.specs.declared.url.Url.{Url}
-use Rattle.csp_model.specs.declared.url.Url.TheVariants as url
-use Rattle.csp_model.specs.declared.url.Origin.{Origin}
-use Rattle.csp_model.specs.declared.url.Origin.TheVariants as origin
 use Rattle.csp_url.specs.Reading.{domain_of, address_of, host_of, found_host, is_port, found_port, whole_pieces, found_path, hosted_from, plain_from, url_by, url_from, parts_of, url_of}
 use Rattle.csp_url.specs.Parts.{given_host, kept_port, given_port, or_bad, hosted_of_parts}
 use Rattle.csp_url.specs.Origins.{is_bare, is_web, web_origin, origin_from, origin_of}
-use Rattle.csp_url.specs.declared.error.Part.{Part}
-use Rattle.csp_url.specs.declared.error.Part.TheVariants as part
-use Rattle.csp_url.specs.declared.error.PartsError.{PartsError}
 use Rattle.csp_url.specs.declared.error.PartsError.TheVariants.{Memory}
 
 -- Choices and steps
@@ -128,7 +120,7 @@ hosted_valid scheme parts there h =
     subst IsValidUrl d.2 (found_host_valid b.0 a.0 b.2, found_port_valid scheme parts.port c.0 c.1, path.0, path.1)
 
 plain_valid : (scheme : List ℕ) (there : Url) → scheme_named scheme ≡ None → plain_from scheme ≡ Some there → IsValidUrl there
-plain_valid scheme there none h = let c = some_if (is_lower_scheme scheme) (url.Plain scheme) there h in subst IsValidUrl c.1 (c.0, ap is_some none)
+plain_valid scheme there none h = let c = some_if (is_lower_scheme scheme) (Url.Plain scheme) there h in subst IsValidUrl c.1 (c.0, ap is_some none)
 
 parts_valid : (parts : Parts) (there : Url) → url_from parts ≡ Some there → IsValidUrl there
 parts_valid parts there h = by (scheme_named parts.scheme) refl h where
@@ -144,11 +136,11 @@ url_valid text there h = let c = and_then_some (parts_of text) url_from there h 
 
 pub hosted_of_parts_valid : (scheme : Scheme) (host : Option (List ℕ)) (port : Option ℕ) (path : List ℕ) (there : Url) → hosted_of_parts scheme host port path ≡ Ok there → IsValidUrl there
 hosted_of_parts_valid scheme host port path there h =
-    let a = or_bad_ok (given_host host) part.Host _ there h in
-    let b = or_bad_ok (given_port scheme port) part.Port _ there a.2 in
-    let c = or_bad_ok (found_path path) part.Path _ there b.2 in
+    let a = or_bad_ok (given_host host) Part.Host _ there h in
+    let b = or_bad_ok (given_port scheme port) Part.Port _ there a.2 in
+    let c = or_bad_ok (found_path path) Part.Path _ there b.2 in
     let pieces = path_valid path c.0 c.1 in
-    let same : url.Hosted scheme a.0 b.0 c.0 ≡ there = cc in
+    let same : Url.Hosted scheme a.0 b.0 c.0 ≡ there = cc in
     subst IsValidUrl same (given_host_valid host a.0 a.1, given_port_valid scheme port b.0 b.1, pieces.0, pieces.1)
 
 -- what is made of the parts of a URL with a host is valid
@@ -167,9 +159,9 @@ web_is Wss h = absurd (cc h)
 web_is Ftp h = absurd (cc h)
 
 web_origin_valid : (there : Url) (made : Origin) → IsValidUrl there → web_origin there ≡ Some made → IsValidOrigin made
-web_origin_valid (url.Plain scheme) made valid h = absurd (cc h)
-web_origin_valid (url.Hosted scheme host port path) made valid h =
-    let c = some_if (is_web scheme) (origin.Tuple scheme host port) made h in
+web_origin_valid (Url.Plain scheme) made valid h = absurd (cc h)
+web_origin_valid (Url.Hosted scheme host port path) made valid h =
+    let c = some_if (is_web scheme) (Origin.Tuple scheme host port) made h in
     subst IsValidOrigin c.1 (web_is scheme c.0, valid.0, valid.1)
 
 origin_from_valid : (parts : Parts) (made : Origin) → origin_from parts ≡ Some made → IsValidOrigin made
@@ -181,6 +173,6 @@ origin_from_valid parts made h = by (is_bare parts) h where
 -- the origin that a text is is valid
 pub origin_valid : (text : List ℕ) (made : Origin) → origin_of text ≡ Some made → IsValidOrigin made
 origin_valid text made h = by (bytes_eq text (codes "null")) h where
-  by : (b : Bool) → (if b then Some origin.Opaque else option_and_then origin_from (parts_of text)) ≡ Some made → IsValidOrigin made
-  by true e = let same : origin.Opaque ≡ made = cc in subst IsValidOrigin same tt
+  by : (b : Bool) → (if b then Some Origin.Opaque else option_and_then origin_from (parts_of text)) ≡ Some made → IsValidOrigin made
+  by true e = let same : Origin.Opaque ≡ made = cc in subst IsValidOrigin same tt
   by false e = let c = and_then_some (parts_of text) origin_from made e in origin_from_valid c.0 made c.2

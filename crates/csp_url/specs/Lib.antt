@@ -2,3 +2,4 @@ pub mod Origins
 pub mod Parts
 pub mod Reading
 pub mod Texts
+pub mod Types

@@ -3,14 +3,8 @@ use Rattle.std.specs.Prelude.{ℕ, ◌==◌, nat_lt, List, Option, Some, None, i
 use Rattle.std.specs.Str.{bytes_eq}
 use Rattle.csp_model.specs.Schemes.{scheme_named, default_port}
 use Rattle.csp_model.specs.Validity.{is_lower_scheme}
-use Rattle.csp_model.specs.declared.url.Scheme.{Scheme}
-use Rattle.csp_model.specs.declared.url.Host.{Host}
-use Rattle.csp_model.specs.declared.url.Url.{Url}
-use Rattle.csp_model.specs.declared.url.Url.TheVariants as url
+use Rattle.csp_url.specs.Types.{Scheme, Host, Url, Part, PartsError}
 use Rattle.csp_url.specs.Reading.{host_of, found_path}
-use Rattle.csp_url.specs.declared.error.Part.{Part}
-use Rattle.csp_url.specs.declared.error.Part.TheVariants as part
-use Rattle.csp_url.specs.declared.error.PartsError.{PartsError}
 use Rattle.csp_url.specs.declared.error.PartsError.TheVariants.{Bad}
 
 -- a host has to be given
@@ -35,16 +29,16 @@ or_bad None bad next = Err (Bad bad)
 -- a scheme that has hosts
 abbrev pub hosted_of_parts : Scheme → Option (List ℕ) → Option ℕ → List ℕ → Result Url PartsError
 hosted_of_parts scheme host port path =
-    or_bad (given_host host) part.Host (λ host. or_bad (given_port scheme port) part.Port (λ port.
-    or_bad (found_path path) part.Path (λ path. Ok (url.Hosted scheme host port path))))
+    or_bad (given_host host) Part.Host (λ host. or_bad (given_port scheme port) Part.Port (λ port.
+    or_bad (found_path path) Part.Path (λ path. Ok (Url.Hosted scheme host port path))))
 
 -- any other scheme: no host, no port, and the path "/"
 abbrev pub plain_of_parts : List ℕ → Option (List ℕ) → Option ℕ → List ℕ → Result Url PartsError
 plain_of_parts scheme host port path =
-    if is_some host then Err (Bad part.Host)
-    else if is_some port then Err (Bad part.Port)
-    else if bytes_eq path (codes "/") then Ok (url.Plain scheme)
-    else Err (Bad part.Path)
+    if is_some host then Err (Bad Part.Host)
+    else if is_some port then Err (Bad Part.Port)
+    else if bytes_eq path (codes "/") then Ok (Url.Plain scheme)
+    else Err (Bad Part.Path)
 
 abbrev pub url_of_parts_by : Option Scheme → List ℕ → Option (List ℕ) → Option ℕ → List ℕ
     → Result Url PartsError
@@ -55,4 +49,4 @@ url_of_parts_by None scheme host port path = plain_of_parts scheme host port pat
 abbrev pub url_of_parts : List ℕ → Option (List ℕ) → Option ℕ → List ℕ → Result Url PartsError
 url_of_parts scheme host port path =
     if is_lower_scheme scheme then url_of_parts_by (scheme_named scheme) scheme host port path
-    else Err (Bad part.Scheme)
+    else Err (Bad Part.Scheme)

@@ -11,11 +11,8 @@ use Rattle.csp_model.specs.Ascii.{code}
 use Rattle.csp_model.specs.Grammar.{pieces_of}
 use Rattle.csp_model.specs.Schemes.{scheme_named, default_port}
 use Rattle.csp_model.specs.Validity.{is_domain, is_address, is_piece, is_lower_scheme}
-use Rattle.csp_model.specs.declared.url.Scheme.{Scheme}
-use Rattle.csp_model.specs.declared.url.Host.{Host}
+use Rattle.csp_url.specs.Types.{Scheme, Host, Url}
 use Rattle.csp_model.specs.declared.url.Host.TheVariants.{Domain, Address}
-use Rattle.csp_model.specs.declared.url.Url.{Url}
-use Rattle.csp_model.specs.declared.url.Url.TheVariants as url
 
 -- the domain, where it is valid
 abbrev pub domain_of : List ℕ → Option Host
@@ -56,13 +53,13 @@ found_path (b ∷ text) = if b == code "/" then whole_pieces (pieces_of text) el
 -- the URL of a scheme that has hosts
 abbrev pub hosted_from : Scheme → Parts → Option Url
 hosted_from scheme parts =
-    option_and_then (λ host. option_and_then (λ port. option_map (λ path. url.Hosted scheme host port path)
+    option_and_then (λ host. option_and_then (λ port. option_map (λ path. Url.Hosted scheme host port path)
     (found_path parts.path)) (found_port scheme parts.port))
     (option_and_then found_host (nonempty_host parts))
 
 -- the URL of any other scheme
 abbrev pub plain_from : List ℕ → Option Url
-plain_from scheme = if is_lower_scheme scheme then Some (url.Plain scheme) else None
+plain_from scheme = if is_lower_scheme scheme then Some (Url.Plain scheme) else None
 
 abbrev pub url_by : Option Scheme → Parts → Option Url
 url_by (Some scheme) parts = hosted_from scheme parts

@@ -5,18 +5,16 @@ use Rattle.std.specs.Str.{bytes_eq}
 use Rattle.url.specs.Parts.{Parts, serialize}
 use Rattle.csp_model.specs.Paths.{host_text, path_text}
 use Rattle.csp_model.specs.Schemes.{scheme_text}
-use Rattle.csp_model.specs.declared.url.Url.{Url}
-use Rattle.csp_model.specs.declared.url.Url.TheVariants as url
+use Rattle.csp_url.specs.Types.{Url, ShownUrl}
 use Rattle.csp_url.specs.Reading.{found_path, parts_of, url_from}
-use Rattle.csp_url.specs.declared.strip.ShownUrl.{ShownUrl}
 
 abbrev pub port_text : Option ℕ → List ℕ
 port_text None = []
 port_text (Some n) = codes ":" ++ decimal n
 
 abbrev pub url_text : Url → List ℕ
-url_text (url.Plain scheme) = scheme ++ codes ":"
-url_text (url.Hosted scheme host port path) =
+url_text (Url.Plain scheme) = scheme ++ codes ":"
+url_text (Url.Hosted scheme host port path) =
     scheme_text scheme ++ (codes "://" ++ (host_text host ++ (port_text port ++ path_text path)))
 
 -- what a URL prints without user name, password and fragment
@@ -51,5 +49,5 @@ shown_url_of text = option_and_then shown_url_from (parts_of text)
 
 -- the text of a path reads as its pieces
 abbrev pub ReadsBack : Url → Type 0
-ReadsBack (url.Plain scheme) = ⊤
-ReadsBack (url.Hosted scheme host port path) = found_path (path_text path) ≡ Some path
+ReadsBack (Url.Plain scheme) = ⊤
+ReadsBack (Url.Hosted scheme host port path) = found_path (path_text path) ≡ Some path

@@ -47,7 +47,7 @@ pub enum OriginError {
 }
 
 impl From<Memory> for PartsError {
-    ghost use Rattle.csp_url.specs.declared.error.PartsError.{PartsError};
+    ghost use Rattle.csp_url.specs.Types.{PartsError};
 
     ghost from_gives = { λ _ made. made ≡ PartsError.Memory };
 
@@ -57,7 +57,7 @@ impl From<Memory> for PartsError {
 }
 
 impl From<Memory> for UrlError {
-    ghost use Rattle.csp_url.specs.declared.error.UrlError.{UrlError};
+    ghost use Rattle.csp_url.specs.Types.{UrlError};
 
     ghost from_gives = { λ _ made. made ≡ UrlError.Memory };
 
@@ -67,7 +67,7 @@ impl From<Memory> for UrlError {
 }
 
 impl From<Memory> for OriginError {
-    ghost use Rattle.csp_url.specs.declared.error.OriginError.{OriginError};
+    ghost use Rattle.csp_url.specs.Types.{OriginError};
 
     ghost from_gives = { λ _ made. made ≡ OriginError.Memory };
 

@@ -1,17 +1,15 @@
 -- What governs under a name is the first directive of that name, so the entry of the name has it.
-use Rattle.std.proofs.Common.{◌≡◌, List, [], ◌∷◌, map, get_or, Option, Some, None, refl, sym, ap, ◌∙◌}
-use denote.Enum.Declared.{tag_of}
+use Rattle.std.proofs.Common.{◌≡◌, arith, List, [], ◌∷◌, drop, map, get_or, Option, Some, None, refl, sym, ap, ◌∙◌}
 use Rattle.std.specs.Prelude.{option_and_then}
 use Rattle.std.specs.List.{find}
 use Rattle.std.specs.Option.{option_map}
 use Rattle.csp_model.specs.Governing.{Governor, governor, governor_named, is_named, fallbacks}
+use Rattle.csp_model.specs.Names.{names}
 use Rattle.csp_model.specs.Reading.{first_of}
 use Rattle.csp_model.specs.declared.name.Name.{Name}
-use Rattle.csp_model.specs.declared.name.Name.TheVariants.{ConnectSrc, FontSrc, FrameSrc, ImgSrc, ManifestSrc, MediaSrc, ObjectSrc, StyleSrcElem, ScriptSrcElem, WorkerSrc, ScriptSrcAttr, StyleSrcAttr, ScriptSrc, StyleSrc, ChildSrc, DefaultSrc, BaseUri, FormAction, FrameAncestors, Sandbox}
-use Rattle.csp_model.specs.contracts.name.Name.{the_type}
 use Rattle.csp_model.specs.declared.policy.Directive.{Directive}
 use Rattle.csp_model.specs.declared.policy.Policy.{Policy}
-use Rattle.csp_match.specs.Candidates.{names}
+use Rattle.csp_model.proofs.NamesListed.{place, kept_at_place}
 use Rattle.csp_verdict.specs.Entries.{entry_of}
 use Rattle.csp_verdict.specs.declared.compiled_policy.Entry.{Entry}
 
@@ -47,26 +45,7 @@ governs_named p effective g e = found_named p.directives (fallbacks effective) g
 
 -- a name stands first among those that may govern where it is asked for
 headed : (name : Name) → (rest : List Name) × (fallbacks name ≡ name ∷ rest)
-headed ConnectSrc = (_, refl)
-headed FontSrc = (_, refl)
-headed FrameSrc = (_, refl)
-headed ImgSrc = (_, refl)
-headed ManifestSrc = (_, refl)
-headed MediaSrc = (_, refl)
-headed ObjectSrc = (_, refl)
-headed StyleSrcElem = (_, refl)
-headed ScriptSrcElem = (_, refl)
-headed WorkerSrc = (_, refl)
-headed ScriptSrcAttr = (_, refl)
-headed StyleSrcAttr = (_, refl)
-headed ScriptSrc = (_, refl)
-headed StyleSrc = (_, refl)
-headed ChildSrc = (_, refl)
-headed DefaultSrc = (_, refl)
-headed BaseUri = (_, refl)
-headed FormAction = (_, refl)
-headed FrameAncestors = (_, refl)
-headed Sandbox = (_, refl)
+headed name = (drop 1 (fallbacks name), grind arith)
 
 absent : (ds : List Directive) (name : Name) (rest : List Name) (g : Governor) (o : Option Governor)
     → governor_named ds name ≡ o → first_of (o ∷ map (governor_named ds) rest) ≡ Some g → (g.name ≡ name → ⊥) → None ≡ o
@@ -108,31 +87,9 @@ entry_by_other p name g is other =
     (sym (ap (option_map (λ (h : Governor). h.name)) is)) (governs_by_other p name g is other)
 
 -- the entry at the place of a name is that of the name
-at_place : (p : Policy) (name : Name) (x : Entry) → x ≡ get_or (map (entry_of p) names) (tag_of the_type name) x → x ≡ entry_of p name
-at_place p ConnectSrc x is = is
-at_place p FontSrc x is = is
-at_place p FrameSrc x is = is
-at_place p ImgSrc x is = is
-at_place p ManifestSrc x is = is
-at_place p MediaSrc x is = is
-at_place p ObjectSrc x is = is
-at_place p StyleSrcElem x is = is
-at_place p ScriptSrcElem x is = is
-at_place p WorkerSrc x is = is
-at_place p ScriptSrcAttr x is = is
-at_place p StyleSrcAttr x is = is
-at_place p ScriptSrc x is = is
-at_place p StyleSrc x is = is
-at_place p ChildSrc x is = is
-at_place p DefaultSrc x is = is
-at_place p BaseUri x is = is
-at_place p FormAction x is = is
-at_place p FrameAncestors x is = is
-at_place p Sandbox x is = is
-
 pub entry_at : (p : Policy) (es : List Entry) (name : Name) (x : Entry) → es ≡ map (entry_of p) names
-    → x ≡ get_or es (tag_of the_type name) x → x ≡ entry_of p name
-entry_at p es name x all is = at_place p name x (is ∙ ap (λ (l : List Entry). get_or l (tag_of the_type name) x) all)
+    → x ≡ get_or es (place name) x → x ≡ entry_of p name
+entry_at p es name x all is = is ∙ ap (λ (l : List Entry). get_or l (place name) x) all ∙ kept_at_place (entry_of p) name x
 
 pub nothing_governs : (p : Policy) (effective : Name) (x : Entry) → x ≡ entry_of p effective → x.governing ≡ None
     → None ≡ governor p effective

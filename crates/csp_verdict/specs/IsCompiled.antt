@@ -1,9 +1,8 @@
 -- What a compiled policy keeps is what the policy says.
 use Rattle.std.specs.Prelude.{◌≡◌, IfSome, map}
 use Rattle.csp_model.specs.DecideNavigation.{capability_allows, worker_start_allows}
-use Rattle.csp_model.specs.Names.{capabilities}
+use Rattle.csp_model.specs.Names.{capabilities, names}
 use Rattle.csp_model.specs.Policies.{policy_text}
-use Rattle.csp_match.specs.Candidates.{names}
 use Rattle.csp_verdict.specs.Entries.{entry_of}
 use Rattle.csp_verdict.specs.declared.compiled_policy.CompiledPolicy.TheInside.{Inside}
 

@@ -1,6 +1,5 @@
 //! A policy made ready for many checks.
 ghost use Rattle.std.specs.Prelude.{◌≡◌, IfOk, IfSome, map, take, option_copied, slice_get, Some};
-ghost use Rattle.csp_match.specs.Candidates.{names};
 ghost use Rattle.csp_match.specs.Shown.{shown};
 ghost use Rattle.csp_model.specs.DecideNavigation.{capability_allows};
 ghost use Rattle.csp_model.specs.Governing as spec;
@@ -16,9 +15,10 @@ use csp_match::{Candidates, names};
 use csp_model::{Capability, Check, Duplicate, Item, Keyword, Memory, Name, Policy, Text};
 use csp_policy::policy_text;
 use csp_rules::{
-    capability_allows, decided_by_tokens, governed_eval_allows, governed_inline_allows,
-    governed_wasm_allows, worker_start_allows,
+    capability_allows, decided_by_tokens, sources_allow_eval, sources_allow_inline,
+    sources_allow_wasm, worker_start_allows,
 };
+use csp_token::Tokens;
 use std::alloc::{AllocError, Global};
 use std::marker::Model;
 
@@ -110,9 +110,9 @@ impl<'a> CompiledPolicy<'a> {
                 kind,
                 nonce,
                 digests,
-            } => governed_inline_allows(*kind, found.tokens(), nonce, digests),
-            Check::Eval => governed_eval_allows(found.tokens()),
-            Check::Wasm => governed_wasm_allows(found.tokens()),
+            } => sources_allow_inline(*kind, found.tokens(), nonce, digests),
+            Check::Eval => sources_allow_eval(found.tokens()),
+            Check::Wasm => sources_allow_wasm(found.tokens()),
             Check::Base { url } | Check::Ancestor { url } => {
                 found.index().matches(origin, url, false)
             }
@@ -170,7 +170,7 @@ fn printed_where(alloc: Global, policy: &Policy, is_printed: bool) -> Result<Opt
 
 // What the policy has for each name.
 fn entries_of<'a>(alloc: Global, policy: &'a Policy) -> Result<Vec<Entry<'a>>, Memory>
-    ensures { IfOk result (λ made. made.items ≡ map (entries.entry_of policy.now) names) }
+    ensures { IfOk result (λ made. made.items ≡ map (entries.entry_of policy.now) names_spec.names) }
 {
     let candidates = Candidates::new(alloc, policy)?;
     let mut made = Vec::new(alloc);
@@ -204,28 +204,8 @@ fn allowed_capabilities(alloc: Global, policy: &Policy) -> Result<Vec<bool>, All
     ensures { IfOk result (λ made. made.items
         ≡ map (capability_allows policy.now) names_spec.capabilities) }
 {
-    capabilities()
+    Capability::ALL
         .iter()
         .map(|capability| capability_allows(policy, *capability))
         .collect(alloc)
-}
-
-// The capabilities, in the order in which they are declared.
-fn capabilities() -> &'static [Capability]
-    ensures { result.now ≡ names_spec.capabilities }
-{
-    &[
-        Capability::Forms,
-        Capability::Scripts,
-        Capability::SameOrigin,
-        Capability::Popups,
-        Capability::PopupsToEscapeSandbox,
-        Capability::TopNavigation,
-        Capability::TopNavigationByUserActivation,
-        Capability::Modals,
-        Capability::PointerLock,
-        Capability::OrientationLock,
-        Capability::Presentation,
-        Capability::Downloads,
-    ]
 }

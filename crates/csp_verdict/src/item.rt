@@ -13,7 +13,7 @@ use crate::violation::has_sample;
 use csp_match::governor;
 use csp_model::{Check, Disposition, Item, Keyword, List, Memory, Name, Policy, Text};
 use csp_policy::policy_text;
-use csp_token::has_keyword;
+use csp_token::Tokens;
 use std::alloc::Global;
 
 // A policy, or what was made of one, that can be asked for the item of a check and for what reports say.
@@ -53,7 +53,7 @@ impl Judge for Policy {
     fn is_sampled(&self, check: &Check) -> bool {
         has_sample(check)
             && match governor(self, effective_name(check)) {
-                Some(found) => has_keyword(&found.directive.sources, Keyword::ReportSample),
+                Some(found) => found.directive.sources.has_keyword(Keyword::ReportSample),
                 None => false,
             }
     }

@@ -1,12 +1,13 @@
 -- The token that is told allows alone, with what its rule needs.
-use Rattle.std.proofs.Common.{◌≡◌, ℕ, Bool, true, false, not, ◌&&◌, List, [], ◌∷◌, Option, Some, None, is_none, refl, sym, subst, inl, inr}
+use Rattle.std.proofs.Common.{◌≡◌, ℕ, Bool, true, false, not, ◌&&◌, List, [], ◌∷◌, Option, Some, None, is_none, refl, sym, ap, subst, inl, inr}
 use Rattle.std.specs.Prelude.{position, slice_get}
 use Rattle.std.specs.List.{list_any, list_all, filter, cons_option}
 use Rattle.std.proofs.lemmas.Bool.{and_parts, and_from, or_left, or_right, or_from, or_cases, not_from_false, false≢true}
 use Rattle.csp_model.specs.Ascii.{is_nonempty}
 use Rattle.csp_model.specs.DecideFetch.{sources_allow}
 use Rattle.csp_model.specs.DecideInline.{allows_all_inline, hash_counts, sources_allow_inline}
-use Rattle.csp_model.specs.DecideMatching.{matches, list_matches}
+use Rattle.csp_model.specs.DecideEquality.{same_keyword}
+use Rattle.csp_model.specs.DecideMatching.{matches, list_matches, self_matches}
 use Rattle.csp_model.specs.DecideNavigation.{grants}
 use Rattle.csp_model.specs.DecideTokens.{is_keyword, has_keyword, is_nonce, nonce_matches, is_hash, integrity_matches, is_hash_of, digests_match}
 use Rattle.csp_model.specs.DecideVerdict.{allows}
@@ -38,6 +39,8 @@ use Rattle.csp_why.specs.declared.reason.Reason.TheVariants.{Ungoverned, Allows}
 use Rattle.csp_why.specs.declared.reason.Rule.{Rule}
 use Rattle.csp_why.specs.declared.reason.Rule.TheVariants as rule
 use Rattle.csp_model.specs.Reading.{first_of}
+use Rattle.csp_model.proofs.EqualityDecided.{same_keyword_decides}
+use Rattle.csp_model.proofs.TokensDecided.{is_keyword_decides}
 use Rattle.csp_why.proofs.Finding.{Each, any_kept, none_kept, first_holds, position_placed}
 use Rattle.csp_why.proofs.Governed.{test, allows_changed}
 
@@ -80,13 +83,9 @@ pub matches_no_keyword : (s : Source) (self : Origin) (there : Url) (redirected 
 matches_no_keyword source.Star self there redirected match = refl
 matches_no_keyword (source.SchemeOnly scheme) self there redirected match = refl
 matches_no_keyword (source.Hosted scheme host port path) self there redirected match = refl
-matches_no_keyword (source.Word keyword.SelfOrigin) self there redirected match = refl
-matches_no_keyword (source.Word keyword.UnsafeInline) self there redirected match = refl
-matches_no_keyword (source.Word keyword.UnsafeEval) self there redirected match = refl
-matches_no_keyword (source.Word keyword.WasmUnsafeEval) self there redirected match = refl
-matches_no_keyword (source.Word keyword.StrictDynamic) self there redirected match = absurd (false≢true match)
-matches_no_keyword (source.Word keyword.UnsafeHashes) self there redirected match = refl
-matches_no_keyword (source.Word keyword.ReportSample) self there redirected match = refl
+matches_no_keyword (source.Word word) self there redirected match =
+    let here = (same_keyword_decides word keyword.SelfOrigin).0 (and_parts (same_keyword word keyword.SelfOrigin) (self_matches self there) match).0 in
+    ap (λ w. same_keyword w keyword.StrictDynamic) here
 matches_no_keyword (source.Nonce value) self there redirected match = refl
 matches_no_keyword (source.Digest hash) self there redirected match = refl
 matches_no_keyword (source.Other token) self there redirected match = refl
@@ -199,19 +198,9 @@ module _ (group : Group) (there : Url) (redirects : ℕ) (nonce : List ℕ) (int
 
 unsafe_inline_only : (s : Source) → is_keyword keyword.UnsafeInline s ≡ true
     → (is_nonce_or_hash s ≡ false) × (is_keyword keyword.StrictDynamic s ≡ false)
-unsafe_inline_only source.Star is = absurd (false≢true is)
-unsafe_inline_only (source.SchemeOnly scheme) is = absurd (false≢true is)
-unsafe_inline_only (source.Hosted scheme host port path) is = absurd (false≢true is)
-unsafe_inline_only (source.Word keyword.SelfOrigin) is = absurd (false≢true is)
-unsafe_inline_only (source.Word keyword.UnsafeInline) is = (refl, refl)
-unsafe_inline_only (source.Word keyword.UnsafeEval) is = absurd (false≢true is)
-unsafe_inline_only (source.Word keyword.WasmUnsafeEval) is = absurd (false≢true is)
-unsafe_inline_only (source.Word keyword.StrictDynamic) is = absurd (false≢true is)
-unsafe_inline_only (source.Word keyword.UnsafeHashes) is = absurd (false≢true is)
-unsafe_inline_only (source.Word keyword.ReportSample) is = absurd (false≢true is)
-unsafe_inline_only (source.Nonce value) is = absurd (false≢true is)
-unsafe_inline_only (source.Digest hash) is = absurd (false≢true is)
-unsafe_inline_only (source.Other token) is = absurd (false≢true is)
+unsafe_inline_only s is =
+    subst (λ t. (is_nonce_or_hash t ≡ false) × (is_keyword keyword.StrictDynamic t ≡ false))
+    (sym ((is_keyword_decides keyword.UnsafeInline s).0 is)) (refl, refl)
 
 module _ (kind : InlineKind) (nonce : List ℕ) (digests : Digests) (sources : List Source) where
   abbrev near_by : Allowance → List Source

@@ -1,5 +1,5 @@
 -- A token that nearly allows does so where what its word tells of is mended.
-use Rattle.std.proofs.Common.{◌≡◌, ℕ, zero, suc, ◌+◌, Bool, true, false, not, ◌&&◌, ◌||◌, cond, List, [], ◌∷◌, ◌++◌, map, codes, Option, Some, None, All, is_none, refl, sym, ◌∙◌, subst, inl, inr, ◌⊎◌, arith}
+use Rattle.std.proofs.Common.{◌≡◌, ℕ, zero, suc, ◌+◌, Bool, true, false, not, ◌&&◌, ◌||◌, cond, List, [], ◌∷◌, ◌++◌, map, codes, Option, Some, None, All, is_none, refl, sym, ap, ◌∙◌, subst, inl, inr, ◌⊎◌, arith}
 use Rattle.std.specs.Prelude.{slice_get, unwrap_or}
 use Rattle.std.specs.List.{list_all, list_any, filter, cons_option}
 use Rattle.std.specs.Option.{option_map}
@@ -43,6 +43,7 @@ use Rattle.csp_why.specs.declared.reason.Near.{Near}
 use Rattle.csp_why.specs.declared.reason.Reason.TheVariants.{Ungoverned, Allows, Blocks}
 use Rattle.csp_why.specs.declared.reason.Word.{Word}
 use Rattle.csp_why.specs.declared.reason.Word.TheVariants as word
+use Rattle.csp_model.proofs.TokensDecided.{is_keyword_decides}
 use Rattle.csp_why.proofs.Alone.{matches_no_keyword}
 use Rattle.csp_why.proofs.Decided.{nonces_and_hashes}
 use Rattle.csp_why.proofs.Finding.{find_passes, any_at, any_kept, none_kept}
@@ -262,19 +263,7 @@ module _ (nonce : List ℕ) (integrity : List Hash) (parser_inserted : Bool) (se
 
 -- 'unsafe-inline' is no nonce and no hash, and isn't 'strict-dynamic'
 stays : (s : Source) → is_keyword keyword.UnsafeInline s ≡ true → (is_nonce_or_hash s || is_dynamic s) ≡ false
-stays source.Star is = absurd (false≢true is)
-stays (source.SchemeOnly scheme) is = absurd (false≢true is)
-stays (source.Hosted scheme host port path) is = absurd (false≢true is)
-stays (source.Word keyword.SelfOrigin) is = absurd (false≢true is)
-stays (source.Word keyword.UnsafeInline) is = refl
-stays (source.Word keyword.UnsafeEval) is = absurd (false≢true is)
-stays (source.Word keyword.WasmUnsafeEval) is = absurd (false≢true is)
-stays (source.Word keyword.StrictDynamic) is = absurd (false≢true is)
-stays (source.Word keyword.UnsafeHashes) is = absurd (false≢true is)
-stays (source.Word keyword.ReportSample) is = absurd (false≢true is)
-stays (source.Nonce value) is = absurd (false≢true is)
-stays (source.Digest hash) is = absurd (false≢true is)
-stays (source.Other token) is = absurd (false≢true is)
+stays s is = ap (λ t. is_nonce_or_hash t || is_dynamic t) ((is_keyword_decides keyword.UnsafeInline s).0 is)
 
 acts_in : (kind : InlineKind) (sources : List Source) → has_keyword keyword.UnsafeInline sources ≡ true
     → list_any is_nonce_or_hash sources ≡ false → has_keyword keyword.StrictDynamic sources ≡ false → allows_all_inline kind sources ≡ true

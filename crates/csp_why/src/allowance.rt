@@ -17,8 +17,8 @@ use csp_model::{
     Capability, Check, Digests, FetchRule, Hash, InlineKind, Keyword, List, Origin, Source, Text,
     Url,
 };
-use csp_rules::{is_element_kind, token_grants};
-use csp_token::{has_keyword, integrity_matches, is_hash, is_hash_of, is_keyword, is_nonce};
+use csp_rules::{hash_counts, is_element_kind, token_grants};
+use csp_token::{Tokens, is_hash, is_hash_of, is_keyword, is_nonce};
 
 // The first rule by which what governs allows a check, with its first token. `counts` says that nothing
 // takes the place of its source expressions, or of `'unsafe-inline'`.
@@ -228,7 +228,7 @@ fn nonce_source(nonce: &str, sources: &List<Source>) -> Option<usize>
 fn integrity_token(integrity: &List<Hash>, sources: &List<Source>) -> Option<usize>
     ensures { result ≡ spec.integrity_token integrity.now sources.now }
 {
-    if integrity_matches(integrity, sources) {
+    if sources.integrity_matches(integrity) {
         some_hash_source(integrity, sources)
     } else {
         None
@@ -274,13 +274,6 @@ fn digest_token(digests: &Digests, sources: &List<Source>) -> Option<usize>
         .as_slice()
         .iter()
         .position(|source| is_hash_of(source, digests))
-}
-
-// Whether a hash counts for the kind: for elements, and with `'unsafe-hashes'` for all.
-fn hash_counts(kind: InlineKind, sources: &List<Source>) -> bool
-    ensures { result ≡ inline_spec.hash_counts kind sources.now }
-{
-    is_element_kind(kind) || has_keyword(sources, Keyword::UnsafeHashes)
 }
 
 // The first token that leaves a capability.

@@ -6,7 +6,7 @@ ghost use Rattle.csp_why.specs.Displacement as spec;
 use crate::reason::Word;
 use csp_model::{Check, FetchRule, Keyword, List, Name, Source};
 use csp_rules::is_script_kind;
-use csp_token::has_keyword;
+use csp_token::Tokens;
 
 // What takes the place of source expressions, or of `'unsafe-inline'`, in a directive that governs under
 // this name.
@@ -24,7 +24,7 @@ fn displaces_sources(rule: FetchRule, sources: &List<Source>) -> Option<Word>
     ensures { result ≡ spec.displaces_sources rule sources.now }
 {
     match rule {
-        FetchRule::Script if has_keyword(sources, Keyword::StrictDynamic) => {
+        FetchRule::Script if sources.has_keyword(Keyword::StrictDynamic) => {
             Some(Word::StrictDynamic)
         }
         _ => None,
@@ -38,7 +38,7 @@ fn displaces_unsafe_inline(is_code: bool, sources: &List<Source>) -> Option<Word
         Some(Word::Nonce)
     } else if has_hash_source(sources) {
         Some(Word::Hash)
-    } else if is_code && has_keyword(sources, Keyword::StrictDynamic) {
+    } else if is_code && sources.has_keyword(Keyword::StrictDynamic) {
         Some(Word::StrictDynamic)
     } else {
         None

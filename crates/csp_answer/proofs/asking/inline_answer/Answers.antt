@@ -6,7 +6,8 @@ use Rattle.csp_model.specs.Inline.{is_element_kind}
 use Rattle.csp_facts.specs.declared.atom.Atom.{Atom}
 use Rattle.csp_formula.specs.Compiled.{digests_sentence, nonces_sentence, only_where}
 use Rattle.csp_formula.specs.Sentences.{Known, any_of}
-use Rattle.csp_answer.specs.Asking.{AmountTo, Answers, IsListNamed}
+use Rattle.csp_answer.specs.Asking.{AmountTo, IsListNamed}
+use Rattle.csp_answer.specs.Tables.{Says}
 use Rattle.csp_answer.proofs.Answered.{made_plain, together}
 use Rattle.csp_answer.proofs.asking.inline_answer.Goals as goal
 
@@ -16,7 +17,7 @@ returns-then-allows_all_inline c =
     let kind = c.args.kind in
     let same = cond-true (allows_all_inline kind sources) (Known true) (any_of (only_where (is_element_kind kind) (nonces_sentence sources)
     ∷ only_where (hash_counts kind sources) (digests_sentence sources) ∷ [])) (sym c.allows_all_inline.ensures ∙ c.if-allows_all_inline.true) in
-    IfOk-weaker c.known_answer.result _ _ (λ made known atoms named. subst (λ s. Answers atoms s made) (sym same) (known atoms)) c.known_answer.ensures
+    IfOk-weaker c.known_answer.result _ _ (λ made known atoms named. subst (λ s. Says atoms s made) (sym same) (known atoms)) c.known_answer.ensures
 
 pub returns : goal.returns
 returns c =

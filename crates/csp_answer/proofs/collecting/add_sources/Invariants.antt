@@ -1,6 +1,7 @@
-use Rattle.std.proofs.Common.{take}
-use Rattle.csp_answer.specs.Collecting.{Adds, ArePlaced}
+use Rattle.std.proofs.Common.{◌≡◌, ◌++◌, drop}
+use Rattle.std.specs.List.{flat_map}
+use Rattle.csp_answer.specs.Naming.{source_atoms}
 use Rattle.csp_answer.proofs.collecting.add_sources.Given as goal
 
 abbrev pub invariant-loop-source : goal.invariant-loop-source
-invariant-loop-source l = Adds l.fn.atoms l.atoms × ArePlaced l.atoms l.origin (take l.source-index l.sources) l.placed
+invariant-loop-source l = l.atoms ++ flat_map (source_atoms l.origin) (drop l.source-index l.sources) ≡ l.fn.atoms ++ flat_map (source_atoms l.origin) l.sources

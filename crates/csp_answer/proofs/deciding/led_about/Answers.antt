@@ -14,4 +14,4 @@ returns c =
     rw c.or.ensures
     (finds_both path c.args.conjunctions.now (λ name. around_in path.atoms name place ≡ true) (λ name. (place + 1 ≤ name) × (name < end)) (IsAbout path place)
     c.led_around-known.result c.led_by.result c.led_around-known.ensures looked
-    (λ name. around_or_behind path place end name (ap (λ (atoms : List Atom). around_in atoms place name) (sym c.names-names.ensures) ∙ c.end-end.ensures.range name)))
+    (λ name. around_or_behind path place end name (ap (λ (atoms : List Atom). around_in atoms place name) (sym c.names-names.ensures.names) ∙ c.end-end.ensures.range name)))

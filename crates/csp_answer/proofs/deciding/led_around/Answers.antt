@@ -1,6 +1,6 @@
 use Rattle.std.proofs.Common.{◌≡◌, ◌∙◌, sym, subst, true, List, Option, ℕ, Some, of_calls, rules}
 use Rattle.csp_facts.specs.declared.atom.Atom.{Atom}
-use Rattle.csp_branch.specs.Numbers.{AreInOrder, IsOuterOr, around_in}
+use Rattle.csp_branch.specs.Numbers.{IsOuterOr, around_in}
 use Rattle.csp_answer.proofs.Walking.{IsWalk, walk_next, walk_true}
 use Rattle.csp_answer.proofs.deciding.led_around.Goals as goal
 
@@ -10,7 +10,7 @@ returns-then-eq c =
     let cs = c.args.conjunctions.now in
     let place = c.args.place in
     let walk = subst (λ (o : Option ℕ). IsWalk path cs place o c.loop-next.known) c.in-Some.is c.loop-next.invariant in
-    let order = subst AreInOrder c.names-names.ensures c.are_in_order.ensures in
+    let order = c.names-names.ensures.order in
     let looked = rw c.behind.ensures at c.led_by.ensures in
     let is : c.or-known.result ≡ Some true = search (rules, of_calls) in
     rw c.or-known.ensures
@@ -22,7 +22,7 @@ loop-next-preserved c =
     let cs = c.args.conjunctions.now in
     let place = c.args.place in
     let walk = subst (λ (o : Option ℕ). IsWalk path cs place o c.loop-next.known) c.in-Some.is c.loop-next.invariant in
-    let order = subst AreInOrder c.names-names.ensures c.are_in_order.ensures in
-    let outer = subst (λ (atoms : List Atom). IsOuterOr atoms c.in-Some.name c.outer-next.result) c.names-names.ensures c.outer-next.ensures in
+    let order = c.names-names.ensures.order in
+    let outer = subst (λ (atoms : List Atom). IsOuterOr atoms c.in-Some.name c.outer-next.result) c.names-names.ensures.names c.outer-next.ensures in
     let looked = rw c.behind.ensures at c.led_by.ensures in
     rw c.or-known.ensures (walk_next path cs place order c.in-Some.name c.loop-next.known c.led_by.result walk looked c.outer-next.result outer)

@@ -4,7 +4,8 @@ use Rattle.std.proofs.lemmas.Slice.Zip.{AllZip-long, zip_end, zip_turn}
 use Rattle.csp_model.specs.declared.source.Source.{Source}
 use Rattle.csp_formula.specs.Sentences.{any_of}
 use Rattle.csp_formula.specs.Sources.{source_sentence}
-use Rattle.csp_answer.specs.Asking.{AmountTo, IsSourceNamed}
+use Rattle.csp_answer.specs.Asking.{AmountTo}
+use Rattle.csp_answer.specs.Naming.{IsSourceNamed}
 use Rattle.csp_answer.specs.declared.naming.SourceNames.{SourceNames}
 use Rattle.csp_answer.proofs.ListedSoFar.{at_turn, listed_more}
 use Rattle.csp_answer.proofs.listed.listed.Goals as goal

@@ -27,8 +27,7 @@ returns-clause-stand c =
     let new = c.answer_place.new.answers in
     let question = c.question_at-question.result in
     let place = c.in_ok-place.place in
-    let said = c.in_ok-answer.ensures in
-    let stands = same_answer atoms pairs policy new question c.in_ok-answer.answer place (λ hashes are. record { answer = said.answer hashes are; says = said.said hashes are; among = said.among hashes are })
+    let stands = same_answer atoms pairs policy new question c.in_ok-answer.answer place c.in_ok-answer.ensures
     c.in_ok-place.ensures.here in
     subst (All (λ (one : Asked). StandsAt new (IsAnswerTo atoms pairs policy one.question) one.place)) (sym c.in_ok-push.ensures.ok)
     (one_more atoms pairs policy new asked question place (all_extended atoms pairs policy old new asked c.in_ok-place.ensures.extends c.requires.stand) stands)
@@ -41,7 +40,6 @@ returns-clause-here c =
     let new = c.answer_place.new.answers in
     let question = c.question_at-question.result in
     let place = c.in_ok-place.place in
-    let said = c.in_ok-answer.ensures in
     at_shape atoms pairs policy new question c.args.shape place c.question_at-question.ensures
-    (same_answer atoms pairs policy new question c.in_ok-answer.answer place (λ hashes are. record { answer = said.answer hashes are; says = said.said hashes are; among = said.among hashes are })
+    (same_answer atoms pairs policy new question c.in_ok-answer.answer place c.in_ok-answer.ensures
     c.in_ok-place.ensures.here)

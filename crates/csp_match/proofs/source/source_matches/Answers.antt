@@ -3,9 +3,7 @@ use Rattle.std.specs.Bool.{Decides}
 use Rattle.csp_model.specs.DecideMatching as spec
 use Rattle.csp_model.specs.Matching.{Matches}
 use Rattle.csp_model.proofs.MatchingDecided.{matches_decides}
-use Rattle.csp_model.specs.declared.source.Source.{Source}
-use Rattle.csp_model.specs.declared.url.Origin.{Origin}
-use Rattle.csp_model.specs.declared.url.Url.{Url}
+use Rattle.csp_match.specs.Types.{Source, Origin, Url}
 use Rattle.csp_match.proofs.source.source_matches.Goals as goal
 
 -- the result is the test's, which decides the relation

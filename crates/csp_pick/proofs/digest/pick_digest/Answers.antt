@@ -4,21 +4,20 @@ use Rattle.csp_pick.proofs.digest.pick_digest.Goals as goal
 
 pub copy_from_slice-requires : goal.copy_from_slice-requires
 copy_from_slice-requires c =
-    c.requires.size
-    ∙ sym (said_size c.args.algorithm c.args.cell.now.literals c.in-Some.said.now c.requires.each (rw c.placing.ensures at c.in-Some.ensures))
+    c.requires ∙ sym (said_size c.args.algorithm c.args.cell.now c.placing.ensures.cell c.in-Some.said.now (rw c.placing.ensures.placing at c.in-Some.ensures))
 
 pub returns-in-Some-clause-valid : goal.returns-in-Some-clause-valid
-returns-in-Some-clause-valid c = (c.copy_from_slice.ensures.len ∙ c.requires.size, each_byte c.copy_from_slice.new.self (λ i. (c.type_inv.digest i).fits))
+returns-in-Some-clause-valid c = (c.copy_from_slice.ensures.len ∙ c.requires, each_byte c.copy_from_slice.new.self (λ i. (c.type_inv.digest i).fits))
 
 pub returns-in-Some-clause-meets : goal.returns-in-Some-clause-meets
 returns-in-Some-clause-meets c =
     rw c.copy_from_slice.ensures.after
-    (said_meets c.args.algorithm c.args.cell.now.literals c.in-Some.said.now c.requires.together (rw c.placing.ensures at c.in-Some.ensures))
+    (said_meets c.args.algorithm c.args.cell.now c.placing.ensures.cell c.in-Some.said.now (rw c.placing.ensures.placing at c.in-Some.ensures))
 
 pub returns-in-None-clause-valid : goal.returns-in-None-clause-valid
-returns-in-None-clause-valid c = (c.put_lead.auto.digest ∙ c.requires.size, each_byte c.put_lead.new.digest (λ i. (c.type_inv.digest i).fits))
+returns-in-None-clause-valid c = (c.put_lead.auto.digest ∙ c.requires, each_byte c.put_lead.new.digest (λ i. (c.type_inv.digest i).fits))
 
 pub returns-in-None-clause-meets : goal.returns-in-None-clause-meets
 returns-in-None-clause-meets c =
-    free_meets c.args.algorithm c.args.cell.now.literals c.free_lead.result c.put_lead.new.digest (rw c.placing.ensures at c.in-None.ensures)
-    (rw c.others.ensures at c.free_lead.ensures) c.put_lead.ensures
+    free_meets c.args.algorithm c.args.cell.now c.placing.ensures.cell c.put_lead.new.digest (rw c.placing.ensures.placing at c.in-None.ensures)
+    (rw (← c.others.ensures.others, c.put_lead.ensures) c.free_number-number.ensures.free)

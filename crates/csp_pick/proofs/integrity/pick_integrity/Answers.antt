@@ -19,8 +19,8 @@ others ls = filter (λ l. not (places l)) ls
 pub returns-clause-valid : goal.returns-clause-valid
 returns-clause-valid c =
     let ls = c.args.cell.now.literals in
-    let said : c.in_ok-pairs.pairs ≡ pairs_in (others ls) = rw c.others.ensures at c.in_ok-pairs.ensures in
-    let atoms = All-weaker (IsOf c.shape-shape.result) (λ l. IsValidAtom l.atom) (λ l valid. valid.0) ls c.shape-shape.ensures.each in
+    let said : c.in_ok-pairs.pairs ≡ pairs_in (others ls) = rw c.others.ensures.others at c.in_ok-pairs.ensures in
+    let atoms = All-weaker (IsOf c.args.cell.now.shape) (λ l. IsValidAtom l.atom) (λ l valid. valid.0) ls c.others.ensures.cell.each in
     let valid : All (λ (h : Hash). IsIntegrityValue h.value) c.in_ok-pairs.pairs =
     subst (All (λ (h : Hash). IsIntegrityValue h.value)) (sym said) (said_valid c.args.vocabulary.now.hashes ls atoms) in
     elim c.if-any_outside.branch [
@@ -34,9 +34,9 @@ pub returns-clause-meets : goal.returns-clause-meets
 returns-clause-meets c =
     let ls = c.args.cell.now.literals in
     let hashes = c.args.vocabulary.now.hashes in
-    let together = c.shape-shape.ensures.together in
-    let said : c.in_ok-pairs.pairs ≡ pairs_in (others ls) = rw c.others.ensures at c.in_ok-pairs.ensures in
-    let asked : c.any_outside.result ≡ list_any says_outside (others ls) = rw c.others-2.ensures at c.any_outside.ensures in
+    let together = c.others.ensures.cell.pairs in
+    let said : c.in_ok-pairs.pairs ≡ pairs_in (others ls) = rw c.others.ensures.others at c.in_ok-pairs.ensures in
+    let asked : c.any_outside.result ≡ list_any says_outside (others ls) = rw c.others-2.ensures.others at c.any_outside.ensures in
     elim c.if-any_outside.branch [
       | then-any_outside+in_ok-fresh_pair+in_ok-push w ↦
           let fresh = w.in_ok-fresh_pair.field-0 in

@@ -6,9 +6,7 @@ use Rattle.csp_model.specs.Policies.{directive_of, firsts}
 use Rattle.csp_policy.specs.Pieces.{pieces_left}
 use Rattle.csp_policy.specs.Room.{kept_of, AreShortened}
 use Rattle.csp_policy.specs.Standings.{standing_said}
-use Rattle.csp_policy.specs.declared.fate.Fate.{Fate}
-use Rattle.csp_policy.specs.declared.directive.Standing.{Standing}
-use Rattle.csp_model.specs.declared.policy.Directive.{Directive}
+use Rattle.csp_policy.specs.Types.{Fate, Standing, Directive}
 use Rattle.csp_policy.specs.Fates.{fate_of}
 use Rattle.csp_policy.proofs.Fated.{kept_in, kept_more_of, knows_more_of}
 use Rattle.csp_policy.proofs.Firsts.{found}

@@ -2,17 +2,15 @@ use Rattle.std.proofs.Common.{arith, ◌≡◌, ◌∙◌, sym, ap, refl, Bool, 
 use Rattle.std.proofs.lemmas.Grind.{common_steps}
 use Rattle.csp_model.specs.Ascii.{words}
 use Rattle.csp_model.specs.Policies.{is_for_meta}
-use Rattle.csp_model.specs.declared.policy.Directive.{Directive}
+use Rattle.csp_policy.specs.Types.{Directive, CaselessName, Standing}
 use Rattle.csp_policy.specs.Room.{directive_with}
 use Rattle.csp_policy.specs.Standings.{standing_said}
-use Rattle.csp_policy.specs.declared.caseless_name.CaselessName.{CaselessName}
-use Rattle.csp_policy.specs.declared.directive.Standing.TheVariants as standing
 use Rattle.csp_policy.specs.declared.fate.Fate.TheVariants.{Empty, Dropped}
 use Rattle.csp_policy.specs.declared.fate.Reason.TheVariants.{NotAscii}
 use Rattle.csp_policy.proofs.Fated.{chosen, fate_none, fate_seen, knows_none, knows_some}
 use Rattle.csp_policy.proofs.directive.stand.Goals as goal
 
-said_so : (ascii : Bool) → standing_said (cond ascii standing.Empty (standing.Dropped NotAscii)) ≡ cond ascii Empty (Dropped NotAscii)
+said_so : (ascii : Bool) → standing_said (cond ascii Standing.Empty (Standing.Dropped NotAscii)) ≡ cond ascii Empty (Dropped NotAscii)
 said_so true = refl
 said_so false = refl
 

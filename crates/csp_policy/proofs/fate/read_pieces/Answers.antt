@@ -5,7 +5,7 @@ use Rattle.csp_model.specs.Ascii.{split_at}
 use Rattle.csp_policy.specs.Delivered.{piece_said}
 use Rattle.csp_policy.specs.Fates.{fates_behind}
 use Rattle.csp_policy.specs.Pieces.{pieces_left}
-use Rattle.csp_policy.specs.declared.fate.Fate.{Fate}
+use Rattle.csp_policy.specs.Types.{Fate}
 use Rattle.csp_policy.proofs.Fated.{behind_more, knows_more_of}
 use Rattle.csp_policy.proofs.fate.read_pieces.Goals as goal
 

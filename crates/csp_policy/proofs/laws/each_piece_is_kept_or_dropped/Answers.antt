@@ -2,10 +2,9 @@ use Rattle.std.proofs.Common.{arith, ◌≡◌, ◌∙◌, ap, refl, ℕ, Bool, 
 use Rattle.std.specs.List.{filter}
 use Rattle.csp_model.specs.Ascii.{is_ascii_text, is_nonempty, split_at, words}
 use Rattle.csp_model.specs.Policies.{directive_of_words, firsts, is_for_meta}
-use Rattle.csp_model.specs.declared.policy.Directive.{Directive}
+use Rattle.csp_policy.specs.Types.{Directive, Fate}
 use Rattle.csp_policy.specs.Fates.{fate_of, fate_with, fates_behind, has_name, has_text, is_told, piece_text}
 use Rattle.csp_policy.specs.Room.{directive_with}
-use Rattle.csp_policy.specs.declared.fate.Fate.{Fate}
 use Rattle.csp_policy.specs.declared.fate.Fate.TheVariants.{Dropped}
 use Rattle.csp_policy.specs.declared.fate.Reason.TheVariants.{NotAscii}
 use Rattle.csp_policy.proofs.Fated.{chosen, of_pieces}

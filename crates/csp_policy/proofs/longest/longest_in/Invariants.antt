@@ -1,6 +1,6 @@
 use Rattle.std.proofs.Common.{◌≡◌, ◌∷◌, length, drop, max}
 use Rattle.std.specs.List.{flat_map, fold}
-use Rattle.csp_model.specs.declared.policy.Directive.{Directive}
+use Rattle.csp_policy.specs.Types.{Directive}
 use Rattle.csp_policy.proofs.longest.longest_in.Given as goal
 
 abbrev pub invariant-loop-directive : goal.invariant-loop-directive

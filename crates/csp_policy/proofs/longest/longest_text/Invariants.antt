@@ -1,8 +1,7 @@
 use Rattle.std.proofs.Common.{◌≡◌, ◌∷◌, length, drop, max}
 use Rattle.std.specs.List.{flat_map, fold}
 use Rattle.csp_model.specs.Policies.{longest_text}
-use Rattle.csp_model.specs.declared.policy.Directive.{Directive}
-use Rattle.csp_model.specs.declared.policy.Policy.{Policy}
+use Rattle.csp_policy.specs.Types.{Directive, Policy}
 use Rattle.csp_policy.proofs.longest.longest_text.Given as goal
 
 abbrev pub invariant-loop-policy : goal.invariant-loop-policy

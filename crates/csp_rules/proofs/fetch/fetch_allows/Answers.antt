@@ -1,14 +1,21 @@
-use Rattle.std.proofs.Common.{rules, ◌≡◌, ◌↔◌, IsTrue, Bool, sym, subst}
-use Rattle.csp_model.specs.DecideFetch.{fetch_allows}
-use Rattle.csp_model.specs.Fetch.{FetchAllows}
+use Rattle.std.proofs.Common.{rules}
 use Rattle.csp_model.proofs.FetchDecided.{fetch_decides}
 use Rattle.csp_rules.proofs.fetch.fetch_allows.Goals as goal
 
-pub returns-in-Some-clause-allows : goal.returns-in-Some-clause-allows
-returns-in-Some-clause-allows c =
+pub returns-in-Some-decided_by_tokens-clause-value : goal.returns-in-Some-decided_by_tokens-clause-value
+returns-in-Some-decided_by_tokens-clause-value c = search rules
+
+pub returns-in-Some-decided_by_tokens-clause-allows : goal.returns-in-Some-decided_by_tokens-clause-allows
+returns-in-Some-decided_by_tokens-clause-allows c =
     let a = c.args in
-    let value : c.sources_allow.result
-    ≡ fetch_allows a.policy.now a.group a.url.now a.redirects a.nonce.now a.integrity.now a.parser_inserted = search rules in
-    subst (λ (b : Bool). IsTrue b
-    ↔ FetchAllows a.policy.now a.group a.url.now a.redirects a.nonce.now a.integrity.now a.parser_inserted) (sym value)
-    (fetch_decides a.policy.now a.group a.url.now a.redirects a.nonce.now a.integrity.now a.parser_inserted)
+    let value = returns-in-Some-decided_by_tokens-clause-value c in
+    rw value (fetch_decides a.policy.now a.group a.url.now a.redirects a.nonce.now a.integrity.now a.parser_inserted)
+
+pub returns-in-None-decided_by_tokens-clause-value : goal.returns-in-None-decided_by_tokens-clause-value
+returns-in-None-decided_by_tokens-clause-value c = search rules
+
+pub returns-in-None-decided_by_tokens-clause-allows : goal.returns-in-None-decided_by_tokens-clause-allows
+returns-in-None-decided_by_tokens-clause-allows c =
+    let a = c.args in
+    let value = returns-in-None-decided_by_tokens-clause-value c in
+    rw value (fetch_decides a.policy.now a.group a.url.now a.redirects a.nonce.now a.integrity.now a.parser_inserted)

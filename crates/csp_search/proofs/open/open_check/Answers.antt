@@ -31,7 +31,7 @@ pub representative-requires-clause-ports : goal.representative-requires-clause-p
 representative-requires-clause-ports c =
     let q = c.args.asked.question in
     let at = c.args.walker.now in
-    leaves_ports q c.requires.asked.posed.first c.requires.asked.posed.second c.in_ok-cell.cell.literals c.shape.ensures.together
+    leaves_ports q c.requires.asked.posed.lists.first c.requires.asked.posed.lists.second c.in_ok-cell.cell.literals c.shape.ensures.together
     (cell_among q at.atoms at.literals c.requires.branch c.in_ok-cell.cell c.in_ok-cell.ensures)
 
 pub returns : goal.returns
@@ -42,10 +42,10 @@ returns c =
     let cell = c.in_ok-cell.cell in
     let kind : c.shape.result ≡ q.shape = c.shape.ensures.shape ∙ c.in_ok-cell.ensures.shape in
     let nothing = leaves_nothing c.an_answer_speaks_of_its_names.ensures.atoms c.literals_that_decide_each_atom_decide_a_sentence.ensures q c.args.walker.now.atoms ls c.args.asked.names.now posed c.requires.asked.names c.requires.known in
-    if_all IsValidCheck (λ (asked : Check). HasShape asked c.shape.result) (λ (asked : Check). Meets q.vocabulary.now.hashes asked cell.literals) (ShowsNone (lists_of q) (pair_of q))
+    if_all IsValidCheck (λ (asked : Check). HasShape asked c.shape.result) (λ (asked : Check). Meets q.lists.now.vocabulary.hashes asked cell.literals) (ShowsNone (lists_of q) (pair_of q))
     c.representative.result c.representative.ensures.valid c.representative.ensures.shape c.representative.ensures.meets
     (λ asked valid shape meets.
     shows_none (lists_of q) (pair_of q) ls asked valid (subst (λ (s : Shape). HasShape asked s) kind shape)
-    (subst (λ (hs : List Hash). Meets hs asked ls) posed.hashes (c.in_ok-cell.ensures.meets q.vocabulary.now.hashes asked meets))
-    (are_said c.a_formula_is_what_the_policy_allows.ensures q.first.now q.second.now posed.first posed.second)
+    (subst (λ (hs : List Hash). Meets hs asked ls) posed.lists.hashes (c.in_ok-cell.ensures.meets q.lists.now.vocabulary.hashes asked meets))
+    (are_said c.a_formula_is_what_the_policy_allows.ensures q.lists.now.first.now q.lists.now.second.now posed.lists.first posed.lists.second)
     (leaves_open (lists_of q) (pair_of q) ls c.requires.no_leaf nothing) posed.enforced)

@@ -1,5 +1,4 @@
 use Rattle.std.proofs.Common.{sym, subst}
-use Rattle.csp_branch.specs.Walks.{Position}
 use Rattle.csp_search.specs.Asking.{StandsOn}
 use Rattle.csp_search.specs.Questions.{asked_atoms}
 use Rattle.csp_search.proofs.Trees.{root}

@@ -9,4 +9,4 @@ returns-in-Block-clause-step c =
     let lists = lists_of c.args.asked.question in
     let pair = pair_of c.args.asked.question in
     let blocked : blocks lists pair c.args.walker.now.literals c.in-Block.policy ≡ true = search rules in
-    blocked_leaf lists pair c.args.walker.now.literals c.in-Block.policy c.requires.asked.posed.first.policies blocked
+    blocked_leaf lists pair c.args.walker.now.literals c.in-Block.policy c.requires.asked.posed.lists.first.policies blocked

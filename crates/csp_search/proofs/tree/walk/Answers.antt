@@ -58,6 +58,6 @@ loop-plan-preserved c =
     let walks = subst (λ (p : Position). Walks q start p nodes) (sym c.in_ok-leaf.ensures.walker) c.loop-plan.invariant in
     let is_open = rw c.in-Split.is at c.in_ok-leaf.ensures.step in
     let same : c.names-names.result.now ≡ at.atoms = search rules in
-    let here = atom_here at.atoms c.atoms.result.now name c.index-atoms-name.result (c.atoms.ensures ∙ same) is_open.is.there c.index-atoms-name.is in
+    let here = atom_here at.atoms c.atoms.result.now name c.index-atoms-name.result (c.atoms.ensures.atoms ∙ same) is_open.is.there c.index-atoms-name.is in
     let pushed = subst (λ (a : Atom). c.push-in-Split.new.self ≡ nodes ++ Split a ∷ []) (sym (here ∙ sym c.in_ok-atom-in-Split.ensures)) c.in_ok-push-in-Split.ensures.ok in
-    walks_split q start at nodes c.push-in-Split.new.self walks name c.take.new.self is_open c.take.ensures (rw same at c.are_in_order.ensures.valid) pushed
+    walks_split q start at nodes c.push-in-Split.new.self walks name c.take.new.self is_open c.take.ensures (rw same at c.atoms.ensures.order.valid) pushed

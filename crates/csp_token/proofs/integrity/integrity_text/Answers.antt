@@ -1,7 +1,7 @@
 use Rattle.std.proofs.Common.{arith, ◌≡◌, ◌∙◌, ◌++◌, ap, sym}
 use Rattle.std.proofs.lemmas.Grind.{common_steps}
 use Rattle.csp_token.specs.Integrity.{hash_text, integrity_of, integrity_text}
-use Rattle.csp_token.proofs.Tokens.{begun}
+use Rattle.csp_token.proofs.PairsOfTokens.{begun}
 use Rattle.csp_token.proofs.ReadsBack.{reads_back}
 use Rattle.csp_token.proofs.integrity.integrity_text.Goals as goal
 

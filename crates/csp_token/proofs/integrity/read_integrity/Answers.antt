@@ -4,9 +4,9 @@ use Rattle.std.specs.List.{filter_map}
 use Rattle.std.proofs.lemmas.List.Elements.{All-push}
 use Rattle.std.proofs.lemmas.Iterator.Consumers.{YieldsList-at, YieldsList-end}
 use Rattle.csp_model.specs.Validity.{IsIntegrityValue}
-use Rattle.csp_model.specs.declared.source.Hash.{Hash}
+use Rattle.csp_token.specs.Types.{Hash}
 use Rattle.csp_token.specs.Integrity.{hash_of_token}
-use Rattle.csp_token.proofs.Tokens.{dropped, kept}
+use Rattle.csp_token.proofs.PairsOfTokens.{dropped, kept}
 use Rattle.csp_token.proofs.Words.{YieldsList-words, solid}
 use Rattle.csp_token.proofs.integrity.read_integrity.Goals as goal
 

@@ -1,7 +1,7 @@
 use Rattle.std.proofs.Common.{◌≡◌, sym, ◌∙◌, Some}
 use Rattle.csp_model.specs.Validity.{IsValidUrl}
 use Rattle.csp_url.specs.Texts.{stripped_of}
-use Rattle.csp_url.specs.declared.strip.ShownUrl.{ShownUrl}
+use Rattle.csp_url.specs.Types.{ShownUrl}
 use Rattle.csp_url.proofs.ShownUrls.{shown_url_both, shown_url_valid}
 use Rattle.csp_url.proofs.Valid.{if_ok}
 use Rattle.csp_url.proofs.strip.read_shown_url.Goals as goal

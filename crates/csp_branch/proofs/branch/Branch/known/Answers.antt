@@ -9,19 +9,19 @@ index-group-requires c =
       arith,
       c.group_of.ensures.inside,
       inside.groups.ok.0,
-      groups_long inside.names c.are_in_order.ensures inside.path.items inside.groups.items inside.denied.items c.self.invariant,
+      groups_long inside.names inside.path.items inside.groups.items inside.denied.items c.self.invariant,
     )
 
 pub known_of-requires-clause-denied : goal.known_of-requires-clause-denied
 known_of-requires-clause-denied c =
     let inside = c.self.inside in
     rw c.deref.ensures.value
-    (denied_long inside.names c.are_in_order.ensures inside.path.items inside.groups.items inside.denied.items c.self.invariant)
+    (denied_long inside.names inside.path.items inside.groups.items inside.denied.items c.self.invariant)
 
 pub known_of-requires-clause-clear : goal.known_of-requires-clause-clear
 known_of-requires-clause-clear c =
     let inside = c.self.inside in
-    clear inside.names c.are_in_order.ensures inside.path.items inside.groups.items inside.denied.items c.self.invariant
+    clear inside.names inside.path.items inside.groups.items inside.denied.items c.self.invariant
     c.deref.result.now c.group_of.result c.index-group.result.now c.deref.ensures.value c.group_of.ensures.inside c.index-group.ensures
 
 pub returns : goal.returns
@@ -29,7 +29,7 @@ returns c d =
     let inside = c.self.inside in
     let there : c.args.asked < length inside.names = rw (← c.self.view_is) at c.requires in
     rw (← c.self.view_is)
-    (decided_here inside.names c.are_in_order.ensures inside.path.items inside.groups.items inside.denied.items c.self.invariant c.args.asked d c.known_of.result there
-    (known_here inside.names c.are_in_order.ensures inside.path.items inside.groups.items inside.denied.items c.self.invariant
+    (decided_here inside.names inside.path.items inside.groups.items inside.denied.items c.self.invariant c.args.asked d c.known_of.result there
+    (known_here inside.names inside.path.items inside.groups.items inside.denied.items c.self.invariant
     c.deref.result.now c.group_of.result c.index-group.result.now c.args.asked c.known_of.result c.deref.ensures.value c.group_of.ensures.inside c.group_of.ensures.number c.index-group.ensures
     c.known_of.ensures))

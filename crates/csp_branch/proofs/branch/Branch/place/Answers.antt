@@ -11,12 +11,12 @@ index-requires c =
       c.part_number.ensures,
       below_nine c.args.part,
       inside.groups.ok.0,
-      groups_long inside.names c.are_in_order.ensures inside.path.items inside.groups.items inside.denied.items c.self.invariant,
+      groups_long inside.names inside.path.items inside.groups.items inside.denied.items c.self.invariant,
     )
 
 pub returns-in_default : goal.returns-in_default
 returns-in_default c =
     let inside = c.self.inside in
     rw (← c.self.view_is)
-    (places_here inside.names c.are_in_order.ensures inside.path.items inside.groups.items inside.denied.items c.self.invariant
+    (places_here inside.names inside.path.items inside.groups.items inside.denied.items c.self.invariant
     c.args.part c.in_default.not-Integrity c.part_number.result c.index.result.now c.part_number.ensures c.index.ensures)

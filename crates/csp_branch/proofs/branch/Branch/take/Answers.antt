@@ -9,7 +9,7 @@ index-requires c =
       arith,
       c.group_of-number.ensures.inside,
       inside.groups.ok.0,
-      groups_long inside.names c.are_in_order.ensures inside.path.items inside.groups.items inside.denied.items c.self.invariant,
+      groups_long inside.names inside.path.items inside.groups.items inside.denied.items c.self.invariant,
     )
 
 pub index-requires-2 : goal.index-requires-2
@@ -20,19 +20,19 @@ index-requires-2 c =
       arith,
       there,
       inside.denied.ok.0,
-      denied_long inside.names c.are_in_order.ensures inside.path.items inside.groups.items inside.denied.items c.self.invariant,
+      denied_long inside.names inside.path.items inside.groups.items inside.denied.items c.self.invariant,
     )
 
 pub known_of-known-requires-clause-denied : goal.known_of-known-requires-clause-denied
 known_of-known-requires-clause-denied c =
     let inside = c.self.inside in
     rw c.deref.ensures.value
-    (denied_long inside.names c.are_in_order.ensures inside.path.items inside.groups.items inside.denied.items c.self.invariant)
+    (denied_long inside.names inside.path.items inside.groups.items inside.denied.items c.self.invariant)
 
 pub known_of-known-requires-clause-clear : goal.known_of-known-requires-clause-clear
 known_of-known-requires-clause-clear c =
     let inside = c.self.inside in
-    clear inside.names c.are_in_order.ensures inside.path.items inside.groups.items inside.denied.items c.self.invariant
+    clear inside.names inside.path.items inside.groups.items inside.denied.items c.self.invariant
     c.deref.result.now c.group_of-number.result c.index.result.now c.deref.ensures.value c.group_of-number.ensures.inside c.index.ensures
 
 pub index_mut-requires : goal.index_mut-requires
@@ -42,7 +42,7 @@ index_mut-requires c =
       arith,
       c.group_of-number.ensures.inside,
       inside.groups.ok.0,
-      groups_long inside.names c.are_in_order.ensures inside.path.items inside.groups.items inside.denied.items c.self.invariant,
+      groups_long inside.names inside.path.items inside.groups.items inside.denied.items c.self.invariant,
     )
 
 pub index_mut-requires-2 : goal.index_mut-requires-2
@@ -53,14 +53,14 @@ index_mut-requires-2 c =
       arith,
       there,
       inside.denied.ok.0,
-      denied_long inside.names c.are_in_order.ensures inside.path.items inside.groups.items inside.denied.items c.self.invariant,
+      denied_long inside.names inside.path.items inside.groups.items inside.denied.items c.self.invariant,
     )
 
 pub invariant_of-self : goal.invariant_of-self
 invariant_of-self c =
     let inside = c.self.inside in
     let there : c.args.name < length inside.names = rw (← c.self.view_is) at c.requires in
-    one_more inside.names c.are_in_order.ensures inside.path.items inside.groups.items inside.denied.items c.self.invariant
+    one_more inside.names inside.path.items inside.groups.items inside.denied.items c.self.invariant
     c.args.name c.args.positive c.group_of-number.result c.index.result.now c.index-2.result.now there c.group_of-number.ensures.inside c.group_of-number.ensures.number
     c.index.ensures c.index-2.ensures c.then-self-inside.result.items c.then-self-inside.ensures
     c.deref.result.now c.known_of-known.result c.after-mark.result c.deref.ensures.value c.known_of-known.ensures c.after-mark.ensures
@@ -69,6 +69,6 @@ pub returns-clause-last : goal.returns-clause-last
 returns-clause-last c =
     let inside = c.self.inside in
     let there : c.args.name < length inside.names = rw (← c.self.view_is) at c.requires in
-    last_is inside.names c.are_in_order.ensures inside.path.items inside.groups.items inside.denied.items c.self.invariant
+    last_is inside.names inside.path.items inside.groups.items inside.denied.items c.self.invariant
     c.args.name c.args.positive c.group_of-number.result c.index.result.now c.index-2.result.now there c.group_of-number.ensures.inside c.group_of-number.ensures.number
     c.index.ensures c.index-2.ensures c.then-self-inside.result.items c.then-self-inside.ensures

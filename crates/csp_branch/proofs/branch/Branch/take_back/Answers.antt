@@ -9,7 +9,7 @@ index_mut-requires c =
       arith,
       c.group_of-number.ensures.inside,
       inside.groups.ok.0,
-      groups_long inside.names c.are_in_order.ensures inside.path.items inside.groups.items inside.denied.items c.self.invariant,
+      groups_long inside.names inside.path.items inside.groups.items inside.denied.items c.self.invariant,
     )
 
 pub index_mut-requires-2 : goal.index_mut-requires-2
@@ -18,18 +18,18 @@ index_mut-requires-2 c =
     omega (
       arith,
       inside.denied.ok.0,
-      denied_long inside.names c.are_in_order.ensures inside.path.items inside.groups.items inside.denied.items c.self.invariant,
-      step_here inside.names c.are_in_order.ensures inside.path.items inside.groups.items inside.denied.items c.self.invariant c.args.change c.args.self.now c.self.view_is c.requires,
+      denied_long inside.names inside.path.items inside.groups.items inside.denied.items c.self.invariant,
+      step_here inside.names inside.path.items inside.groups.items inside.denied.items c.self.invariant c.args.change c.args.self.now c.self.view_is c.requires,
     )
 
 pub invariant_of-self : goal.invariant_of-self
 invariant_of-self c =
     let inside = c.self.inside in
-    one_less inside.names c.are_in_order.ensures inside.path.items inside.groups.items inside.denied.items c.self.invariant c.args.change c.args.self.now c.self.view_is c.requires
+    one_less inside.names inside.path.items inside.groups.items inside.denied.items c.self.invariant c.args.change c.args.self.now c.self.view_is c.requires
     c.group_of-number.result c.before-self-inside.result.items c.group_of-number.ensures.number c.before-self-inside.ensures
 
 pub returns : goal.returns
 returns c =
     let inside = c.self.inside in
-    back inside.names c.are_in_order.ensures inside.path.items inside.groups.items inside.denied.items c.self.invariant c.args.change c.args.self.now c.self.view_is c.requires
+    back inside.names inside.path.items inside.groups.items inside.denied.items c.self.invariant c.args.change c.args.self.now c.self.view_is c.requires
     c.before-self-inside.result.items c.before-self-inside.ensures

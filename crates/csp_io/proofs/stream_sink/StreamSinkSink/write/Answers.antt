@@ -6,7 +6,7 @@ use Rattle.csp_io.proofs.stream_sink.StreamSinkSink.write.Goals.{in_default-via-
 pub returns-in-Err-clause-handed : goal.returns-in-Err-clause-handed
 returns-in-Err-clause-handed g c = (
   take c.in-Ok.n c.args.piece.now,
-  search (rules, c.fault.ensures.taken, c.take.ensures),
+  search (rules, c.fault.ensures.taken, c.then_all-self.ensures),
   rw c.fault.ensures.writer (then_kept _ _ _ _ c.in-Ok.ensures.bytes c.in-Err.ensures.bytes),
 )
 

@@ -1,7 +1,6 @@
 use Rattle.std.proofs.Common.{List, map, Bor, ap, ◌∙◌}
-use Rattle.csp_model.specs.declared.policy.Directive.{Directive}
+use Rattle.csp_match.specs.Types.{Directive, Policy}
 use Rattle.csp_model.specs.Governing.{governor}
-use Rattle.csp_model.specs.declared.policy.Policy.{Policy}
 use Rattle.csp_match.specs.Candidates.{governor_among}
 use Rattle.csp_match.proofs.CandidateLaws.{among_all}
 use Rattle.csp_match.proofs.candidates.Candidates.governor.Goals as goal

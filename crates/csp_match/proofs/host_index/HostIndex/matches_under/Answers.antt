@@ -1,11 +1,8 @@
 use Rattle.std.proofs.Common.{ℕ, ◌∙◌, sym, ap, Bool, ◌&&◌, List, Option}
 use Rattle.std.specs.List.{list_any}
 use Rattle.std.proofs.lemmas.List.Elements.{All-contains}
-use Rattle.csp_model.specs.declared.source.HostPart.{HostPart}
-use Rattle.csp_model.specs.declared.source.PortPart.{PortPart}
+use Rattle.csp_match.specs.Types.{HostPart, PortPart, HostKey, Way}
 use Rattle.csp_model.specs.DecideMatching.{path_matches}
-use Rattle.csp_match.specs.declared.host_key.HostKey.{HostKey}
-use Rattle.csp_match.specs.declared.host_source.Way.{Way}
 use Rattle.csp_match.specs.Entries.{Entry, entry_parts, IsEntry, scheme_of, target_fits, way_fits, way_port}
 use Rattle.csp_match.specs.Keys.{host_of, IsHostKey, Parts}
 use Rattle.csp_match.specs.Under.{same_part}

@@ -1,7 +1,6 @@
 use Rattle.std.proofs.Common.{◌≡◌, ◌∙◌, sym, ap, subst, ◌≤◌, All, List, map}
 use Rattle.std.specs.List.{list_any}
-use Rattle.csp_match.specs.declared.host_key.HostKey.{HostKey}
-use Rattle.csp_match.specs.declared.host_source.Way.{Way}
+use Rattle.csp_match.specs.Types.{HostKey, Way}
 use Rattle.csp_match.specs.Entries.{entry_parts, Entry, IsEntry}
 use Rattle.csp_match.specs.Keys.{IsHostKey, key_length}
 use Rattle.csp_match.proofs.AnyLaws.{all_given}

@@ -1,5 +1,5 @@
 use Rattle.std.proofs.Common.{◌∙◌, sym, ap}
-use Rattle.csp_model.specs.declared.url.Url.{Url}
+use Rattle.csp_match.specs.Types.{Url}
 use Rattle.csp_match.specs.Split.{any_host_source, host_sources}
 use Rattle.csp_match.proofs.SplitLaws.{none_plain}
 use Rattle.csp_match.proofs.index.Index.host_sources_match.Goals as goal

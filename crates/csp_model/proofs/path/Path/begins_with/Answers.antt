@@ -1,4 +1,3 @@
-use Rattle.std.proofs.Common.{rules}
 use Rattle.std.proofs.lemmas.Bool.Decides.{same_from_decides}
 use Rattle.csp_model.proofs.EndLaws.{begins_Decides}
 use Rattle.csp_model.proofs.PathFronts.{begins_by_views}

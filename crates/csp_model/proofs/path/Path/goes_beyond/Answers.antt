@@ -1,9 +1,9 @@
-use Rattle.std.proofs.Common.{rules, arith, ◌≡◌, ◌≤◌, ◌<◌, length, string_bytes, false}
+use Rattle.std.proofs.Common.{rules, arith, ◌≡◌, length, string_bytes, false}
 use Rattle.std.specs.String.{string_len}
 use Rattle.std.proofs.lemmas.Bool.Decides.{same_from_decides, Decides-at}
 use Rattle.csp_model.proofs.Deciding.{no}
 use Rattle.csp_model.proofs.EndLaws.{beyond_Decides}
-use Rattle.csp_model.proofs.PathFronts.{beyond_by_views, not_beyond_by_views}
+use Rattle.csp_model.proofs.PathFronts.{not_beyond_by_views}
 use Rattle.csp_model.proofs.path.Path.goes_beyond.Goals as goal
 
 pub returns-else-len-clause-beyond : goal.returns-else-len-clause-beyond

@@ -1,10 +1,6 @@
 use Rattle.std.proofs.lemmas.List.Elements.{All-from_get_or}
 use Rattle.percent_encoding.proofs.PercentLemmas.{IsByte}
 use Rattle.csp_model.proofs.PathFronts.{pushed_either, pushed_ok}
-use Rattle.std.specs.Result.{OnOk}
-use Rattle.std.proofs.Common.{◌≡◌, ◌++◌, ◌∷◌, [], subst, List, ℕ}
-use Rattle.csp_model.specs.Paths.{front_pieces}
-use Rattle.std.specs.Prelude.{string_bytes}
 use Rattle.csp_model.proofs.path.Path.push.Goals as goal
 
 pub invariant_of-self : goal.invariant_of-self

@@ -1,4 +1,3 @@
-use Rattle.std.proofs.Common.{◌∙◌, rules}
 use Rattle.csp_model.proofs.PathFronts.{same_by_text}
 use Rattle.csp_model.proofs.path.PathPartialEq.eq.Goals as goal
 

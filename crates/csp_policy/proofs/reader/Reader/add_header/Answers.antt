@@ -1,7 +1,6 @@
 use Rattle.std.proofs.Common.{◌∙◌, ap, subst, List, OnOk}
-use Rattle.csp_model.specs.declared.policy.Policy.{Policy}
+use Rattle.csp_policy.specs.Types.{Policy, Delivery}
 use Rattle.csp_policy.specs.Reads.{ReadsOn}
-use Rattle.csp_policy.specs.declared.serialized.Delivery.{Delivery}
 use Rattle.csp_policy.proofs.Delivering.{by_delivery, policies_as}
 use Rattle.csp_policy.proofs.reader.Reader.add_header.Goals as goal
 

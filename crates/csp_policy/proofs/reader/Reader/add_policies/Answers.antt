@@ -4,9 +4,7 @@ use Rattle.std.proofs.lemmas.List.{map_push, flat_map_more}
 use Rattle.std.proofs.lemmas.Iterator.Consumers.{YieldsList-at, YieldsList-end, YieldsList-from_first}
 use Rattle.csp_model.specs.Ascii.{split_at}
 use Rattle.csp_model.specs.Policies.{policy_with, directives_of, directive_of}
-use Rattle.csp_model.specs.declared.policy.Disposition.{Disposition}
-use Rattle.csp_model.specs.declared.policy.Policy.{Policy}
-use Rattle.csp_model.specs.declared.url.Origin.{Origin}
+use Rattle.csp_policy.specs.Types.{Disposition, Policy, Origin}
 use Rattle.csp_policy.specs.Pieces.{pieces_left}
 use Rattle.csp_policy.specs.Room.{AreRead}
 use Rattle.csp_policy.proofs.reader.Reader.add_policies.Goals as goal

@@ -1,7 +1,7 @@
 use Rattle.std.proofs.Common.{◌++◌, List as Items, Bor, ℕ, map, false}
 use Rattle.std.specs.List.{flat_map}
 use Rattle.csp_model.specs.Policies.{policy_with, directives_of}
-use Rattle.csp_model.specs.declared.policy.Policy.{Policy}
+use Rattle.csp_policy.specs.Types.{Policy}
 use Rattle.csp_policy.specs.Room.{AreRead}
 use Rattle.csp_policy.proofs.reader.Reader.add_policies.Given as goal
 

@@ -8,6 +8,6 @@ use Rattle.csp_verdict.proofs.compiled_policy.CompiledPolicy.governed_allows.Goa
 pub returns-in-Inline : goal.returns-in-Inline
 returns-in-Inline c =
     let a = c.in-Inline in
-    c.governed_inline_allows.ensures.value
+    c.sources_allow_inline.ensures.value
     ∙ ap (λ (s : List Source). sources_allow_inline a.kind a.nonce a.digests s) c.tokens-in-Inline.ensures
     ∙ sym (ap (λ (k : Check). governed_allows c.args.self.now k c.args.found.now) a.is)

@@ -1,9 +1,0 @@
-use Rattle.std.proofs.Common.{◌≡◌, drop}
-use Rattle.csp_compare.specs.Differences.{AreIncluded, effective_names}
-use Rattle.csp_compare.proofs.Entries.{IsSoFar}
-use Rattle.csp_compare.proofs.differences.find_each.Given as goal
-
-abbrev pub invariant-loop-directive : goal.invariant-loop-directive
-invariant-loop-directive l =
-    (l.walker ≡ l.fn.walker) × AreIncluded l.task l.known
-    × IsSoFar l.task.first.now l.task.second.now l.differences (drop l.directive-index effective_names)

@@ -1,5 +1,0 @@
-use Rattle.std.proofs.Common.{◌≡◌}
-use Rattle.csp_compare.proofs.probing.probe_shape.Given as goal
-
-abbrev pub invariant-loop-policy : goal.invariant-loop-policy
-invariant-loop-policy l = l.walker ≡ l.fn.walker

@@ -1,7 +1,0 @@
-use Rattle.std.proofs.Common.{map, take}
-use Rattle.csp_compare.specs.Drafts.{Adds, at_shape}
-use Rattle.csp_compare.specs.Tasks.{lists_of}
-use Rattle.csp_compare.proofs.trees.share_shape.Given as goal
-
-abbrev pub invariant-loop-place : goal.invariant-loop-place
-invariant-loop-place l = Adds (lists_of l.task) (map (at_shape l.shape) (take l.place l.task.policies.now)) l.fn.draft l.draft

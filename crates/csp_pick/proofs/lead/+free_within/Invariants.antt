@@ -1,4 +1,0 @@
-use Rattle.csp_pick.proofs.lead.+free_within.Given as goal
-
-abbrev pub decreases-free_within : goal.decreases-free_within
-decreases-free_within l = l.size
