@@ -7,7 +7,8 @@ use Rattle.std.proofs.lemmas.List.Elements.{All-drop}
 use Rattle.std.proofs.lemmas.List.{get_or_default, get_or-map, length-map, length-take-le, take_all, take-take}
 use Rattle.std.specs.Prelude.{Contains, IsUtf8, nat_lt}
 use Rattle.csp_desk.specs.declared.reporter.Kind.TheVariants.{Lines, Tally}
-use Rattle.csp_io.specs.Starts.{Start, MissingAreUnread}
+use Rattle.csp_io.specs.Starts.{MissingAreUnread}
+use Rattle.csp_io.specs.declared.log.Start.{Start}
 use Rattle.csp_io.specs.Told.{GrewBy, GrewByPrefix, Rose}
 use Rattle.csp_output.specs.Statuses.{exit_code}
 use Rattle.csp_output.specs.declared.status.Status.{Status}

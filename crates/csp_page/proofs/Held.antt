@@ -3,7 +3,8 @@ use Rattle.std.proofs.Common.{◌≡◌, ◌⊎◌, ◌<◌, ◌≤◌, ℕ, suc
 use Rattle.std.proofs.Common.{Option, Some, None, Result, Ok, Err, inl, inr, refl, sym, ap, subst, ◌∙◌, arith}
 use Rattle.std.proofs.lemmas.Bool.Decides.{nat_tests}
 use Rattle.std.specs.Prelude.{nat_lt}
-use Rattle.csp_io.specs.Starts.{Start, MissingAreUnread}
+use Rattle.csp_io.specs.Starts.{MissingAreUnread}
+use Rattle.csp_io.specs.declared.log.Start.{Start}
 use Rattle.csp_io.specs.Told.{Rose}
 use Rattle.csp_model.specs.declared.url.Origin.{Origin}
 use Rattle.csp_output.specs.Statuses.{exit_code}

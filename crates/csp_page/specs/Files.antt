@@ -1,7 +1,7 @@
 -- The files of a page's call, of which none that is there fails.
 use Rattle.std.specs.Prelude.{ℕ, List, Option, Some, None}
 use Rattle.csp_io.specs.MemoryInputs.{memory_contents, memory_current, memory_left, memory_log, memory_faults}
-use Rattle.csp_io.specs.Starts.{Start}
+use Rattle.csp_io.specs.declared.log.Start.{Start}
 use Rattle.csp_page.specs.declared.files.PageInputs.{PageInputs}
 
 abbrev pub page_contents : PageInputs → List ℕ → Option (List ℕ)

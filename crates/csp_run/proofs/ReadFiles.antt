@@ -3,7 +3,7 @@ use Rattle.std.proofs.Common.{◌≡◌, refl, ap, subst, ℕ, Bool, true, false
 use Rattle.std.specs.Prelude.{nat_lt, ⊤}
 use Rattle.std.proofs.lemmas.List.Elements.{All-nil, All-cons, All-head, All-tail}
 use Rattle.csp_embed.specs.Decisions.{only_enforced, required_of}
-use Rattle.csp_io.specs.Starts.{Start}
+use Rattle.csp_io.specs.declared.log.Start.{Start}
 use Rattle.csp_model.specs.Policies.{first_bad, longest_text, policies, policy_limit, text_limit, token_count, token_limit}
 use Rattle.csp_model.specs.Verdict.{is_enforce}
 use Rattle.csp_model.specs.declared.policy.Disposition.{Disposition}

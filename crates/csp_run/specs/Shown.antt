@@ -6,7 +6,7 @@ use Rattle.csp_desk.specs.Texts.{desk_text}
 use Rattle.csp_desk.specs.declared.reporter.Kind.{Kind}
 use Rattle.csp_desk.specs.declared.desk.DeskError.{DeskError}
 use Rattle.csp_desk.specs.declared.desk.DeskError.TheVariants.{Refused, Memory}
-use Rattle.csp_io.specs.Starts.{Start}
+use Rattle.csp_io.specs.declared.log.Start.{Start}
 use Rattle.csp_io.specs.declared.inputs.Inputs.{Ghosts}
 use Rattle.csp_learn.specs.declared.error.LearnError.{LearnError}
 use Rattle.csp_learn.specs.declared.error.LearnError.TheVariants as learn_error
