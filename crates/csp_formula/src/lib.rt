@@ -6,7 +6,6 @@ mod digests;
 pub mod laws;
 mod outline;
 mod question;
-mod schemes;
 mod shapes;
 pub mod stranger_laws;
 

@@ -7,9 +7,9 @@ ghost use Rattle.csp_model.specs.declared.url.Origin.{Origin as OriginValue};
 ghost use Rattle.csp_formula.specs.Outlines as spec;
 ghost use Rattle.csp_formula.specs.Sources as sentences;
 
-use crate::schemes::{is_network_scheme, own_scheme_matches, scheme_matches, self_scheme_matches};
 use crate::shapes::{after_redirect, is_ancestor, shape_scheme};
 use csp_facts::Shape;
+use csp_match::{is_network_scheme, own_scheme_matches, scheme_matches, self_scheme_matches};
 use csp_model::{Keyword, Origin, Path, PathPart, PortPart, Scheme, Source, Text};
 
 /// What a source says of a port.
@@ -52,7 +52,7 @@ pub fn source_outline(origin: &Origin, shape: Shape, source: &Source) -> Outline
 {
     match source {
         Source::Star => match shape_scheme(shape) {
-            Some(scheme) => Outline::Constant(is_network_scheme(scheme)),
+            Some(scheme) => Outline::Constant(is_network_scheme(scheme.as_str())),
             None => Outline::Constant(false),
         },
         Source::SchemeOnly { scheme } => scheme_outline(scheme, shape_scheme(shape)),
@@ -75,7 +75,7 @@ fn scheme_outline(part: &Text, scheme: Option<Scheme>) -> Outline
         ≡ sentences.scheme_sentence part.now scheme }
 {
     match scheme {
-        Some(scheme) => Outline::Constant(scheme_matches(part.as_str(), scheme)),
+        Some(scheme) => Outline::Constant(scheme_matches(part.as_str(), scheme.as_str())),
         None if Scheme::from_name(part.as_str()).is_some() => Outline::Constant(false),
         None => Outline::Scheme,
     }

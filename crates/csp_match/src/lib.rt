@@ -26,4 +26,6 @@ pub use candidates::{Candidates, names};
 pub use fallback::{governing, governor};
 pub use governs::Governor;
 pub use index::Index;
+pub use scheme::{is_network_scheme, own_scheme_matches, scheme_matches};
+pub use self_source::self_scheme_matches;
 pub use source::{list_matches, source_matches};

@@ -27,7 +27,8 @@ pub fn self_matches(origin: &Origin, url: &Url) -> bool
     }
 }
 
-fn self_scheme_matches(own: Scheme, scheme: Scheme) -> bool
+/// Whether `'self'` matches URLs of a scheme with hosts, on a page of the scheme `own`.
+pub fn self_scheme_matches(own: Scheme, scheme: Scheme) -> bool
     ensures { result ≡ spec.self_scheme_matches own scheme }
 {
     match scheme {
