@@ -11,7 +11,7 @@ use Rattle.csp_formula.proofs.Maybe.{maybe_or_assoc}
 use Rattle.csp_answer.specs.Answers.{AreThere, IsAmong, IsAnswer, IsIntegrityThere, SaysTheSame, answer_in, disjunction_in, integrity_in, sentence_in}
 use Rattle.csp_answer.specs.Asking.{AmountTo}
 use Rattle.csp_answer.specs.Tables.{Says}
-use Rattle.csp_answer.specs.declared.answer.Answer.{Answer}
+use Rattle.csp_answer.specs.declared.answer.ShapeAnswer.{ShapeAnswer}
 use Rattle.csp_answer.specs.declared.answer.Integrity.{Integrity}
 use Rattle.csp_answer.specs.declared.conjunction.Conjunction.{Conjunction}
 use Rattle.csp_answer.proofs.Among.{among_itself, among_same, both_among, either_among, ended_among, first_among, last_among}
@@ -20,7 +20,7 @@ use Rattle.csp_answer.proofs.Amounts.{joined, turned_to}
 
 module _ (atoms : List Atom) where
   -- an answer without the rule on integrity metadata
-  pub plain : (sentence : Sentence) (conjunctions : List Conjunction) (made : Answer) → AmountTo atoms sentence conjunctions
+  pub plain : (sentence : Sentence) (conjunctions : List Conjunction) (made : ShapeAnswer) → AmountTo atoms sentence conjunctions
       → SaysTheSame (sentence_in atoms made) (answer_in atoms conjunctions None) → IsAmong (sentence_in atoms made) (answer_in atoms conjunctions None)
       → (All (AreThere (length atoms)) conjunctions → IfSome {T = Integrity} None (IsIntegrityThere (length atoms)) → IsAnswer (length atoms) made)
       → Says atoms sentence made
@@ -49,7 +49,7 @@ module _ (atoms : List Atom) where
       let of_z : IsAmong z (any_of (x ∷ z ∷ y ∷ [])) = λ atom has. last_among x (any_of (z ∷ y ∷ [])) atom (first_among z (any_of (y ∷ [])) atom has) in
       either_among (Either x y) z (any_of (x ∷ z ∷ y ∷ [])) (both_among x y x (any_of (z ∷ y ∷ [])) (among_itself x) of_y) of_z
 
-  pub with_integrity : (x y z : Sentence) (ones others both : List Conjunction) (rule : Integrity) (made : Answer) → AmountTo atoms x ones → AmountTo atoms y others
+  pub with_integrity : (x y z : Sentence) (ones others both : List Conjunction) (rule : Integrity) (made : ShapeAnswer) → AmountTo atoms x ones → AmountTo atoms y others
       → both ≡ ones ++ others → integrity_in atoms (Some rule) ≡ z → IsIntegrityThere (length atoms) rule
       → SaysTheSame (sentence_in atoms made) (answer_in atoms both (Some rule)) → IsAmong (sentence_in atoms made) (answer_in atoms both (Some rule))
       → (All (AreThere (length atoms)) both → IfSome (Some rule) (IsIntegrityThere (length atoms)) → IsAnswer (length atoms) made)
@@ -74,7 +74,7 @@ pub nothing_at : (found : Option Directive) (says : List Source → Sentence) �
 nothing_at found says is = sym (ap (λ f. said_by_list f says) is)
 
 -- what the call that makes an answer promises, where there is no rule on integrity metadata
-pub made_plain : {E : Type 0} (r : Result Answer E) (conjunctions : List Conjunction)
+pub made_plain : {E : Type 0} (r : Result ShapeAnswer E) (conjunctions : List Conjunction)
     → IfOk r (λ made. (atoms : List Atom) → SaysTheSame (sentence_in atoms made) (answer_in atoms conjunctions None))
     → IfOk r (λ made. (atoms : List Atom) → IsAmong (sentence_in atoms made) (answer_in atoms conjunctions None))
     → IfOk r (λ made. (count : ℕ) → All (AreThere count) conjunctions → IfSome {T = Integrity} None (IsIntegrityThere count) → IsAnswer count made)
@@ -83,7 +83,7 @@ made_plain (Ok made) conjunctions says among is = λ atoms x y amount same.
     subst (λ s. Says atoms s made) same (plain atoms x conjunctions made amount (says atoms) (among atoms) (is (length atoms)))
 made_plain (Err e) conjunctions says among is = tt
 
-pub made_with : {E : Type 0} (r : Result Answer E) (conjunctions : List Conjunction) (rule : Integrity)
+pub made_with : {E : Type 0} (r : Result ShapeAnswer E) (conjunctions : List Conjunction) (rule : Integrity)
     → IfOk r (λ made. (atoms : List Atom) → SaysTheSame (sentence_in atoms made) (answer_in atoms conjunctions (Some rule)))
     → IfOk r (λ made. (atoms : List Atom) → IsAmong (sentence_in atoms made) (answer_in atoms conjunctions (Some rule)))
     → IfOk r (λ made. (count : ℕ) → All (AreThere count) conjunctions → IfSome (Some rule) (IsIntegrityThere count) → IsAnswer count made)

@@ -9,7 +9,7 @@ use Rattle.csp_branch.specs.Groups.{atom_in}
 use Rattle.csp_formula.specs.Sentences.{all_of, any_of}
 use Rattle.csp_formula.specs.Values.{atoms_in}
 use Rattle.csp_answer.specs.Answers.{AreThere, IsAnswer, IsIntegrityThere, IsThere, denial_in, disjunction_in, fact_in, integrity_in, name_in, names_in, names_of, rule_names, sentence_in}
-use Rattle.csp_answer.specs.declared.answer.Answer.{Answer}
+use Rattle.csp_answer.specs.declared.answer.ShapeAnswer.{ShapeAnswer}
 use Rattle.csp_answer.specs.declared.answer.Integrity.{Integrity}
 use Rattle.csp_answer.specs.declared.conjunction.Conjunction.{Conjunction}
 
@@ -44,7 +44,7 @@ module _ (atoms : List Atom) where
   rule_speaks None = refl
   rule_speaks (Some i) = ap (λ (xs : List Atom). atom_in atoms i.outside ∷ xs) (others_speak i.others.items i.own.items)
 
-  pub answer_speaks : (answer : Answer) → atoms_in (sentence_in atoms answer) ≡ map (atom_in atoms) (names_of answer)
+  pub answer_speaks : (answer : ShapeAnswer) → atoms_in (sentence_in atoms answer) ≡ map (atom_in atoms) (names_of answer)
   answer_speaks answer =
       ap₂ (λ (xs ys : List Atom). xs ++ ys) (disjunction_speaks answer.conjunctions.items) (rule_speaks answer.integrity)
       ∙ sym (map-append (atom_in atoms) (flat_map names_in answer.conjunctions.items) (rule_names answer.integrity))
@@ -73,7 +73,7 @@ module _ (count : ℕ) where
   rule_there (Some i) there =
       All-cons IsBelow i.outside (i.others.items ++ i.own.items) there.outside (All-append IsBelow i.others.items i.own.items there.others there.own)
 
-  pub answer_there : (answer : Answer) → IsAnswer count answer → All IsBelow (names_of answer)
+  pub answer_there : (answer : ShapeAnswer) → IsAnswer count answer → All IsBelow (names_of answer)
   answer_there answer is =
       All-append IsBelow (flat_map names_in answer.conjunctions.items) (rule_names answer.integrity) (each_there answer.conjunctions.items is.there)
       (rule_there answer.integrity is.integrity)

@@ -12,10 +12,10 @@ use Rattle.csp_formula.specs.Sentences.{Sentence, Either}
 use Rattle.csp_answer.specs.Answers.{AreThere, IsAmong, IsIntegrityThere, Rise, answer_in, disjunction_in, integrity_in, sentence_in, SaysTheSame}
 use Rattle.csp_answer.specs.Policies.{IsSameAnswer, IsSameIntegrity}
 use Rattle.csp_answer.specs.Tables.{Says}
-use Rattle.csp_answer.specs.contracts.answer.AnswerPartialEq.TheImpl as answers
+use Rattle.csp_answer.specs.contracts.answer.ShapeAnswerPartialEq.TheImpl as answers
 use Rattle.csp_answer.specs.contracts.answer.IntegrityPartialEq.TheImpl as integrities
 use Rattle.csp_answer.specs.contracts.conjunction.ConjunctionPartialEq.TheImpl as conjunctions
-use Rattle.csp_answer.specs.declared.answer.Answer.{Answer}
+use Rattle.csp_answer.specs.declared.answer.ShapeAnswer.{ShapeAnswer}
 use Rattle.csp_answer.specs.declared.answer.Integrity.{Integrity}
 use Rattle.csp_answer.specs.declared.conjunction.Conjunction.{Conjunction}
 
@@ -37,7 +37,7 @@ there_same count (Some i) (Some j) same there = record {
 there_same count None (Some j) same there = absurd same
 there_same count (Some i) None same there = absurd same
 
-pub says_too : (atoms : List Atom) (sentence : Sentence) (one other : Answer) → IsSameAnswer one other → Says atoms sentence other → Says atoms sentence one
+pub says_too : (atoms : List Atom) (sentence : Sentence) (one other : ShapeAnswer) → IsSameAnswer one other → Says atoms sentence other → Says atoms sentence one
 says_too atoms sentence one other same says =
     let is : sentence_in atoms one ≡ sentence_in atoms other =
     ap (λ (cs : List Conjunction). answer_in atoms cs one.integrity) same.conjunctions
@@ -82,7 +82,7 @@ rule_found (Some i) (Some j) e = integrity_found i j e
 rule_found None (Some j) e = cc e
 rule_found (Some i) None e = cc e
 
-pub same_found : (one other : Answer) → (answers.ghosts).eq one other ≡ true → IsSameAnswer one other
+pub same_found : (one other : ShapeAnswer) → (answers.ghosts).eq one other ≡ true → IsSameAnswer one other
 same_found one other e =
     let both = and_parts (pointwise (conjunctions.ghosts).eq one.conjunctions.items other.conjunctions.items) (option_eq (integrities.ghosts).eq one.integrity other.integrity) e in
     record {

@@ -11,7 +11,7 @@ use Rattle.csp_facts.specs.declared.atom.Atom.{Atom}
 use Rattle.csp_facts.specs.Numbers.{number, shape_count}
 use Rattle.csp_facts.specs.declared.shape.Shape.{Shape}
 use Rattle.csp_answer.specs.Tables.{AnswerTheSame, AreAnswers, AreKinds, IsAnswered, answer_at}
-use Rattle.csp_answer.specs.declared.answer.Answer.{Answer}
+use Rattle.csp_answer.specs.declared.answer.ShapeAnswer.{ShapeAnswer}
 use Rattle.csp_answer.specs.declared.policy.PolicyAnswers.{PolicyAnswers}
 
 -- answers at one place are the same
@@ -21,7 +21,7 @@ pub one_place : (one other : ℕ) (each : List PolicyAnswers) (i : ℕ) (answers
 one_place one other each i answers inside at same before =
     let here : answer_at one answers ≡ answer_at other answers = ap (option_and_then (slice_get answers.answers)) same in
     map_more (answer_at one) each i answers inside
-    ∙ ap₂ (λ (front : List (Option Answer)) (last : Option Answer). front ++ last ∷ []) before (ap (answer_at one) (sym at) ∙ here ∙ ap (answer_at other) at)
+    ∙ ap₂ (λ (front : List (Option ShapeAnswer)) (last : Option ShapeAnswer). front ++ last ∷ []) before (ap (answer_at one) (sym at) ∙ here ∙ ap (answer_at other) at)
     ∙ sym (map_more (answer_at other) each i answers inside)
 
 -- one more of what there is at each place

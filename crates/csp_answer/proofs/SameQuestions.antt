@@ -12,10 +12,10 @@ use Rattle.csp_model.specs.declared.check.FetchRule.{FetchRule}
 use Rattle.csp_model.specs.declared.check.InlineKind.{InlineKind}
 use Rattle.csp_model.specs.declared.url.Scheme.{Scheme}
 use Rattle.csp_formula.specs.contracts.question.ListQuestionPartialEq.TheImpl as list_questions
-use Rattle.csp_formula.specs.contracts.question.QuestionPartialEq.TheImpl as questions
+use Rattle.csp_formula.specs.contracts.question.ShapeQuestionPartialEq.TheImpl as questions
 use Rattle.csp_formula.specs.declared.question.ListQuestion.{ListQuestion}
-use Rattle.csp_formula.specs.declared.question.Question.{Question}
-use Rattle.csp_formula.specs.declared.question.Question.TheVariants as asks
+use Rattle.csp_formula.specs.declared.question.ShapeQuestion.{ShapeQuestion}
+use Rattle.csp_formula.specs.declared.question.ShapeQuestion.TheVariants as asks
 
 rule_decides : (a b : FetchRule) → Decides (sameb rules_of a b) (a ≡ b)
 rule_decides a b = (same_true rules_of tt a b, true_same rules_of a b)
@@ -48,7 +48,7 @@ list_decides a b =
       λ is. all.1 (ap (λ q. q.place) is, (ap (λ q. q.rule) is, (ap (λ q. q.scheme) is, (ap (λ q. q.redirected) is, (ap (λ q. q.is_ancestor) is, ap (λ q. q.parser_inserted) is))))),
     )
 
-pub same_decides : (a b : Question) → Decides ((questions.ghosts).eq a b) (a ≡ b)
+pub same_decides : (a b : ShapeQuestion) → Decides ((questions.ghosts).eq a b) (a ≡ b)
 same_decides (asks.Known b) (asks.Known c) = let d = flag_decides b c in (λ e. ap asks.Known (d.0 e), λ is. d.1 (cc is))
 same_decides (asks.Listed q) (asks.Listed r) = let d = list_decides q r in (λ e. ap asks.Listed (d.0 e), λ is. d.1 (cc is))
 same_decides (asks.Inline n k) (asks.Inline m l) =

@@ -30,21 +30,21 @@ use Rattle.csp_answer.specs.declared.answer.Integrity.{Integrity}
 use Rattle.csp_answer.specs.declared.conjunction.Conjunction.{Conjunction}
 use Rattle.csp_answer.specs.declared.naming.PairNames.{PairNames}
 use Rattle.csp_answer.specs.declared.naming.SourceNames.{SourceNames}
-use Rattle.csp_answer.specs.declared.words.Word.{Word}
-use Rattle.csp_answer.specs.declared.words.Word.TheVariants as word
+use Rattle.csp_answer.specs.declared.words.WordKind.{WordKind}
+use Rattle.csp_answer.specs.declared.words.WordKind.TheVariants as word
 use Rattle.csp_answer.proofs.Among.{among_same, ended_among}
 use Rattle.csp_answer.proofs.Amounts.{and_always, joined, never, one}
 use Rattle.csp_answer.proofs.AskedParts.{atom_of}
 
 -- Words as atoms
 
-abbrev pub word_atom : Word → Source → Option Atom
+abbrev pub word_atom : WordKind → Source → Option Atom
 word_atom word.Nonce (source.Nonce value) = Some (NonceIs value)
 word_atom word.Pair (source.Digest hash) = Some (IntegrityHas hash)
 word_atom word.Digest (source.Digest hash) = option_map DigestIs (digest_of hash)
 word_atom which s = None
 
-abbrev pub word_atoms : Word → List Source → List Atom
+abbrev pub word_atoms : WordKind → List Source → List Atom
 word_atoms which sources = filter_map (word_atom which) sources
 
 nonce_facts : (sources : List Source) → filter_map nonce_fact sources ≡ map Fact (word_atoms word.Nonce sources)
@@ -67,7 +67,7 @@ digest_facts [] = refl
 digest_facts (source.Digest hash ∷ sources) = one_digest (digest_of hash) (filter_map digest_fact sources) (word_atoms word.Digest sources) (digest_facts sources)
 digest_facts (s ∷ sources) = digest_facts sources
 
-word_says : (which : Word) (sources : List Source) → any_of (map Fact (word_atoms which sources)) ≡ word_sentence which sources
+word_says : (which : WordKind) (sources : List Source) → any_of (map Fact (word_atoms which sources)) ≡ word_sentence which sources
 word_says word.Nonce sources = ap any_of (sym (nonce_facts sources))
 word_says word.Pair sources = ap any_of (sym (pair_facts sources))
 word_says word.Digest sources = ap any_of (sym (digest_facts sources))
@@ -79,7 +79,7 @@ abbrev pub alone : ℕ → Conjunction
 alone name = record { lead = Some name; port = None; path = None }
 
 module _ (atoms : List Atom) where
-  word_named : (which : Word) (self : Origin) (s : Source) (names : SourceNames) → IsSourceNamed atoms self s names
+  word_named : (which : WordKind) (self : Origin) (s : Source) (names : SourceNames) → IsSourceNamed atoms self s names
       → option_map (slice_get atoms) (word_name which s names) ≡ option_map Some (word_atom which s)
   word_named word.Nonce self (source.Nonce value) names named = named.lead
   word_named word.Pair self (source.Digest hash) names named = named.lead
@@ -94,7 +94,7 @@ module _ (atoms : List Atom) where
   one_stands (Some name) (Some atom) names given is stand =
       let here : slice_get atoms name ≡ Some atom = cc in ap₂ (λ (x : Option Atom) (xs : List (Option Atom)). x ∷ xs) here stand
 
-  pub words_stand : (which : Word) (self : Origin) (sources : List Source) (names : List SourceNames) → AllZip (IsSourceNamed atoms self) sources names
+  pub words_stand : (which : WordKind) (self : Origin) (sources : List Source) (names : List SourceNames) → AllZip (IsSourceNamed atoms self) sources names
       → StandAt atoms (word_names which sources names) (word_atoms which sources)
   words_stand which self [] [] named = refl
   words_stand which self [] (n ∷ names) named = absurd named
@@ -118,7 +118,7 @@ module _ (atoms : List Atom) where
       (record { lead = slice_get_within atoms n a here; port = tt; path = tt }))
       (names_amount names given later)
 
-  pub words_amount : (which : Word) (self : Origin) (sources : List Source) (names : List SourceNames) → AllZip (IsSourceNamed atoms self) sources names
+  pub words_amount : (which : WordKind) (self : Origin) (sources : List Source) (names : List SourceNames) → AllZip (IsSourceNamed atoms self) sources names
       → AmountTo atoms (word_sentence which sources) (map alone (word_names which sources names))
   words_amount which self sources names named =
       subst (λ s. AmountTo atoms s (map alone (word_names which sources names))) (word_says which sources)

@@ -8,7 +8,7 @@ use Rattle.csp_branch.specs.Groups.{atom_in}
 use Rattle.csp_formula.specs.Sentences.{Sentence, Known, Fact, Not, Either, all_of, any_of}
 use Rattle.csp_formula.specs.Surely.{surely}
 use Rattle.csp_formula.specs.Values.{atoms_in}
-use Rattle.csp_answer.specs.declared.answer.Answer.{Answer}
+use Rattle.csp_answer.specs.declared.answer.ShapeAnswer.{ShapeAnswer}
 use Rattle.csp_answer.specs.declared.answer.Integrity.{Integrity}
 use Rattle.csp_answer.specs.declared.conjunction.Conjunction.{Conjunction}
 
@@ -42,7 +42,7 @@ abbrev pub answer_in : List Atom → List Conjunction → Option Integrity → S
 answer_in atoms conjunctions integrity =
     Either (disjunction_in atoms conjunctions) (integrity_in atoms integrity)
 
-abbrev pub sentence_in : List Atom → Answer → Sentence
+abbrev pub sentence_in : List Atom → ShapeAnswer → Sentence
 sentence_in atoms answer = answer_in atoms answer.conjunctions.items answer.integrity
 
 -- whatever literals there are, they decide the same of both
@@ -63,7 +63,7 @@ rule_names None = []
 rule_names (Some i) = i.outside ∷ (i.others.items ++ i.own.items)
 
 -- those of an answer: those of its conjunctions in order, and then those of the rule
-abbrev pub names_of : Answer → List ℕ
+abbrev pub names_of : ShapeAnswer → List ℕ
 names_of answer = flat_map names_in answer.conjunctions.items ++ rule_names answer.integrity
 
 -- the names are there
@@ -93,7 +93,7 @@ Rise conjunctions = (i j : ℕ) (d : Conjunction) → i < j → j < length conju
     → lead_key (slice_index_or conjunctions i d) ≤ lead_key (slice_index_or conjunctions j d)
 
 -- an answer by so many names
-pub record IsAnswer (count : ℕ) (answer : Answer) : Type 0 where
+pub record IsAnswer (count : ℕ) (answer : ShapeAnswer) : Type 0 where
   pub there : All (AreThere count) answer.conjunctions.items
   pub integrity : IfSome answer.integrity (IsIntegrityThere count)
   pub rise : Rise answer.conjunctions.items

@@ -19,8 +19,8 @@ use Rattle.csp_answer.specs.declared.conjunction.Conjunction.{Conjunction}
 use Rattle.csp_answer.specs.declared.listed.NamedList.{NamedList}
 use Rattle.csp_answer.specs.declared.naming.NamedPolicy.{NamedPolicy}
 use Rattle.csp_answer.specs.declared.naming.SourceNames.{SourceNames}
-use Rattle.csp_answer.specs.declared.words.Word.{Word}
-use Rattle.csp_answer.specs.declared.words.Word.TheVariants as word
+use Rattle.csp_answer.specs.declared.words.WordKind.{WordKind}
+use Rattle.csp_answer.specs.declared.words.WordKind.TheVariants as word
 
 -- Named lists
 
@@ -73,18 +73,18 @@ conjunction_of lead port path = None
 -- Words
 
 -- the name of the word of a source: of its nonce, its pair of integrity metadata or its digest
-abbrev pub word_name : Word → Source → SourceNames → Option ℕ
+abbrev pub word_name : WordKind → Source → SourceNames → Option ℕ
 word_name word.Nonce (source.Nonce value) names = names.lead
 word_name word.Pair (source.Digest hash) names = names.lead
 word_name word.Digest (source.Digest hash) names = names.rest
 word_name which s names = None
 
-abbrev pub word_names : Word → List Source → List SourceNames → List ℕ
+abbrev pub word_names : WordKind → List Source → List SourceNames → List ℕ
 word_names which sources names =
     filter_map (λ (p : Source × SourceNames). word_name which p.0 p.1) (zip sources names)
 
 -- one of these is there
-abbrev pub word_sentence : Word → List Source → Sentence
+abbrev pub word_sentence : WordKind → List Source → Sentence
 word_sentence word.Nonce sources = nonces_sentence sources
 word_sentence word.Pair sources = pairs_sentence sources
 word_sentence word.Digest sources = digests_sentence sources

@@ -6,7 +6,7 @@ use Rattle.csp_branch.specs.Paths.{Path}
 use Rattle.csp_formula.specs.Sentences.{Sentence, Known}
 use Rattle.csp_formula.specs.Surely.{maybe_or, surely}
 use Rattle.csp_answer.specs.Answers.{conjunction_in, disjunction_in, rule_in}
-use Rattle.csp_answer.specs.declared.answer.Answer.{Answer}
+use Rattle.csp_answer.specs.declared.answer.ShapeAnswer.{ShapeAnswer}
 use Rattle.csp_answer.specs.declared.answer.Integrity.{Integrity}
 use Rattle.csp_answer.specs.declared.conjunction.Conjunction.{Conjunction}
 use Rattle.csp_answer.specs.declared.deciding.Ground.{Ground}
@@ -46,7 +46,7 @@ own_pair_in atoms None place = Known false
 own_pair_in atoms (Some i) place = pair_in atoms i (slice_get i.own.items place)
 
 -- this much of an answer; it is false where the answer doesn't have it
-abbrev pub ground_in : List Atom → Answer → Ground → Sentence
+abbrev pub ground_in : List Atom → ShapeAnswer → Ground → Sentence
 ground_in atoms answer (ground.Conjunction place) =
     listed_in atoms (slice_get answer.conjunctions.items place)
 ground_in atoms answer (ground.Pair place) = own_pair_in atoms answer.integrity place

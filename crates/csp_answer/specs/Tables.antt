@@ -10,16 +10,16 @@ use Rattle.csp_facts.specs.declared.shape.Shape.{Shape}
 use Rattle.csp_formula.specs.Compiled.{policy_sentence}
 use Rattle.csp_formula.specs.Sentences.{Sentence}
 use Rattle.csp_answer.specs.Answers.{IsAmong, IsAnswer, SaysTheSame, sentence_in}
-use Rattle.csp_answer.specs.declared.answer.Answer.{Answer}
+use Rattle.csp_answer.specs.declared.answer.ShapeAnswer.{ShapeAnswer}
 use Rattle.csp_answer.specs.declared.policy.PolicyAnswers.{PolicyAnswers}
 use Rattle.csp_answer.specs.declared.table.AnswerTable.{AnswerTable}
 
 -- the answer at the shape of this number
-abbrev pub answer_at : ℕ → PolicyAnswers → Option Answer
+abbrev pub answer_at : ℕ → PolicyAnswers → Option ShapeAnswer
 answer_at shape answers = option_and_then (slice_get answers.answers) (slice_get answers.places shape)
 
 -- the answer says this, by these names, and speaks of no other atoms
-pub record Says (atoms : List Atom) (sentence : Sentence) (made : Answer) : Type 0 where
+pub record Says (atoms : List Atom) (sentence : Sentence) (made : ShapeAnswer) : Type 0 where
   pub answer : IsAnswer (length atoms) made
   pub says : SaysTheSame (sentence_in atoms made) sentence
   pub among : IsAmong (sentence_in atoms made) sentence
@@ -30,7 +30,7 @@ IsAnswered atoms hashes policy answers = (kind : Shape) → IsTrue (is_shape kin
     → MatchOption (answer_at (number kind) answers) ⊥ (Says atoms (policy_sentence policy kind hashes))
 
 -- what the policy of this number answers at the shape of this number
-abbrev pub answer_of : List PolicyAnswers → ℕ → ℕ → Option Answer
+abbrev pub answer_of : List PolicyAnswers → ℕ → ℕ → Option ShapeAnswer
 answer_of each policy shape = option_and_then (answer_at shape) (slice_get each policy)
 
 -- so it is of each of the policies, in order

@@ -23,18 +23,18 @@ pub struct Integrity {
 /// What a policy says of the checks of a shape: one of the conjunctions holds, or the rule on integrity
 /// metadata does, where it counts.
 #[derive(Debug, PartialEq, Eq, Drop)]
-pub struct Answer {
+pub struct ShapeAnswer {
     conjunctions: Vec<Conjunction>,
     integrity: Option<Integrity>,
 }
 
-impl Answer {
+impl ShapeAnswer {
     // The answer that one of these holds, or the rule on integrity metadata. Answers that are made of the
     // same conjunctions are equal, in whatever order these stand.
     pub(crate) fn new(
         mut conjunctions: Vec<Conjunction>,
         integrity: Option<Integrity>,
-    ) -> Result<Answer, Memory>
+    ) -> Result<ShapeAnswer, Memory>
         ensures said { IfOk result (λ made. (atoms : Items AtomValue)
             → spec.SaysTheSame (spec.sentence_in atoms made)
             (spec.answer_in atoms conjunctions.items integrity)) }
@@ -47,7 +47,7 @@ impl Answer {
     {
         conjunctions.sort()?;
         conjunctions.dedup();
-        Ok(Answer {
+        Ok(ShapeAnswer {
             conjunctions,
             integrity,
         })

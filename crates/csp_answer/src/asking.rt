@@ -12,13 +12,13 @@ ghost use Rattle.csp_answer.specs.Naming.{ArePairs, IsNamed};
 ghost use Rattle.csp_answer.specs.Policies.{IsAnswerTo};
 ghost use Rattle.csp_answer.specs.Tables.{Says};
 
-use crate::answer::Answer;
+use crate::answer::ShapeAnswer;
 use crate::conjunction::Conjunction;
-use crate::listed::{NamedList, list_at, listed};
+use crate::listed::{NamedList, list_at, list_conjunctions};
 use crate::naming::{NamedPolicy, PairNames};
-use crate::words::{Word, integrity_of, word_conjunctions};
+use crate::words::{WordKind, integrity_of, word_conjunctions};
 use csp_branch::Names;
-use csp_formula::{ListQuestion, Question, is_dynamic};
+use csp_formula::{ListQuestion, ShapeQuestion, is_dynamic};
 use csp_model::{FetchRule, InlineKind, Memory};
 use csp_rules::{allows_all_inline, hash_counts, is_element_kind};
 use std::alloc::Global;
@@ -35,19 +35,19 @@ pub(crate) fn answer_to(
     alloc: Global,
     naming: Naming,
     named: &NamedPolicy,
-    question: Question,
-) -> Result<Answer, Memory>
+    question: ShapeQuestion,
+) -> Result<ShapeAnswer, Memory>
     requires { IsNamed naming.names.now named.now }
     ensures { IfOk result (IsAnswerTo naming.entry.names.now naming.entry.pairs.now named.now.policy.now
         question) }
 {
     match question {
-        Question::Known(known) => known_answer(alloc, known),
-        Question::Listed(asked) => match list_at(named, asked.place) {
+        ShapeQuestion::Known(known) => known_answer(alloc, known),
+        ShapeQuestion::Listed(asked) => match list_at(named, asked.place) {
             None => known_answer(alloc, true),
             Some(list) => list_answer(alloc, naming, list, asked),
         },
-        Question::Inline { place, kind } => match list_at(named, place) {
+        ShapeQuestion::Inline { place, kind } => match list_at(named, place) {
             None => known_answer(alloc, true),
             Some(list) => inline_answer(alloc, list, kind),
         },
@@ -55,10 +55,10 @@ pub(crate) fn answer_to(
 }
 
 // The answer that holds always or never.
-fn known_answer(alloc: Global, known: bool) -> Result<Answer, Memory>
+fn known_answer(alloc: Global, known: bool) -> Result<ShapeAnswer, Memory>
     ensures { IfOk result (λ made. (atoms : Items AtomValue) → Says atoms (Known known) made) }
 {
-    Answer::new(constant(alloc, known)?, None)
+    ShapeAnswer::new(constant(alloc, known)?, None)
 }
 
 // The conjunction of nothing, or none.
@@ -79,7 +79,7 @@ fn list_answer(
     naming: Naming,
     list: NamedList,
     asked: ListQuestion,
-) -> Result<Answer, Memory>
+) -> Result<ShapeAnswer, Memory>
     requires { parts.IsListNamed naming.names.now list }
     ensures { IfOk result (λ made. (hashes : Items HashValue)
         → ArePairs naming.entry.names.now hashes naming.entry.pairs.now
@@ -89,11 +89,14 @@ fn list_answer(
     match asked.rule {
         FetchRule::Script => script_answer(alloc, naming, list, asked),
         FetchRule::Style => {
-            let nonces = word_conjunctions(alloc, list, Word::Nonce)?;
-            let listed = listed(alloc, naming.names, list, asked.shape())?;
-            Answer::new(joined(nonces, listed)?, None)
+            let nonces = word_conjunctions(alloc, list, WordKind::Nonce)?;
+            let listed = list_conjunctions(alloc, naming.names, list, asked.shape())?;
+            ShapeAnswer::new(concatenate(nonces, listed)?, None)
         }
-        FetchRule::List => Answer::new(listed(alloc, naming.names, list, asked.shape())?, None),
+        FetchRule::List => ShapeAnswer::new(
+            list_conjunctions(alloc, naming.names, list, asked.shape())?,
+            None,
+        ),
     }
 }
 
@@ -103,7 +106,7 @@ fn script_answer(
     naming: Naming,
     list: NamedList,
     asked: ListQuestion,
-) -> Result<Answer, Memory>
+) -> Result<ShapeAnswer, Memory>
     requires { parts.IsListNamed naming.names.now list }
     ensures { IfOk result (λ made. (hashes : Items HashValue)
         → ArePairs naming.entry.names.now hashes naming.entry.pairs.now
@@ -111,10 +114,10 @@ fn script_answer(
         (compiled.fetch_sentence rule.Script hashes list.entry.sources.now asked.parser_inserted
         (list_sentence list.entry.origin.now (shape_asked asked) list.entry.sources.now)) made) }
 {
-    let nonces = word_conjunctions(alloc, list, Word::Nonce)?;
+    let nonces = word_conjunctions(alloc, list, WordKind::Nonce)?;
     let last = dynamic_or_listed(alloc, naming.names, list, asked)?;
     let integrity = integrity_of(alloc, naming.names, naming.pairs, list)?;
-    Answer::new(joined(nonces, last)?, Some(integrity))
+    ShapeAnswer::new(concatenate(nonces, last)?, Some(integrity))
 }
 
 // What the list says of URLs, or `'strict-dynamic'` in its place.
@@ -132,29 +135,34 @@ fn dynamic_or_listed(
     if is_dynamic(FetchRule::Script, list.sources) {
         constant(alloc, !asked.parser_inserted)
     } else {
-        listed(alloc, names, list, asked.shape())
+        list_conjunctions(alloc, names, list, asked.shape())
     }
 }
 
 // The answer of a list on inline code or style of a kind.
-fn inline_answer(alloc: Global, list: NamedList, kind: InlineKind) -> Result<Answer, Memory>
+fn inline_answer(alloc: Global, list: NamedList, kind: InlineKind) -> Result<ShapeAnswer, Memory>
     ensures { IfOk result (λ made. (atoms : Items AtomValue) → parts.IsListNamed atoms list.entry
         → Says atoms (compiled.inline_sentence kind list.entry.sources.now) made) }
 {
     if allows_all_inline(kind, list.sources) {
         return known_answer(alloc, true);
     }
-    let nonces = counted(alloc, is_element_kind(kind), list, Word::Nonce)?;
-    let digests = counted(alloc, hash_counts(kind, list.sources), list, Word::Digest)?;
-    Answer::new(joined(nonces, digests)?, None)
+    let nonces = words_that_count(alloc, is_element_kind(kind), list, WordKind::Nonce)?;
+    let digests = words_that_count(
+        alloc,
+        hash_counts(kind, list.sources),
+        list,
+        WordKind::Digest,
+    )?;
+    ShapeAnswer::new(concatenate(nonces, digests)?, None)
 }
 
 // The conjunctions of words, or none where they don't count.
-fn counted(
+fn words_that_count(
     alloc: Global,
     counts: bool,
     list: NamedList,
-    word: Word,
+    word: WordKind,
 ) -> Result<Vec<Conjunction>, Memory>
     ensures { IfOk result (λ made. (atoms : Items AtomValue) → parts.IsListNamed atoms list.entry
         → parts.AmountTo atoms
@@ -168,7 +176,7 @@ fn counted(
 }
 
 // The ones and then the others.
-fn joined(
+fn concatenate(
     mut ones: Vec<Conjunction>,
     mut others: Vec<Conjunction>,
 ) -> Result<Vec<Conjunction>, Memory>

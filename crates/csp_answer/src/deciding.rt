@@ -8,13 +8,13 @@ ghost use Rattle.csp_answer.specs.Answers as spec;
 ghost use Rattle.csp_answer.specs.Deciding.{Finds, ground_in};
 ghost use Rattle.csp_answer.specs.declared.conjunction.Conjunction.{Conjunction as ConjunctionValue};
 
-use crate::answer::{Answer, Integrity};
+use crate::answer::{Integrity, ShapeAnswer};
 use crate::conjunction::Conjunction;
 use csp_branch::{Branch, Names, part_number};
 
 /// What the literals of a branch decide of an answer. On a part where the branch has a place it looks only at
 /// the conjunctions led by a name around the place or under it.
-pub fn decided(branch: &Branch, answer: &Answer) -> Option<bool>
+pub fn decide(branch: &Branch, answer: &ShapeAnswer) -> Option<bool>
     requires { spec.IsAnswer (length branch.now.atoms) answer.now }
     ensures { result ≡ surely branch.now.literals (spec.sentence_in branch.now.atoms answer.now) }
 {
@@ -39,7 +39,7 @@ pub enum Ground {
 
 /// What the literals of a branch decide of this much of an answer: it is false where the answer doesn't have
 /// it. Nothing else of the answer is looked at.
-pub fn decided_by(branch: &Branch, answer: &Answer, ground: Ground) -> Option<bool>
+pub fn decided_by(branch: &Branch, answer: &ShapeAnswer, ground: Ground) -> Option<bool>
     requires { spec.IsAnswer (length branch.now.atoms) answer.now }
     ensures ground { result
         ≡ surely branch.now.literals (ground_in branch.now.atoms answer.now ground) }

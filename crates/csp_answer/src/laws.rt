@@ -4,7 +4,7 @@ ghost use Rattle.csp_facts.specs.declared.atom.Atom.{Atom as AtomValue};
 ghost use Rattle.csp_branch.specs.Groups.{atom_in};
 ghost use Rattle.csp_formula.specs.Values.{atoms_in};
 ghost use Rattle.csp_answer.specs.Answers.{IsAnswer, names_of, sentence_in};
-ghost use Rattle.csp_answer.specs.declared.answer.Answer.{Answer as AnswerValue};
+ghost use Rattle.csp_answer.specs.declared.answer.ShapeAnswer.{ShapeAnswer as AnswerValue};
 
 /// The atoms that an answer speaks of are those of its names, each where it stands, and its names are there.
 pub fn an_answer_speaks_of_its_names()

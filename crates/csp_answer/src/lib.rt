@@ -17,8 +17,8 @@ mod source;
 mod table;
 mod words;
 
-pub use answer::{Answer, Integrity};
+pub use answer::{Integrity, ShapeAnswer};
 pub use conjunction::Conjunction;
-pub use deciding::{Ground, decided, decided_by};
+pub use deciding::{Ground, decide, decided_by};
 pub use policy::PolicyAnswers;
 pub use table::{AnswerTable, NamedAnswers, answers_of};

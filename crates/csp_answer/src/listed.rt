@@ -39,7 +39,7 @@ pub(crate) fn list_at<'n>(named: &'n NamedPolicy, place: usize) -> Option<NamedL
 }
 
 // The conjunctions of the sources that can match at the shape.
-pub(crate) fn listed(
+pub(crate) fn list_conjunctions(
     alloc: Global,
     names: &Names,
     list: NamedList,

@@ -6,34 +6,34 @@ ghost use Rattle.csp_answer.specs.Naming.{ArePairs, IsNamed};
 ghost use Rattle.csp_answer.specs.Policies as policies;
 ghost use Rattle.csp_answer.specs.Tables as spec;
 
-use crate::answer::Answer;
+use crate::answer::ShapeAnswer;
 use crate::asking::{Naming, answer_to};
 use crate::naming::NamedPolicy;
 use csp_facts::shape_laws::each_number_is_one_shape;
 use csp_facts::{Shape, shape_at};
-use csp_formula::{Question, question_at};
+use csp_formula::{ShapeQuestion, question_at};
 use csp_model::{List, Memory};
 use std::alloc::Global;
 
 /// The different answers of a policy, and for each shape, by its number, the place of its answer.
 #[derive(Debug, Drop)]
 pub struct PolicyAnswers {
-    answers: List<Answer>,
+    answers: List<ShapeAnswer>,
     places: List<usize>,
 }
 
 // What a policy was asked, and the place of its answer.
 #[derive(Clone, Copy)]
-pub(crate) struct Asked {
-    question: Question,
+pub(crate) struct AnsweredQuestion {
+    question: ShapeQuestion,
     place: usize,
 }
 
 // The different answers of a policy so far, and all that it was asked.
 #[derive(Drop)]
 pub(crate) struct Answered {
-    asked: List<Asked>,
-    answers: List<Answer>,
+    asked: List<AnsweredQuestion>,
+    answers: List<ShapeAnswer>,
 }
 
 impl PolicyAnswers {
@@ -67,7 +67,7 @@ impl PolicyAnswers {
     }
 
     /// The answer at the shape of this number.
-    pub fn at(&self, shape: usize) -> Option<&Answer>
+    pub fn at(&self, shape: usize) -> Option<&ShapeAnswer>
         ensures { option_copied result ≡ spec.answer_at shape self.now }
     {
         self.answers.get(self.place(shape)?)
@@ -104,12 +104,12 @@ fn place_at(
     }
     let answer = answer_to(alloc, naming, named, question)?;
     let place = answer_place(answer, &mut answered.answers)?;
-    answered.asked.push(Asked { question, place })?;
+    answered.asked.push(AnsweredQuestion { question, place })?;
     Ok(place)
 }
 
 // The place of the answer to this question, where it was asked.
-fn asked_place(asked: &[Asked], question: Question) -> Option<usize>
+fn asked_place(asked: &[AnsweredQuestion], question: ShapeQuestion) -> Option<usize>
     ensures { IfSome result (policies.IsAsked asked.now question) }
 {
     for one in asked {
@@ -120,14 +120,14 @@ fn asked_place(asked: &[Asked], question: Question) -> Option<usize>
     None
 }
 
-fn is_same_question(one: Question, other: Question) -> bool
+fn is_same_question(one: ShapeQuestion, other: ShapeQuestion) -> bool
     ensures { IsTrue result → one ≡ other }
 {
     one == other
 }
 
 // The place of an answer. It is added unless an equal one is there.
-fn answer_place(answer: Answer, answers: &mut List<Answer>) -> Result<usize, Memory>
+fn answer_place(answer: ShapeAnswer, answers: &mut List<ShapeAnswer>) -> Result<usize, Memory>
     ensures extends { OnOk result (Extends answers.old answers.new) }
     ensures here { IfOk result (StandsAt answers.new (λ there. policies.IsSameAnswer there answer)) }
 {
@@ -141,13 +141,13 @@ fn answer_place(answer: Answer, answers: &mut List<Answer>) -> Result<usize, Mem
     }
 }
 
-fn equal_place(answers: &[Answer], answer: &Answer) -> Option<usize>
+fn equal_place(answers: &[ShapeAnswer], answer: &ShapeAnswer) -> Option<usize>
     ensures { IfSome result (StandsAt answers.now (λ there. policies.IsSameAnswer there answer.now)) }
 {
     answers.iter().position(|one| is_same_answer(one, answer))
 }
 
-fn is_same_answer(one: &Answer, other: &Answer) -> bool
+fn is_same_answer(one: &ShapeAnswer, other: &ShapeAnswer) -> bool
     ensures { IsTrue result → policies.IsSameAnswer one.now other.now }
 {
     one == other

@@ -22,7 +22,7 @@ use std::collections::BTreeSet;
 
 // What a source may ask for that isn't a URL.
 #[derive(Clone, Copy)]
-pub(crate) enum Word {
+pub(crate) enum WordKind {
     Nonce,
     Pair,
     Digest,
@@ -32,7 +32,7 @@ pub(crate) enum Word {
 pub(crate) fn word_conjunctions(
     alloc: Global,
     list: NamedList,
-    word: Word,
+    word: WordKind,
 ) -> Result<Vec<Conjunction>, Memory>
     ensures { IfOk result (λ made. (atoms : Items AtomValue) → spec.IsListNamed atoms list.entry
         → spec.AmountTo atoms (spec.word_sentence word list.entry.sources.now) made.items) }
@@ -45,7 +45,7 @@ pub(crate) fn word_conjunctions(
 }
 
 // The names of the list's words of this kind, in its order.
-fn word_names(alloc: Global, list: NamedList, word: Word) -> Result<Vec<usize>, Memory>
+fn word_names(alloc: Global, list: NamedList, word: WordKind) -> Result<Vec<usize>, Memory>
     ensures { IfOk result (λ made. made.items
         ≡ spec.word_names word list.entry.sources.now list.entry.names.now) }
 {
@@ -57,13 +57,13 @@ fn word_names(alloc: Global, list: NamedList, word: Word) -> Result<Vec<usize>, 
 }
 
 // The name of the word of a source, if it has one of this kind.
-fn word_name(word: Word, source: &Source, names: SourceNames) -> Option<usize>
+fn word_name(word: WordKind, source: &Source, names: SourceNames) -> Option<usize>
     ensures { result ≡ spec.word_name word source.now names }
 {
     match (word, source) {
-        (Word::Nonce, Source::Nonce { .. }) => names.lead,
-        (Word::Pair, Source::Digest { .. }) => names.lead,
-        (Word::Digest, Source::Digest { .. }) => names.rest,
+        (WordKind::Nonce, Source::Nonce { .. }) => names.lead,
+        (WordKind::Pair, Source::Digest { .. }) => names.lead,
+        (WordKind::Digest, Source::Digest { .. }) => names.rest,
         _ => None,
     }
 }
@@ -84,7 +84,7 @@ pub(crate) fn integrity_of(
 {
     names.are_in_order();
     an_atom_has_one_name();
-    let own = word_names(alloc, list, Word::Pair)?;
+    let own = word_names(alloc, list, WordKind::Pair)?;
     let others = names_but(alloc, &pairs.pairs, &own)?;
     Ok(Integrity {
         outside: pairs.outside,

@@ -8,7 +8,7 @@ use Rattle.csp_facts.specs.declared.atom.Literal.{Literal}
 use Rattle.csp_branch.specs.Changes.{AreChanges, IsLast, first_of}
 use Rattle.csp_branch.specs.Paths.{Path}
 use Rattle.csp_branch.specs.declared.branch.Change.{Change}
-use Rattle.csp_branch.specs.declared.step.Step.{Step}
+use Rattle.csp_branch.specs.declared.named_literal.NamedLiteral.{NamedLiteral}
 
 abbrev longer : Path → Literal → Path
 longer path literal = record path { literals = path.literals ++ literal ∷ [] }
@@ -53,7 +53,7 @@ changes_last changes change path are =
 
 pub last_named : (change : Change) (path : Path) → IsLast change path → change.step.name < length path.atoms
 last_named change path last =
-    All-contains (λ (s : Step). s.name < length path.atoms) (last.before ++ change.step ∷ []) change.step last.named (Contains-push last.before change.step)
+    All-contains (λ (s : NamedLiteral). s.name < length path.atoms) (last.before ++ change.step ∷ []) change.step last.named (Contains-push last.before change.step)
 
 pub changes_less : (changes : List Change) (change : Change) (path : Path) (literal : Literal) → AreChanges (changes ++ change ∷ []) (longer path literal) → AreChanges changes path
 changes_less changes change path literal are = record {

@@ -12,11 +12,11 @@ use Rattle.csp_branch.specs.Branching.{known_at}
 use Rattle.csp_branch.specs.Groups.{atom_in, group_in, group_on}
 use Rattle.csp_branch.specs.Marks.{Marks, blank, is_denied_in, known_by, known_in, seal_says}
 use Rattle.csp_branch.specs.Places.{IsPlace}
-use Rattle.csp_branch.specs.declared.mark.Group.{Group}
+use Rattle.csp_branch.specs.declared.mark.GroupState.{GroupState}
 use Rattle.csp_branch.proofs.Grouping.{around_one_group, other_number, part_in_group}
 use Rattle.csp_branch.proofs.Telling.{Tells}
 
-module _ (around : ℕ → ℕ → Bool) (group : Group) (denied : ℕ → Bool) (place name : ℕ) (placed : group.place ≡ Some place) where
+module _ (around : ℕ → ℕ → Bool) (group : GroupState) (denied : ℕ → Bool) (place name : ℕ) (placed : group.place ≡ Some place) where
   by_place : known_by around group denied name ≡ or_else (known_at around (Some place) denied name) (seal_says around group.seal name)
   by_place = ap (λ (o : Option ℕ). or_else (known_at around o denied name) (seal_says around group.seal name)) placed
 

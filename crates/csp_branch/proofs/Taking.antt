@@ -7,7 +7,7 @@ use Rattle.csp_branch.specs.Numbers.{IsForest, around_in}
 use Rattle.csp_branch.specs.Branching.{IsState, known_at, says, sealed, denied_too}
 use Rattle.csp_branch.specs.Marks.{after, is_denied_in, known_by}
 use Rattle.csp_branch.specs.declared.mark.Mark.{Mark}
-use Rattle.csp_branch.specs.declared.step.Step.{Step}
+use Rattle.csp_branch.specs.declared.named_literal.NamedLiteral.{NamedLiteral}
 use Rattle.csp_branch.proofs.Denials.{marked_more}
 use Rattle.csp_branch.proofs.Literals.{deny, placed, repeat, contrary, placed_state, denied_state}
 
@@ -23,10 +23,10 @@ never_open : (o : Option Bool) (v : Bool) → or_else o (Some v) ≡ None → �
 never_open (Some w) v e = cc
 never_open None v e = cc
 
-abbrev pub step_of : ℕ → Bool → Step
+abbrev pub step_of : ℕ → Bool → NamedLiteral
 step_of name positive = record { name = name; positive = positive }
 
-abbrev pub mark_of : Option ℕ → Option Step → Bool → Mark
+abbrev pub mark_of : Option ℕ → Option NamedLiteral → Bool → Mark
 mark_of place seal bit = record { group = record { place = place; seal = seal }; denied = bit }
 
 -- which names are denied then
@@ -46,7 +46,7 @@ next_elsewhere around None name false denied asked e = or_false (denied asked) (
 next_elsewhere around (Some value) name positive denied asked e = refl
 
 -- the place is as before, or this name
-pub place_after : (known : Option Bool) (name : ℕ) (positive : Bool) (place : Option ℕ) (seal : Option Step) (bit : Bool) (p : ℕ)
+pub place_after : (known : Option Bool) (name : ℕ) (positive : Bool) (place : Option ℕ) (seal : Option NamedLiteral) (bit : Bool) (p : ℕ)
     → (after known (step_of name positive) (mark_of place seal bit)).group.place ≡ Some p → (place ≡ Some p) ⊎ (p ≡ name)
 place_after None name true place seal bit p e = inr cc
 place_after None name false place seal bit p e = inl e
@@ -58,7 +58,7 @@ place_after (Some false) name true place None bit p e = inl e
 place_after (Some false) name true place (Some s) bit p e = inl e
 
 -- the list of what is denied
-pub denied_is : (atoms : List Atom) (denied : List Bool) (known : Option Bool) (name : ℕ) (positive : Bool) (place : Option ℕ) (seal : Option Step) (asked : ℕ) → name < length denied
+pub denied_is : (atoms : List Atom) (denied : List Bool) (known : Option Bool) (name : ℕ) (positive : Bool) (place : Option ℕ) (seal : Option NamedLiteral) (asked : ℕ) → name < length denied
     → is_denied_in atoms (set denied name (after known (step_of name positive) (mark_of place seal (get_or denied name false))).denied) asked
     ≡ denied_next (around_in atoms) known name positive (is_denied_in atoms denied) asked
 denied_is atoms denied None name true place seal asked h = ap (λ (ds : List Bool). is_denied_in atoms ds asked) (set-get_or denied name false)
@@ -74,10 +74,10 @@ module _ (around : ℕ → ℕ → Bool) (forest : IsForest around) (place : Opt
   abbrev at : ℕ → Option Bool
   at asked = known_at around place denied asked
 
-  abbrev before : Option Step → ℕ → Option Bool
+  abbrev before : Option NamedLiteral → ℕ → Option Bool
   before seal asked = known_by around (record { place = place; seal = seal }) denied asked
 
-  abbrev next : Option Bool → Bool → Option Step → Bool → Mark
+  abbrev next : Option Bool → Bool → Option NamedLiteral → Bool → Mark
   next known positive seal bit = after known (step_of name positive) (mark_of place seal bit)
 
   unsealed : (known : Option Bool) → before None name ≡ known → at name ≡ known
@@ -88,7 +88,7 @@ module _ (around : ℕ → ℕ → Bool) (forest : IsForest around) (place : Opt
   opened positive asked new e = sym e ∙ ap (λ (o : Option Bool). or_else o (says around name positive asked)) (sym (nothing_after (at asked)))
 
   -- what is known then
-  pub told : (known : Option Bool) (positive : Bool) (seal : Option Step) (bit : Bool) (asked : ℕ) → before seal name ≡ known
+  pub told : (known : Option Bool) (positive : Bool) (seal : Option NamedLiteral) (bit : Bool) (asked : ℕ) → before seal name ≡ known
       → known_by around (next known positive seal bit).group (denied_next around known name positive denied) asked
       ≡ or_else (before seal asked) (says around name positive asked)
   told None positive (Some s) bit asked e = absurd (never_open (at name) (sealed around s.name s.positive name) e)
@@ -111,7 +111,7 @@ module _ (around : ℕ → ℕ → Bool) (forest : IsForest around) (place : Opt
   told (Some true) false (Some s) bit asked e = decided_once (at asked) (says around name false asked) (sealed around s.name s.positive asked)
   told (Some false) true (Some s) bit asked e = decided_once (at asked) (says around name true asked) (sealed around s.name s.positive asked)
 
-  pub state_after : (known : Option Bool) (positive : Bool) (seal : Option Step) (bit : Bool) → before seal name ≡ known
+  pub state_after : (known : Option Bool) (positive : Bool) (seal : Option NamedLiteral) (bit : Bool) → before seal name ≡ known
       → IsState around (next known positive seal bit).group.place (denied_next around known name positive denied)
   state_after None positive (Some s) bit e = absurd (never_open (at name) (sealed around s.name s.positive name) e)
   state_after None true None bit e = placed_state around forest place denied name state (unsealed None e)

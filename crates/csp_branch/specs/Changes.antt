@@ -4,11 +4,11 @@ use Rattle.std.specs.List.{slice_index_or}
 use Rattle.csp_branch.specs.Marks.{mark_at, marks_of}
 use Rattle.csp_branch.specs.Paths.{Path, path_of, AreNamed}
 use Rattle.csp_branch.specs.declared.branch.Change.{Change}
-use Rattle.csp_branch.specs.declared.step.Step.{Step}
+use Rattle.csp_branch.specs.declared.named_literal.NamedLiteral.{NamedLiteral}
 
 -- the change is that of the path's last literal: it has what the literals before that one left at its name
 pub record IsLast (change : Change) (path : Path) : Type 0 where
-  pub before : List Step
+  pub before : List NamedLiteral
   pub named : AreNamed path.atoms (before ++ change.step ∷ [])
   pub literals : path ≡ path_of path.atoms (before ++ change.step ∷ [])
   pub was : change.was ≡ mark_at path.atoms (marks_of path.atoms before) change.step.name

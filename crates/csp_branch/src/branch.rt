@@ -9,10 +9,10 @@ ghost use Rattle.csp_branch.specs.Paths.{literal_in};
 ghost use Rattle.csp_branch.specs.Places.{IsPlace};
 
 use crate::group::{group_count, group_of};
-use crate::mark::{Group, Mark, known_of};
+use crate::mark::{GroupState, Mark, known_of};
+use crate::named_literal::NamedLiteral;
 use crate::names::Names;
 use crate::order::part_number;
-use crate::step::Step;
 use csp_model::{CheckPart, Memory, Trace};
 use std::alloc::Global;
 use std::marker::Model;
@@ -25,10 +25,10 @@ use std::marker::Model;
 #[derive(Drop)]
 pub struct Branch {
     names: Names,
-    groups: Vec<Group>,
+    groups: Vec<GroupState>,
     // Of each name whether it was denied while it was open.
     denied: Vec<bool>,
-    path: Trace<Step>,
+    path: Trace<NamedLiteral>,
 }
 
 impl Model for Branch {
@@ -46,7 +46,7 @@ impl Model for Branch {
 #[derive(Clone, Copy, Debug)]
 pub struct Change {
     /// The literal.
-    pub step: Step,
+    pub step: NamedLiteral,
     // What stood at its name before.
     was: Mark,
 }
@@ -56,7 +56,7 @@ impl Branch {
     pub fn new(alloc: Global, names: Names) -> Result<Branch, Memory>
         ensures { IfOk result (λ made. made ≡ record { atoms = names; literals = [] }) }
     {
-        let group = Group {
+        let group = GroupState {
             place: None,
             seal: None,
         };
@@ -116,7 +116,7 @@ impl Branch {
             denied: self.denied[name],
         };
         let known = known_of(&self.names, was.group, &self.denied, name);
-        let step = Step { name, positive };
+        let step = NamedLiteral { name, positive };
         let mark = was.after(known, step);
         self.groups[number] = mark.group;
         self.denied[name] = mark.denied;

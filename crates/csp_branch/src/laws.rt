@@ -12,7 +12,7 @@ ghost use Rattle.csp_branch.specs.Groups.{group_in};
 ghost use Rattle.csp_branch.specs.Marks.{known_in, mark_at, marked, marks_of, with_mark};
 ghost use Rattle.csp_branch.specs.Paths.{AreNamed, Path, literal_in, path_of};
 ghost use Rattle.csp_branch.specs.declared.branch.Change.{Change as ChangeValue};
-ghost use Rattle.csp_branch.specs.declared.step.Step.{Step as StepValue};
+ghost use Rattle.csp_branch.specs.declared.named_literal.NamedLiteral.{NamedLiteral as StepValue};
 
 /// One literal more at the end of a path, where the first that decides an atom decides it.
 pub fn a_path_grows_by_a_literal()

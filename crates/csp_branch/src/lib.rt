@@ -15,15 +15,15 @@ mod group;
 pub mod laws;
 mod mark;
 pub mod name_laws;
+mod named_literal;
 mod names;
 mod order;
 mod ranges;
 mod sorting;
-mod step;
 mod walker;
 
 pub use branch::{Branch, Change};
+pub use named_literal::NamedLiteral;
 pub use names::Names;
 pub use order::part_number;
-pub use step::Step;
 pub use walker::Walker;

@@ -5,36 +5,36 @@ ghost use Rattle.csp_facts.specs.Follows.{false_where, or_else};
 ghost use Rattle.csp_branch.specs.Numbers.{around_in};
 ghost use Rattle.csp_branch.specs.Marks as spec;
 
+use crate::named_literal::NamedLiteral;
 use crate::names::Names;
-use crate::step::Step;
 
 // What literals say of a group of names.
 #[derive(Clone, Copy, Debug)]
-pub(crate) struct Group {
+pub(crate) struct GroupState {
     // The innermost atom that holds: the last one that was said to hold while it was open.
     pub(crate) place: Option<usize>,
     // The first literal that was contrary to what was known of its atom: it decides each atom of the group
     // that was open.
-    pub(crate) seal: Option<Step>,
+    pub(crate) seal: Option<NamedLiteral>,
 }
 
 // What stands at a name: what is said of its group, and whether its own atom was denied.
 #[derive(Clone, Copy, Debug)]
 pub(crate) struct Mark {
-    pub(crate) group: Group,
+    pub(crate) group: GroupState,
     pub(crate) denied: bool,
 }
 
 impl Mark {
     // The mark after one literal more of this name, where so much was known of its atom. An open atom becomes
     // the place, or is denied. What is known already changes nothing if it is said again.
-    pub(crate) fn after(self, known: Option<bool>, step: Step) -> Mark
+    pub(crate) fn after(self, known: Option<bool>, step: NamedLiteral) -> Mark
         ensures { result ≡ spec.after known step self }
     {
         match known {
             None => {
                 if step.positive {
-                    self.placed(step.name)
+                    self.with_place(step.name)
                 } else {
                     Mark {
                         denied: true,
@@ -46,16 +46,16 @@ impl Mark {
                 if value == step.positive {
                     self
                 } else {
-                    self.sealed(step)
+                    self.with_seal(step)
                 }
             }
         }
     }
 
-    fn placed(self, name: usize) -> Mark
+    fn with_place(self, name: usize) -> Mark
         ensures { result ≡ spec.placed name self }
     {
-        let group = Group {
+        let group = GroupState {
             place: Some(name),
             ..self.group
         };
@@ -63,13 +63,13 @@ impl Mark {
     }
 
     // The mark after a contrary literal. A seal that stands there already stays.
-    fn sealed(self, step: Step) -> Mark
+    fn with_seal(self, step: NamedLiteral) -> Mark
         ensures { result ≡ spec.sealed_by step self }
     {
         if self.group.seal.is_some() {
             return self;
         }
-        let group = Group {
+        let group = GroupState {
             seal: Some(step),
             ..self.group
         };
@@ -79,7 +79,12 @@ impl Mark {
 
 // What is known of an atom, by what is said of its group and by the atoms that were denied. What is around
 // the place is true, what is apart from it is false.
-pub(crate) fn known_of(names: &Names, group: Group, denied: &[bool], asked: usize) -> Option<bool>
+pub(crate) fn known_of(
+    names: &Names,
+    group: GroupState,
+    denied: &[bool],
+    asked: usize,
+) -> Option<bool>
     requires asked { asked < length names.now }
     requires denied { length denied.now ≡ length names.now }
     requires clear { ForSome group.place
@@ -100,7 +105,7 @@ pub(crate) fn known_of(names: &Names, group: Group, denied: &[bool], asked: usiz
 }
 
 // What is known of an atom that the place is around, or where there is no place.
-fn known_inside(names: &Names, group: Group, denied: &[bool], asked: usize) -> Option<bool>
+fn known_inside(names: &Names, group: GroupState, denied: &[bool], asked: usize) -> Option<bool>
     requires asked { asked < length names.now }
     requires denied { length denied.now ≡ length names.now }
     requires clear { ForSome group.place

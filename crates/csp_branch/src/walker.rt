@@ -7,8 +7,8 @@ ghost use Rattle.csp_branch.specs.declared.branch.Change.{Change as ChangeValue}
 
 use crate::branch::{Branch, Change};
 use crate::laws::a_walk_keeps_the_changes_of_its_path;
+use crate::named_literal::NamedLiteral;
 use crate::names::Names;
-use crate::step::Step;
 use csp_facts::Atom;
 use csp_model::Memory;
 use std::alloc::Global;
@@ -137,7 +137,7 @@ impl Walker {
     }
 
     /// Takes the last literal back, if there is one.
-    pub fn take_back(&mut self) -> Option<Step>
+    pub fn take_back(&mut self) -> Option<NamedLiteral>
         ensures { MatchOption result
             ((self.old.literals ≡ []) × (self.new ≡ self.old))
             (λ last. (last.name < length self.new.atoms) × (length self.new.literals < self.new.room)

@@ -11,8 +11,8 @@ use Rattle.csp_facts.specs.Shapes.{is_shape}
 use Rattle.csp_facts.specs.declared.shape.Shape.{Shape}
 use Rattle.csp_proof.specs.Pairs.{Pair, shapes, enforced}
 use Rattle.csp_facts.proofs.Listed.{numbered as numbers_of_shapes}
-use Rattle.csp_checker.specs.Asked.{due, numbered}
-use Rattle.csp_checker.specs.declared.asked.NumberedPair.{NumberedPair}
+use Rattle.csp_checker.specs.PreparedClaim.{due, numbered}
+use Rattle.csp_checker.specs.declared.prepared_claim.NumberedPair.{NumberedPair}
 
 abbrev pairs_with : List ℕ → Shape → List Pair
 pairs_with policies kind = map (λ (n : ℕ). record { shape = kind; policy = n }) policies

@@ -19,7 +19,7 @@ use Rattle.csp_formula.specs.Compiled.{policy_sentence}
 use Rattle.csp_formula.specs.Surely.{surely}
 use Rattle.csp_answer.specs.Answers.{IsAnswer, sentence_in}
 use Rattle.csp_answer.specs.Tables.{AreAnswers, AreKinds, Says, answer_at, answer_of}
-use Rattle.csp_answer.specs.declared.answer.Answer.{Answer}
+use Rattle.csp_answer.specs.declared.answer.ShapeAnswer.{ShapeAnswer}
 use Rattle.csp_answer.specs.declared.policy.PolicyAnswers.{PolicyAnswers}
 use Rattle.csp_answer.specs.declared.table.AnswerTable.{AnswerTable}
 use Rattle.csp_proof.specs.Accepts.{Lists, hashes_in, is_surely, policy_is}
@@ -27,11 +27,11 @@ use Rattle.csp_proof.specs.Pairs.{Pair}
 use Rattle.csp_proof.specs.declared.proof.Node.{Node}
 use Rattle.csp_proof.specs.declared.proof.Node.TheVariants as node
 use Rattle.csp_proof.specs.declared.proof.Tree.{Tree}
-use Rattle.csp_checker.specs.Asked.{AreAlike, Fits, IsFor, SayTheSame, lists_of}
+use Rattle.csp_checker.specs.PreparedClaim.{AreAlike, Fits, IsFor, SayTheSame, lists_of}
 use Rattle.csp_checker.specs.Leaves.{AnswerAt, is_enforced, known, rule_by, rule_for}
 use Rattle.csp_branch.specs.Walks.{Position}
 use Rattle.csp_checker.specs.Walk.{is_unmet}
-use Rattle.csp_checker.specs.declared.asked.Asked.{Asked}
+use Rattle.csp_checker.specs.declared.prepared_claim.PreparedClaim.{PreparedClaim}
 use Rattle.csp_checker.proofs.Formed.{all_at}
 use Rattle.csp_checker.proofs.Law.{TellTheSame}
 
@@ -60,7 +60,7 @@ flattened f (Some x) = refl
 
 module _ (atoms : List Atom) (hashes : List Hash) (policies : List Policy) (each : List PolicyAnswers) (are : AreAnswers atoms hashes policies each) where
   found : (n : ℕ) (policy : Policy) (kind : Shape) → slice_get policies n ≡ Some policy → IsTrue (is_shape kind)
-      → (answer : Answer) × (answer_of each n (number kind) ≡ Some answer) × Says atoms (policy_sentence policy kind hashes) answer
+      → (answer : ShapeAnswer) × (answer_of each n (number kind) ≡ Some answer) × Says atoms (policy_sentence policy kind hashes) answer
   found n policy kind at listed =
       let inside : n < length each = omega (arith, are.long, slice_get_within policies n policy at) in
       let own = element each n inside in
@@ -71,12 +71,12 @@ module _ (atoms : List Atom) (hashes : List Hash) (policies : List Policy) (each
       → known atoms ls each n (number kind) ≡ surely ls (policy_sentence policy kind hashes)
   known_is n policy kind at listed ls =
       let f = found n policy kind at listed in
-      ap (option_and_then (λ (answer : Answer). surely ls (sentence_in atoms answer))) f.1 ∙ f.2.says ls
+      ap (option_and_then (λ (answer : ShapeAnswer). surely ls (sentence_in atoms answer))) f.1 ∙ f.2.says ls
 
   -- at each number of a shape
   pub answers_there : (shape : ℕ) → shape < shape_count → AnswerAt (length atoms) shape each
   answers_there shape inside n = by (answer_of each n shape) refl where
-    by : (o : Option Answer) → answer_of each n shape ≡ o → IfSome o (IsAnswer (length atoms))
+    by : (o : Option ShapeAnswer) → answer_of each n shape ≡ o → IfSome o (IsAnswer (length atoms))
     by None is = tt
     by (Some answer) is =
         let kind = shape_of_number shape inside in
@@ -98,7 +98,7 @@ module _ (atoms : List Atom) (hashes : List Hash) (policies : List Policy) (each
   answers_alike : (one other : ℕ) → map (answer_at one) each ≡ map (answer_at other) each → (n : ℕ) → answer_of each n one ≡ answer_of each n other
   answers_alike one other same n =
       flattened (answer_at one) (slice_get each n)
-      ∙ ap flat (sym (slice_get-map (answer_at one) each n) ∙ ap (λ (os : List (Option Answer)). slice_get os n) same ∙ slice_get-map (answer_at other) each n)
+      ∙ ap flat (sym (slice_get-map (answer_at one) each n) ∙ ap (λ (os : List (Option ShapeAnswer)). slice_get os n) same ∙ slice_get-map (answer_at other) each n)
       ∙ sym (flattened (answer_at other) (slice_get each n))
 
   alike : (one other : Shape) → IsTrue (is_shape one) → IsTrue (is_shape other) → map (answer_at (number one)) each ≡ map (answer_at (number other)) each
@@ -107,7 +107,7 @@ module _ (atoms : List Atom) (hashes : List Hash) (policies : List Policy) (each
       let policy = get_or policies i d in
       let at = slice_get-get_or policies i d inside in
       sym (known_is i policy one at one_listed ls)
-      ∙ ap (option_and_then (λ (answer : Answer). surely ls (sentence_in atoms answer))) (answers_alike (number one) (number other) same i)
+      ∙ ap (option_and_then (λ (answer : ShapeAnswer). surely ls (sentence_in atoms answer))) (answers_alike (number one) (number other) same i)
       ∙ known_is i policy other at other_listed ls
 
 -- at shapes of one kind policies say the same, where they answer the same
@@ -121,7 +121,7 @@ kinds_alike atoms lists table first second are = λ one other one_listed other_l
     )
 
 -- by the answers the same is told as by the definition
-pub told : (asked : Asked) (walker : Position) → Fits asked walker → (pair : Pair) (tree : Tree) → IsFor pair tree
+pub told : (asked : PreparedClaim) (walker : Position) → Fits asked walker → (pair : Pair) (tree : Tree) → IsFor pair tree
     → (n : Node) → TellTheSame (rule_by walker.atoms asked tree) (rule_for (lists_of asked) pair) n
 told asked walker fit pair tree for (node.Split atom) ls = refl
 told asked walker fit pair tree for (node.Blocked policy) ls =

@@ -11,8 +11,8 @@ use Rattle.csp_proof.specs.Pairs.{Pair}
 use Rattle.csp_proof.specs.declared.proof.Body.TheVariants as body
 use Rattle.csp_proof.specs.declared.proof.Node.{Node}
 use Rattle.csp_proof.specs.declared.proof.Tree.{Tree}
-use Rattle.csp_checker.specs.Asked.{IsAsked, IsFor, IsReached, KeepsFor, bad_in, due, lists_of, trees_of}
-use Rattle.csp_checker.specs.declared.asked.Asked.{Asked}
+use Rattle.csp_checker.specs.PreparedClaim.{IsAsked, IsFor, IsReached, KeepsFor, bad_in, due, lists_of, trees_of}
+use Rattle.csp_checker.specs.declared.prepared_claim.PreparedClaim.{PreparedClaim}
 use Rattle.csp_checker.proofs.Judged.{pair_listed, pre_for, shares_nodes}
 use Rattle.csp_checker.proofs.Lines.{judged_alike, none_at_all}
 use Rattle.csp_checker.proofs.Tables.{told_alike, unmet_alike}
@@ -39,7 +39,7 @@ kept_shared lists trees (Some pair) tree n owner nodes listed shares there has g
     }
 
 -- the nodes that are for any policy, by what is kept of the trees
-unmet_nodes : (asked : Asked) → IsAsked asked → (n : ℕ) (owner : Tree) (nodes : List Node) → slice_get (trees_of asked) n ≡ Some owner
+unmet_nodes : (asked : PreparedClaim) → IsAsked asked → (n : ℕ) (owner : Tree) (nodes : List Node) → slice_get (trees_of asked) n ≡ Some owner
     → owner.body ≡ body.Nodes nodes → slice_get asked.unmet.items n ≡ Some true → list_all is_unmet nodes ≡ true
 unmet_nodes asked is n owner nodes there has any =
     let told = ap (λ (bs : List Bool). slice_get bs n) is.unmet ∙ slice_get-map (λ (tree : Tree). is_unmet_below tree.body) (trees_of asked) n
@@ -47,7 +47,7 @@ unmet_nodes asked is n owner nodes there has any =
     sym (ap is_unmet_below has) ∙ same_Some (is_unmet_below owner.body) true (sym told ∙ any)
 
 -- what keeps the rules of one pair keeps those of the other, where the same is asked
-alike : (asked : Asked) → IsAsked asked → (for_any : Bool) (n : ℕ) (owner : Tree) (nodes : List Node) → slice_get (trees_of asked) n ≡ Some owner
+alike : (asked : PreparedClaim) → IsAsked asked → (for_any : Bool) (n : ℕ) (owner : Tree) (nodes : List Node) → slice_get (trees_of asked) n ≡ Some owner
     → owner.body ≡ body.Nodes nodes → (for_any ≡ true → slice_get asked.unmet.items n ≡ Some true)
     → (one other : Pair) → IsTrue (is_shape one.shape) → IsTrue (is_shape other.shape) → (for_any ≡ false → one.policy ≡ other.policy)
     → slice_get asked.table.kinds (number one.shape) ≡ slice_get asked.table.kinds (number other.shape)
@@ -60,7 +60,7 @@ alike asked is false n owner nodes there has any one other one_listed other_list
     (λ i d inside. told_alike (lists_of asked) asked.table is.alike one other one_listed other_listed kinds (policies refl) (get_or nodes i d))
 
 -- what is kept for an earlier tree's pair is kept for this one's, where both trees ask the same
-passed_on : (asked : Asked) → IsAsked asked → (for_any : Bool) (tree earlier : Tree) (n : ℕ) (owner : Tree) (nodes : List Node)
+passed_on : (asked : PreparedClaim) → IsAsked asked → (for_any : Bool) (tree earlier : Tree) (n : ℕ) (owner : Tree) (nodes : List Node)
     → slice_get (trees_of asked) n ≡ Some owner → owner.body ≡ body.Nodes nodes → (for_any ≡ true → slice_get asked.unmet.items n ≡ Some true)
     → (for_any ≡ false → tree.policy ≡ earlier.policy) → slice_get asked.table.kinds tree.shape ≡ slice_get asked.table.kinds earlier.shape
     → KeptBy (lists_of asked) earlier nodes → (pair : Pair) → IsFor pair tree → bad_tree (lists_of asked) pair 0 (cases_in nodes) ≡ None
@@ -71,7 +71,7 @@ passed_on asked is for_any tree earlier n owner nodes there has any policies kin
     ∙ own.keeps
 
 -- nodes of a tree before this one
-pub owned_good : (asked : Asked) → IsAsked asked → (for_any : Bool) (count : ℕ) (tree : Tree) → IsReached asked count tree
+pub owned_good : (asked : PreparedClaim) → IsAsked asked → (for_any : Bool) (count : ℕ) (tree : Tree) → IsReached asked count tree
     → (n : ℕ) (owner : Tree) (nodes : List Node) → n < count → slice_get (trees_of asked) n ≡ Some owner → owner.body ≡ body.Nodes nodes
     → (for_any ≡ true → slice_get asked.unmet.items n ≡ Some true)
     → (for_any ≡ false → tree.policy ≡ owner.policy) → slice_get asked.table.kinds tree.shape ≡ slice_get asked.table.kinds owner.shape
@@ -81,7 +81,7 @@ owned_good asked is for_any count tree reached n owner nodes before there has an
     (kept_by (lists_of asked) (trees_of asked) (slice_get (due asked.second.now) n) owner nodes (pair_listed asked n) has (reached.before n owner before there))
 
 -- nodes that a tree before this one shares
-pub walked_good : (asked : Asked) → IsAsked asked → (for_any : Bool) (count : ℕ) (tree : Tree) → IsReached asked count tree
+pub walked_good : (asked : PreparedClaim) → IsAsked asked → (for_any : Bool) (count : ℕ) (tree : Tree) → IsReached asked count tree
     → (k : ℕ) (earlier : Tree) (n : ℕ) → k < count → slice_get (trees_of asked) k ≡ Some earlier → earlier.body ≡ body.Same n
     → (for_any ≡ true → slice_get asked.unmet.items n ≡ Some true)
     → (for_any ≡ false → tree.policy ≡ earlier.policy) → slice_get asked.table.kinds tree.shape ≡ slice_get asked.table.kinds earlier.shape

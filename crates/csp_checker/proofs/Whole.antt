@@ -11,7 +11,7 @@ use Rattle.csp_proof.specs.Pairs.{Pair}
 use Rattle.csp_proof.specs.declared.proof.Body.TheVariants as body
 use Rattle.csp_proof.specs.declared.proof.Node.{Node}
 use Rattle.csp_proof.specs.declared.proof.Tree.{Tree}
-use Rattle.csp_checker.specs.Asked.{IsFor, bad_in}
+use Rattle.csp_checker.specs.PreparedClaim.{IsFor, bad_in}
 use Rattle.csp_checker.proofs.Lines.{none_at_all}
 
 drop_nil : (k : ℕ) → drop {A = Pair} k [] ≡ []

@@ -8,14 +8,14 @@ use Rattle.csp_facts.specs.declared.atom.Literal.{Literal}
 use Rattle.csp_formula.specs.Surely.{surely}
 use Rattle.csp_answer.specs.Answers.{IsAnswer, sentence_in}
 use Rattle.csp_answer.specs.Tables.{answer_of}
-use Rattle.csp_answer.specs.declared.answer.Answer.{Answer}
+use Rattle.csp_answer.specs.declared.answer.ShapeAnswer.{ShapeAnswer}
 use Rattle.csp_answer.specs.declared.policy.PolicyAnswers.{PolicyAnswers}
 use Rattle.csp_proof.specs.Accepts.{Lists, blocks, is_met, is_surely}
 use Rattle.csp_proof.specs.Pairs.{Pair}
 use Rattle.csp_proof.specs.declared.proof.Node.{Node}
 use Rattle.csp_proof.specs.declared.proof.Node.TheVariants as node
 use Rattle.csp_proof.specs.declared.proof.Tree.{Tree}
-use Rattle.csp_checker.specs.declared.asked.Asked.{Asked}
+use Rattle.csp_checker.specs.declared.prepared_claim.PreparedClaim.{PreparedClaim}
 
 -- By the definition, for a pair. A split has no rule to keep.
 
@@ -34,10 +34,10 @@ is_enforced None = false
 -- what is decided of what the policy of this number answers at the shape of that number
 abbrev pub known : List Atom → List Literal → List PolicyAnswers → ℕ → ℕ → Option Bool
 known atoms literals answers policy shape =
-    option_and_then (λ (answer : Answer). surely literals (sentence_in atoms answer))
+    option_and_then (λ (answer : ShapeAnswer). surely literals (sentence_in atoms answer))
     (answer_of answers policy shape)
 
-abbrev pub rule_by : List Atom → Asked → Tree → List Literal → Node → Bool
+abbrev pub rule_by : List Atom → PreparedClaim → Tree → List Literal → Node → Bool
 rule_by atoms asked tree literals (node.Split atom) = true
 rule_by atoms asked tree literals (node.Blocked policy) =
     is_enforced (slice_get asked.first.now.policies policy)

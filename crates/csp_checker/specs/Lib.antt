@@ -1,4 +1,4 @@
-pub mod Asked
+pub mod PreparedClaim
 pub mod Checked
 pub mod Leaves
 pub mod Walk

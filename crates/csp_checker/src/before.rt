@@ -1,9 +1,9 @@
 //! What was judged before: nodes that need no second walk.
 ghost use Rattle.std.specs.Prelude.{◌≡◌, IsTrue, Some, false, slice_get, true};
 ghost use Rattle.csp_proof.specs.declared.proof.Body.TheVariants.{Same};
-ghost use Rattle.csp_checker.specs.Asked.{IsAsked, IsReached, KeepsFor};
+ghost use Rattle.csp_checker.specs.PreparedClaim.{IsAsked, IsReached, KeepsFor};
 
-use crate::asked::Asked;
+use crate::prepared_claim::PreparedClaim;
 use csp_answer::AnswerTable;
 use csp_proof::{Body, Tree};
 
@@ -34,7 +34,7 @@ fn shares(tree: &Tree, number: u32) -> bool
 }
 
 // Whether the tree of this number has nodes that are for any policy.
-pub(crate) fn are_for_any(asked: &Asked, number: u32) -> bool
+pub(crate) fn are_for_any(asked: &PreparedClaim, number: u32) -> bool
     ensures { IsTrue result → slice_get asked.now.unmet.items number ≡ Some true }
 {
     match asked.unmet.get(number as usize) {
@@ -45,7 +45,7 @@ pub(crate) fn are_for_any(asked: &Asked, number: u32) -> bool
 
 // Whether a tree before this one that has the nodes of the other asks the same. Then it was walked.
 pub(crate) fn was_walked(
-    asked: &Asked,
+    asked: &PreparedClaim,
     number: usize,
     tree: &Tree,
     other: u32,

@@ -6,8 +6,8 @@ ghost use Rattle.csp_proof.specs.Accepts.{first_bad_node};
 ghost use Rattle.csp_proof.specs.WellFormed.{IsWellFormed};
 ghost use Rattle.csp_checker.specs.Checked.{Claim};
 
-use crate::asked::Asked;
 use crate::making::{pairs_of, splits_of, unmet_of};
+use crate::prepared_claim::PreparedClaim;
 use crate::trees::first_bad_line;
 use csp_answer::{NamedAnswers, answers_of};
 use csp_branch::Walker;
@@ -28,13 +28,13 @@ pub struct Rejected {
 /// A checker of one proof that a list of policies is at least as strict as another.
 #[derive(Drop)]
 pub struct Checker<'a> {
-    asked: Asked<'a>,
+    asked: PreparedClaim<'a>,
     walker: Walker,
 }
 
 impl<'a> Model for Checker<'a> {
     ghost use Rattle.csp_model.specs.Policies.{IsReadable};
-    ghost use Rattle.csp_checker.specs.Asked.{Fits, IsAsked};
+    ghost use Rattle.csp_checker.specs.PreparedClaim.{Fits, IsAsked};
     ghost use Rattle.csp_checker.specs.Checked.{Claim};
 
     ghost Value = { Claim };
@@ -74,7 +74,7 @@ impl<'a> Checker<'a> {
             &splits.atoms,
         )?;
         let _last_line = proof.last_line;
-        let asked = Asked {
+        let asked = PreparedClaim {
             first,
             second,
             proof,

@@ -5,14 +5,14 @@ ghost use Rattle.csp_answer.specs.Answers.{IsAnswer};
 ghost use Rattle.csp_answer.specs.Tables.{answer_of};
 ghost use Rattle.csp_checker.specs.Leaves as spec;
 
-use crate::asked::Asked;
-use csp_answer::{PolicyAnswers, decided};
+use crate::prepared_claim::PreparedClaim;
+use csp_answer::{PolicyAnswers, decide};
 use csp_branch::Branch;
 use csp_model::{Disposition, List, PolicyList};
 use csp_proof::{Node, Tree};
 
 // Whether a leaf of the tree keeps its rule where these literals lead to it. A split has none to keep.
-pub(crate) fn keeps_rule(asked: &Asked, tree: &Tree, node: &Node, branch: &Branch) -> bool
+pub(crate) fn keeps_rule(asked: &PreparedClaim, tree: &Tree, node: &Node, branch: &Branch) -> bool
     requires first { spec.AnswerAt (length branch.now.atoms) tree.now.shape asked.now.table.first }
     requires second { spec.AnswerAt (length branch.now.atoms) tree.now.shape asked.now.table.second }
     ensures { result
@@ -51,7 +51,7 @@ fn known(answers: &List<PolicyAnswers>, policy: u32, shape: u8, branch: &Branch)
     ensures { result ≡ spec.known branch.now.atoms branch.now.literals answers.now policy shape }
 {
     let answer = answers.get(policy as usize)?.at(shape as usize)?;
-    decided(branch, answer)
+    decide(branch, answer)
 }
 
 fn is_surely(expected: bool, known: Option<bool>) -> bool

@@ -3,11 +3,11 @@
 //! It knows nothing of how a proof was found. Once a checker is made, no call takes memory.
 #![tactic(auto)]
 
-mod asked;
 mod before;
 mod checker;
 mod leaf;
 mod making;
+mod prepared_claim;
 mod trees;
 mod walk;
 

@@ -4,10 +4,10 @@ ghost use Rattle.std.specs.List.{flat_map, list_all};
 ghost use Rattle.csp_model.specs.Policies.{policy_limit};
 ghost use Rattle.csp_branch.specs.Sorting.{referred};
 ghost use Rattle.csp_proof.specs.declared.proof.Tree.{Tree as TreeValue};
-ghost use Rattle.csp_checker.specs.Asked.{due, numbered};
+ghost use Rattle.csp_checker.specs.PreparedClaim.{due, numbered};
 ghost use Rattle.csp_checker.specs.Walk.{atoms_below, atoms_of, is_unmet, is_unmet_below};
 
-use crate::asked::NumberedPair;
+use crate::prepared_claim::NumberedPair;
 use csp_facts::Atom;
 use csp_model::{Memory, PolicyList};
 use csp_proof::{Body, Node, Tree};

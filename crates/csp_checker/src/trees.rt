@@ -4,17 +4,17 @@ ghost use Rattle.csp_proof.specs.Accepts as accepts;
 ghost use Rattle.csp_proof.specs.Pairs.{Pair};
 ghost use Rattle.csp_proof.specs.WellFormed.{body_at};
 ghost use Rattle.csp_proof.specs.declared.proof.Body.TheVariants.{Same};
-ghost use Rattle.csp_checker.specs.Asked.{Fits, IsAsked, IsFor, IsReached, bad_in, bad_line as first_bad_of};
-ghost use Rattle.csp_checker.specs.Asked.{due, lists_of, numbers_fit, trees_of};
+ghost use Rattle.csp_checker.specs.PreparedClaim.{Fits, IsAsked, IsFor, IsReached, bad_in, bad_line as first_bad_of};
+ghost use Rattle.csp_checker.specs.PreparedClaim.{due, lists_of, numbers_fit, trees_of};
 
-use crate::asked::{Asked, NumberedPair};
 use crate::before::{are_for_any, asks_the_same, was_walked};
+use crate::prepared_claim::{NumberedPair, PreparedClaim};
 use crate::walk::first_bad;
 use csp_branch::Walker;
 use csp_proof::{Body, Tree};
 
 // The line of the first failure of the whole proof.
-pub(crate) fn first_bad_line(asked: &Asked, walker: &mut Walker) -> Option<u128>
+pub(crate) fn first_bad_line(asked: &PreparedClaim, walker: &mut Walker) -> Option<u128>
     requires asked { IsAsked asked.now }
     requires fit { Fits asked.now walker.old }
     ensures bad { result ≡ first_bad_of asked.now }
@@ -33,7 +33,7 @@ pub(crate) fn first_bad_line(asked: &Asked, walker: &mut Walker) -> Option<u128>
 }
 
 // The line of the first failure in the tree of this number.
-fn bad_line(asked: &Asked, number: usize, tree: &Tree, walker: &mut Walker) -> Option<u128>
+fn bad_line(asked: &PreparedClaim, number: usize, tree: &Tree, walker: &mut Walker) -> Option<u128>
     requires asked { IsAsked asked.now }
     requires fit { Fits asked.now walker.old }
     requires reached { IsReached asked.now number tree.now }
@@ -60,7 +60,7 @@ fn is_for(pair: NumberedPair, tree: &Tree) -> bool
 }
 
 // The line of the first failure below the line of a tree that is for its pair.
-fn bad_below(asked: &Asked, number: usize, tree: &Tree, walker: &mut Walker) -> Option<u128>
+fn bad_below(asked: &PreparedClaim, number: usize, tree: &Tree, walker: &mut Walker) -> Option<u128>
     requires asked { IsAsked asked.now }
     requires fit { Fits asked.now walker.old }
     requires reached { IsReached asked.now number tree.now }
@@ -87,7 +87,7 @@ fn bad_below(asked: &Asked, number: usize, tree: &Tree, walker: &mut Walker) -> 
 // walked at a shape of the same kind, and for the same policy or with no leaf that is met, aren't walked
 // again, unless there are so few that a look at the trees before takes longer.
 fn shares_good_nodes(
-    asked: &Asked,
+    asked: &PreparedClaim,
     number: usize,
     tree: &Tree,
     other: u32,

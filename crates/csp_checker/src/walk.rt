@@ -4,19 +4,19 @@ ghost use Rattle.csp_facts.specs.Numbers.{shape_count};
 ghost use Rattle.csp_proof.specs.Accepts as accepts;
 ghost use Rattle.csp_proof.specs.Pairs.{Pair};
 ghost use Rattle.csp_proof.specs.WellFormed.{IsPreorder};
-ghost use Rattle.csp_checker.specs.Asked.{Fits, IsFor, lists_of};
+ghost use Rattle.csp_checker.specs.PreparedClaim.{Fits, IsFor, lists_of};
 ghost use Rattle.csp_checker.specs.Leaves.{rule_by};
 ghost use Rattle.csp_branch.specs.Walks as walks;
 ghost use Rattle.csp_checker.specs.Walk as spec;
 
-use crate::asked::Asked;
 use crate::leaf::keeps_rule;
+use crate::prepared_claim::PreparedClaim;
 use csp_branch::Walker;
 use csp_proof::{Node, Tree};
 
 // The place among these nodes of the first that breaks a rule of the tree, wherever the walker stands.
 pub(crate) fn first_bad(
-    asked: &Asked,
+    asked: &PreparedClaim,
     tree: &Tree,
     nodes: &[Node],
     walker: &mut Walker,
@@ -33,7 +33,7 @@ pub(crate) fn first_bad(
     walk(asked, tree, nodes, walker)
 }
 
-fn walk(asked: &Asked, tree: &Tree, nodes: &[Node], walker: &mut Walker) -> Option<usize>
+fn walk(asked: &PreparedClaim, tree: &Tree, nodes: &[Node], walker: &mut Walker) -> Option<usize>
     requires root { walker.old.literals ≡ [] }
     requires fit { Fits asked.now walker.old }
     requires shape { tree.now.shape < shape_count }

@@ -17,7 +17,7 @@ use Rattle.csp_formula.specs.Compiled.{policy_sentence}
 use Rattle.csp_formula.specs.Surely.{surely}
 use Rattle.csp_answer.specs.Answers.{SaysTheSame, sentence_in}
 use Rattle.csp_answer.specs.Tables.{AreAnswers, Says, answer_at}
-use Rattle.csp_answer.specs.declared.answer.Answer.{Answer}
+use Rattle.csp_answer.specs.declared.answer.ShapeAnswer.{ShapeAnswer}
 use Rattle.csp_answer.specs.declared.policy.PolicyAnswers.{PolicyAnswers}
 use Rattle.csp_proof.specs.Accepts.{Lists, at_line, bad_case, bad_shared, bad_tree, cases_in, first_of, hashes_in, is_surely, literal, policy_is, unless}
 use Rattle.csp_proof.specs.WellFormed.{Cases, Splits, IsBlocked, IsMet, preorder, body_at}
@@ -47,11 +47,11 @@ module _ (names : List Atom) (hashes : List Hash) (policies : List Policy) (each
   says_same n policy answers at own ls =
       let here = held (Says names (policy_sentence policy one hashes)) (answer_at (number one) answers) (are.each n policy answers at own one one_listed) in
       let there = held (Says names (policy_sentence policy other hashes)) (answer_at (number other) answers) (are.each n policy answers at own other other_listed) in
-      let lists = ap (λ (os : List (Option Answer)). slice_get os n) same in
+      let lists = ap (λ (os : List (Option ShapeAnswer)). slice_get os n) same in
       let options = ap (option_map (answer_at (number one))) (sym own) ∙ sym (slice_get-map (answer_at (number one)) each n) ∙ lists
       ∙ slice_get-map (answer_at (number other)) each n ∙ ap (option_map (answer_at (number other))) own in
       let answer : here.0 ≡ there.0 = same_Some here.0 there.0 (sym here.1 ∙ same_Some _ _ options ∙ there.1) in
-      sym (here.2.says ls) ∙ ap (λ (a : Answer). surely ls (sentence_in names a)) answer ∙ there.2.says ls
+      sym (here.2.says ls) ∙ ap (λ (a : ShapeAnswer). surely ls (sentence_in names a)) answer ∙ there.2.says ls
 
   told_same : AreToldTheSame hashes one other policies
   told_same expected ls n = by (slice_get policies n) refl where

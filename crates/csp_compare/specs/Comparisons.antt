@@ -18,8 +18,8 @@ use Rattle.csp_facts.specs.declared.shape.Shape.{Shape}
 use Rattle.csp_compare.specs.Answers.{IsCounterexample}
 use Rattle.csp_compare.specs.Drafts.{Adds, IsShown, at_shape}
 use Rattle.csp_compare.specs.declared.comparison.Comparison.{Comparison}
-use Rattle.csp_compare.specs.declared.comparison.Outcome.{Outcome}
-use Rattle.csp_compare.specs.declared.comparison.Outcome.TheVariants as outcome
+use Rattle.csp_compare.specs.declared.comparison.ShapeOutcome.{ShapeOutcome}
+use Rattle.csp_compare.specs.declared.comparison.ShapeOutcome.TheVariants as outcome
 
 abbrev pub lists_of : Comparison → Lists
 lists_of on = lists_in on.lists
@@ -49,7 +49,7 @@ AreShown on trees shape numbers =
     on.policies.items numbers
 
 -- for each policy there is a tree more, or there is a check of the shape that the second list refuses
-abbrev pub IsOutcome : Comparison → Shape → List Tree → List Tree → Outcome → Type 0
+abbrev pub IsOutcome : Comparison → Shape → List Tree → List Tree → ShapeOutcome → Type 0
 IsOutcome on shape old new (outcome.Shown numbers) =
     Adds (lists_of on) (map (at_shape shape) on.policies.items) old new
     × AreShown on new shape numbers.items

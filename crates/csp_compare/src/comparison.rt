@@ -28,7 +28,7 @@ pub(crate) struct Comparison<'a> {
 
 // What comes of the pairs of one shape with each of the enforced policies.
 #[derive(Drop)]
-enum Outcome {
+enum ShapeOutcome {
     // The numbers of the trees that have the nodes for them.
     Shown { numbers: Vec<u32> },
     // A check that the first list allows and the second doesn't.
@@ -172,11 +172,11 @@ impl<'a> Comparison<'a> {
             return Ok(None);
         }
         match self.search_shape(walker, shape, &mut Draft::new(self.alloc))? {
-            Outcome::Shown { .. } => {
+            ShapeOutcome::Shown { .. } => {
                 known.insert(kind)?;
                 Ok(None)
             }
-            Outcome::Refuted { check } => Ok(Some(check)),
+            ShapeOutcome::Refuted { check } => Ok(Some(check)),
         }
     }
 
@@ -260,11 +260,11 @@ impl<'a> Comparison<'a> {
             return Ok(None);
         }
         match self.search_shape(walker, shape, draft)? {
-            Outcome::Shown { numbers } => {
+            ShapeOutcome::Shown { numbers } => {
                 known.insert(kind, numbers)?;
                 Ok(None)
             }
-            Outcome::Refuted { check } => Ok(Some(check)),
+            ShapeOutcome::Refuted { check } => Ok(Some(check)),
         }
     }
 
@@ -274,7 +274,7 @@ impl<'a> Comparison<'a> {
         walker: &mut Walker,
         shape: Shape,
         draft: &mut Draft,
-    ) -> Result<Outcome, Memory>
+    ) -> Result<ShapeOutcome, Memory>
         requires ready { spec.IsReady self.now walker.old }
         requires listed { IsTrue (is_shape shape) }
         requires room { length draft.old + length self.now.policies.items < 2 ^ 32 }
@@ -292,10 +292,10 @@ impl<'a> Comparison<'a> {
                 Found::Nodes { nodes } => {
                     numbers.push(draft.add(shape_number(shape), *policy, nodes)?)?;
                 }
-                Found::Check { check } => return Ok(Outcome::Refuted { check }),
+                Found::Check { check } => return Ok(ShapeOutcome::Refuted { check }),
             }
         }
-        Ok(Outcome::Shown { numbers })
+        Ok(ShapeOutcome::Shown { numbers })
     }
 
     // Adds a tree for each policy, which shares the nodes of the tree of the number beside it.

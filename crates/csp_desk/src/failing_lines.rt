@@ -57,7 +57,6 @@ impl Reporter for FailingLines {
     }
 
     fn accept(&mut self, alloc: Global, violation: &Violation) -> Result<(), AcceptError>
-        ensures same_kind { kinds.Lines ≡ kinds.Lines }
         ensures later { failing_faults self.old ≤ failing_faults self.new }
         ensures took { OnOk result (failing_held self.new ≡ failing_held self.old ++ violation.now ∷ []) }
         ensures refused { OnErr result (failing_held self.new ≡ failing_held self.old) }

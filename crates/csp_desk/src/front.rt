@@ -27,7 +27,7 @@ fn are_plain(text: &[u8]) -> bool
 }
 
 // A text between quotes, in the shortest escapes.
-fn quoted(alloc: Global, text: &str) -> Result<Vec<u8>, AllocError>
+fn quote(alloc: Global, text: &str) -> Result<Vec<u8>, AllocError>
     ensures { IfOk result (λ made. made.items ≡ quoted text.now) }
 {
     let mut out = Writer::new(Vec::new(alloc));
@@ -41,7 +41,7 @@ fn push_quoted(alloc: Global, text: &mut Vec<u8>, value: &str) -> Result<(), All
     ensures kept { take (length text.old.items) text.new.items ≡ text.old.items }
 {
     if !are_plain(value.as_bytes()) {
-        return text.extend_from_slice(quoted(alloc, value)?.as_slice());
+        return text.extend_from_slice(quote(alloc, value)?.as_slice());
     }
     text.push(b'"')?;
     text.extend_from_slice(value.as_bytes())?;

@@ -3,7 +3,7 @@ ghost use Rattle.std.specs.Prelude.{◌≡◌, ◌∷◌, ◌++◌, [], false, O
 ghost use Rattle.csp_desk.specs.declared.reporter.Kind.TheVariants as kinds;
 
 use crate::reporter::{AcceptError, Kind, Reporter};
-use crate::telling::{Telling, joined};
+use crate::telling::{Telling, concatenate};
 use crate::weave::Weave;
 use csp_model::{Bytes, Memory, Trace, Violation};
 use std::alloc::Global;
@@ -71,7 +71,6 @@ impl Reporter for Lines {
     }
 
     fn accept(&mut self, alloc: Global, violation: &Violation) -> Result<(), AcceptError>
-        ensures same_kind { kinds.Lines ≡ kinds.Lines }
         ensures took { OnOk result (self.new ≡ self.old ++ violation.now ∷ []) }
         ensures kept { OnErr result (self.new ≡ self.old) }
         ensures not_refused { IsErrOf result AcceptError.Refused → ⊥ }
@@ -82,7 +81,7 @@ impl Reporter for Lines {
 
     fn text(&self, alloc: Global) -> Result<Bytes, Memory> {
         let pieces = self.text.pieces(alloc)?;
-        joined(alloc, pieces.as_slice())
+        concatenate(alloc, pieces.as_slice())
     }
 
     fn tell(&self, alloc: Global) -> Result<Telling<'_>, Memory> {

@@ -74,7 +74,6 @@ impl Reporter for Tally {
     }
 
     fn accept(&mut self, _alloc: Global, violation: &Violation) -> Result<(), AcceptError>
-        ensures same_kind { kinds.Tally ≡ kinds.Tally }
         ensures took { OnOk result (self.new ≡ self.old ++ violation.now ∷ []) }
         ensures kept { OnErr result (self.new ≡ self.old) }
         ensures not_refused { IsErrOf result AcceptError.Refused → ⊥ }

@@ -36,7 +36,7 @@ fn push_pieces(text: &mut Vec<u8>, pieces: &[&[u8]]) -> Result<(), Memory>
 }
 
 // The pieces as one text.
-pub(crate) fn joined(alloc: Global, pieces: &[&[u8]]) -> Result<Bytes, Memory>
+pub(crate) fn concatenate(alloc: Global, pieces: &[&[u8]]) -> Result<Bytes, Memory>
     ensures { IfOk result (λ text. text ≡ flat_map (λ piece. piece.now) pieces.now) }
 {
     let mut text = Vec::new(alloc);

@@ -43,7 +43,7 @@ fn false_where(test: bool) -> Option<bool>
     if test { Some(false) } else { None }
 }
 
-fn nested(inner: bool, outer: bool) -> Option<bool>
+fn by_nesting(inner: bool, outer: bool) -> Option<bool>
     ensures { result ≡ spec.nested inner outer }
 {
     if inner {
@@ -82,7 +82,7 @@ fn follows_true(known: &Atom, asked: &Atom) -> Option<bool>
         (Atom::HostIs(host), Atom::HostUnder(suffix)) => Some(host.is_under(suffix.as_str())),
         (Atom::HostIs(host), Atom::HostDomain) => Some(host.is_domain()),
         (Atom::HostUnder(_) | Atom::HostDomain, Atom::HostDomain) => Some(true),
-        (Atom::HostUnder(known), Atom::HostUnder(asked)) => nested(
+        (Atom::HostUnder(known), Atom::HostUnder(asked)) => by_nesting(
             lies_within(known.as_str(), asked.as_str()),
             lies_within(asked.as_str(), known.as_str()),
         ),
@@ -93,7 +93,7 @@ fn follows_true(known: &Atom, asked: &Atom) -> Option<bool>
         (Atom::PortIs(known), Atom::PortIs(asked)) => Some(known == asked),
         (Atom::PathIs(known), Atom::PathIs(asked)) => Some(known == asked),
         (Atom::PathIs(path), Atom::PathUnder(front)) => Some(path.goes_beyond(front)),
-        (Atom::PathUnder(known), Atom::PathUnder(asked)) => nested(
+        (Atom::PathUnder(known), Atom::PathUnder(asked)) => by_nesting(
             known.begins_with(asked),
             asked.begins_with(known),
         ),

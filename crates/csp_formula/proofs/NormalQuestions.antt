@@ -25,7 +25,7 @@ use Rattle.csp_formula.specs.Questions.{has_path, is_dynamic, list_question, ans
 use Rattle.csp_formula.specs.Sentences.{Sentence, Known, Either, any_of}
 use Rattle.csp_formula.specs.Sources.{list_sentence, source_sentence}
 use Rattle.csp_formula.specs.declared.question.ListQuestion.{ListQuestion}
-use Rattle.csp_formula.specs.declared.question.Question.TheVariants as asks
+use Rattle.csp_formula.specs.declared.question.ShapeQuestion.TheVariants as asks
 
 -- Redirects
 

@@ -19,8 +19,8 @@ use Rattle.csp_formula.specs.Compiled.{fetch_sentence, inline_sentence}
 use Rattle.csp_formula.specs.Sentences.{Sentence, Known}
 use Rattle.csp_formula.specs.Sources.{list_sentence}
 use Rattle.csp_formula.specs.declared.question.ListQuestion.{ListQuestion}
-use Rattle.csp_formula.specs.declared.question.Question.{Question}
-use Rattle.csp_formula.specs.declared.question.Question.TheVariants as asks
+use Rattle.csp_formula.specs.declared.question.ShapeQuestion.{ShapeQuestion}
+use Rattle.csp_formula.specs.declared.question.ShapeQuestion.TheVariants as asks
 
 -- a shape with such URLs
 abbrev pub urls_shape : Option Scheme → Bool → Bool → Shape
@@ -46,7 +46,7 @@ list_answer policy hashes q =
     said_by_list (slice_get policy.directives q.place) (answer_of_list policy.origin hashes q)
 
 -- what the policy says to a question, where the vocabulary has these hashes
-abbrev pub question_sentence : Policy → List Hash → Question → Sentence
+abbrev pub question_sentence : Policy → List Hash → ShapeQuestion → Sentence
 question_sentence policy hashes (asks.Known b) = Known b
 question_sentence policy hashes (asks.Listed q) = list_answer policy hashes q
 question_sentence policy hashes (asks.Inline place which) =
@@ -84,5 +84,5 @@ matches_nothing rule.List [] = true
 matches_nothing by sources = false
 
 -- what is asked of a list
-abbrev pub of_list : ListQuestion → List Source → Question
+abbrev pub of_list : ListQuestion → List Source → ShapeQuestion
 of_list q sources = if matches_nothing q.rule sources then asks.Known false else asks.Listed q

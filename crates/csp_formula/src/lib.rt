@@ -11,4 +11,4 @@ pub mod stranger_laws;
 
 pub use digests::source_digest;
 pub use outline::{Outline, PathOutline, PortOutline, source_outline};
-pub use question::{ListQuestion, Question, is_dynamic, question_at, sources_at};
+pub use question::{ListQuestion, ShapeQuestion, is_dynamic, question_at, sources_at};

@@ -22,7 +22,7 @@ use csp_token::Tokens;
 /// What a policy is asked at a shape of checks: all that its formula there depends on. Shapes at which a
 /// policy is asked the same have one formula.
 #[derive(Clone, Copy, Debug, PartialEq, Eq)]
-pub enum Question {
+pub enum ShapeQuestion {
     /// All such checks are allowed, or none is, whatever a source says.
     Known(bool),
     /// What a list says of checks of URLs.
@@ -67,7 +67,7 @@ impl ListQuestion {
 }
 
 /// What a policy is asked at the shape. Its answer is the sentence that the policy has there.
-pub fn question_at(policy: &Policy, shape: Shape) -> Question
+pub fn question_at(policy: &Policy, shape: Shape) -> ShapeQuestion
     ensures { (hashes : Items HashValue) → spec.question_sentence policy.now hashes result
         ≡ compiled.policy_sentence policy.now shape hashes }
 {
@@ -85,14 +85,14 @@ pub fn question_at(policy: &Policy, shape: Shape) -> Question
         Shape::Ancestor { scheme } => {
             listed_question(policy, Name::FrameAncestors, scheme, false, true)
         }
-        Shape::OpaqueAncestor => Question::Known(opaque_ancestor_allows(policy)),
+        Shape::OpaqueAncestor => ShapeQuestion::Known(opaque_ancestor_allows(policy)),
         Shape::Inline { kind } => inline_question(policy, kind),
-        Shape::Eval => Question::Known(eval_allows(policy)),
-        Shape::Wasm => Question::Known(wasm_allows(policy)),
+        Shape::Eval => ShapeQuestion::Known(eval_allows(policy)),
+        Shape::Wasm => ShapeQuestion::Known(wasm_allows(policy)),
         Shape::Capability { capability } => {
-            Question::Known(capability_allows(policy, capability))
+            ShapeQuestion::Known(capability_allows(policy, capability))
         }
-        Shape::WorkerStart => Question::Known(worker_start_allows(policy)),
+        Shape::WorkerStart => ShapeQuestion::Known(worker_start_allows(policy)),
     }
 }
 
@@ -103,7 +103,7 @@ fn listed_question(
     scheme: Option<Scheme>,
     redirected: bool,
     is_ancestor: bool,
-) -> Question
+) -> ShapeQuestion
     ensures { (hashes : Items HashValue) → spec.question_sentence policy.now hashes result
         ≡ compiled.listed_sentence policy.now effective (spec.urls_shape scheme redirected is_ancestor) }
 {
@@ -120,18 +120,18 @@ fn listed_question(
             };
             of_list(asked, &found.directive.sources)
         }
-        _ => Question::Known(true),
+        _ => ShapeQuestion::Known(true),
     }
 }
 
 // What is asked of a list. One that is empty matches nothing, and that is known where it decides alone.
-fn of_list(asked: ListQuestion, sources: &List<Source>) -> Question
+fn of_list(asked: ListQuestion, sources: &List<Source>) -> ShapeQuestion
     ensures { result ≡ spec.of_list asked sources.now }
 {
     if matches!(asked.rule, FetchRule::List) && sources.is_empty() {
-        Question::Known(false)
+        ShapeQuestion::Known(false)
     } else {
-        Question::Listed(asked)
+        ShapeQuestion::Listed(asked)
     }
 }
 
@@ -142,7 +142,7 @@ fn fetch_question(
     scheme: Option<Scheme>,
     redirected: bool,
     parser_inserted: bool,
-) -> Question
+) -> ShapeQuestion
     ensures { (hashes : Items HashValue) → spec.question_sentence policy.now hashes result
         ≡ compiled.group_sentence policy.now group (spec.urls_shape scheme redirected false)
         parser_inserted hashes }
@@ -156,7 +156,7 @@ fn fetch_question(
             let asked = list_question(place, rule, scheme, redirected, parser_inserted, sources);
             of_list(asked, sources)
         }
-        _ => Question::Known(true),
+        _ => ShapeQuestion::Known(true),
     }
 }
 
@@ -214,7 +214,7 @@ pub fn is_dynamic(rule: FetchRule, sources: &List<Source>) -> bool
 
 // What the policy is asked of inline code or style of a kind. All of it is allowed where `'unsafe-inline'`
 // acts.
-fn inline_question(policy: &Policy, kind: InlineKind) -> Question
+fn inline_question(policy: &Policy, kind: InlineKind) -> ShapeQuestion
     ensures { (hashes : Items HashValue) → spec.question_sentence policy.now hashes result
         ≡ compiled.kind_sentence policy.now kind }
 {
@@ -222,10 +222,10 @@ fn inline_question(policy: &Policy, kind: InlineKind) -> Question
     let effective = kind.directive();
     match (governing(policy, effective), governor(policy, effective)) {
         (Some(_), Some(found)) if allows_all_inline(kind, &found.directive.sources) => {
-            Question::Known(true)
+            ShapeQuestion::Known(true)
         }
-        (Some(place), Some(_)) => Question::Inline { place, kind },
-        _ => Question::Known(true),
+        (Some(place), Some(_)) => ShapeQuestion::Inline { place, kind },
+        _ => ShapeQuestion::Known(true),
     }
 }
 

@@ -15,7 +15,7 @@ use crate::sources::list_formula;
 use crate::tokens::{digests_formula, integrity_formula, nonces_formula};
 use csp_facts::{Shape, Vocabulary};
 use csp_formula::laws::a_formula_is_what_the_policy_allows;
-use csp_formula::{ListQuestion, Question, question_at, sources_at};
+use csp_formula::{ListQuestion, ShapeQuestion, question_at, sources_at};
 use csp_model::{FetchRule, InlineKind, Keyword, List, Memory, Origin, Policy, Source};
 use csp_rules::{allows_all_inline, hash_counts, is_element_kind};
 use csp_token::Tokens;
@@ -48,19 +48,19 @@ pub fn compile(
 fn formula_of(
     alloc: Global,
     policy: &Policy,
-    question: Question,
+    question: ShapeQuestion,
     vocabulary: &Vocabulary,
 ) -> Result<Formula, Memory>
     ensures { IfOk result (λ made. sentence_of made
         ≡ question_sentence policy.now vocabulary.now.hashes question) }
 {
     match question {
-        Question::Known(known) => Ok(Formula::Constant(known)),
-        Question::Listed(asked) => match sources_at(policy, asked.place) {
+        ShapeQuestion::Known(known) => Ok(Formula::Constant(known)),
+        ShapeQuestion::Listed(asked) => match sources_at(policy, asked.place) {
             None => Ok(Formula::Constant(true)),
             Some(sources) => list_answer(alloc, &policy.origin, asked, sources, vocabulary),
         },
-        Question::Inline { place, kind } => match sources_at(policy, place) {
+        ShapeQuestion::Inline { place, kind } => match sources_at(policy, place) {
             None => Ok(Formula::Constant(true)),
             Some(sources) => inline_formula(alloc, kind, sources),
         },

@@ -27,7 +27,7 @@ fn value_by(formula: &Formula, literals: &[Literal]) -> Option<bool>
 {
     match formula {
         Formula::Constant(known) => Some(*known),
-        Formula::Fact(atom) => decided(literals, atom),
+        Formula::Fact(atom) => decide_atom(literals, atom),
         Formula::Not(part) => match value_by(part, literals) {
             Some(known) => Some(!known),
             None => None,
@@ -56,7 +56,7 @@ fn value_by(formula: &Formula, literals: &[Literal]) -> Option<bool>
 }
 
 // What the first literal that decides the atom says.
-fn decided(literals: &[Literal], atom: &Atom) -> Option<bool>
+fn decide_atom(literals: &[Literal], atom: &Atom) -> Option<bool>
     ensures { result ≡ literals_say.decided literals.now atom.now }
 {
     for literal in literals {

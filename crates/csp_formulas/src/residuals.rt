@@ -47,7 +47,7 @@ fn left_of(alloc: Global, formula: &Formula, cell: &Cell) -> Result<Formula, Mem
             Some(known) => Ok(Formula::Constant(known)),
             None => Ok(Formula::Fact(atom.copy(alloc)?)),
         },
-        Formula::Not(part) => denied(alloc, left_of(alloc, part, cell)?),
+        Formula::Not(part) => negate(alloc, left_of(alloc, part, cell)?),
         Formula::Every(parts) => left_of_parts(alloc, parts, cell, true),
         Formula::OneOf(parts) => left_of_parts(alloc, parts, cell, false),
     }
@@ -75,11 +75,11 @@ fn left_of_parts(
             rest => left.push(rest)?,
         }
     }
-    Ok(joined(left, every))
+    Ok(join(left, every))
 }
 
 // The and of these parts, or the or.
-fn joined(parts: Vec<Formula>, every: bool) -> Formula
+fn join(parts: Vec<Formula>, every: bool) -> Formula
     ensures says { sentence_of result ≡ joined_by every (map sentence_of parts.items) }
     ensures nothing { parts.items ≡ [] → result ≡ Formula.Constant every }
     ensures some { (parts.items ≡ [] → ⊥)
@@ -94,7 +94,7 @@ fn joined(parts: Vec<Formula>, every: bool) -> Formula
     }
 }
 
-fn denied(alloc: Global, left: Formula) -> Result<Formula, Memory>
+fn negate(alloc: Global, left: Formula) -> Result<Formula, Memory>
     ensures { IfOk result (IsDenied left) }
 {
     match left {

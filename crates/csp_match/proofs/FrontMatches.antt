@@ -8,7 +8,7 @@ use Rattle.csp_model.specs.Paths.{front_text}
 use Rattle.csp_model.proofs.EndLaws.{beyond_Decides}
 use Rattle.csp_model.proofs.MatchingDecided.{pieces_decide}
 use Rattle.csp_model.proofs.PathFronts.{IsRead, begun_from_text, beyond_by_text, further, further_text, longer_beyond, is_read}
-use Rattle.csp_match.specs.Types.{Asked, PathKind}
+use Rattle.csp_match.specs.Types.{HostedUrl, PathKind}
 use Rattle.csp_match.specs.Entries.{Entry, entry_pieces, entry_text, front_fits, scheme_of, target_fits, way_fits, way_port, IsEntry}
 use Rattle.csp_match.specs.Fronts.{Begins}
 use Rattle.csp_match.specs.Keys.{path_of, IsPath, takes}
@@ -22,7 +22,7 @@ begun PathKind.Exact pieces path shape h = ([], sym ((pieces_decide pieces path)
 begun PathKind.Prefix pieces path shape h = let (more, some, e) = (beyond_Decides path pieces).0 h in (more, e)
 
 -- so does its text
-pub fitting_begins : (asked : Asked) (e : Entry) → IsEntry e → target_fits asked e ≡ true → Begins (front_text asked.path.now) (entry_text e)
+pub fitting_begins : (asked : HostedUrl) (e : Entry) → IsEntry e → target_fits asked e ≡ true → Begins (front_text asked.path.now) (entry_text e)
 fitting_begins asked e shape fits =
     let pieces = entry_pieces e in
     let way = way_fits (scheme_of e.1.way) (way_port e.1.way) asked in
@@ -74,7 +74,7 @@ and_swapped false true = refl
 and_swapped false false = refl
 
 -- an entry whose text begins the path's matches by its kind
-pub begun_fits : (asked : Asked) (e : Entry) → IsEntry e → IsRead asked.path.now → Begins (front_text asked.path.now) (entry_text e)
+pub begun_fits : (asked : HostedUrl) (e : Entry) → IsEntry e → IsRead asked.path.now → Begins (front_text asked.path.now) (entry_text e)
     → front_fits asked (length (entry_text e) == length (front_text asked.path.now)) e.1 ≡ target_fits asked e
 begun_fits asked e shape read (rest, is) =
     let pieces = entry_pieces e in

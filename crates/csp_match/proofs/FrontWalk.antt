@@ -9,7 +9,7 @@ use Rattle.std.proofs.lemmas.List.Folds.{list_any_none}
 use Rattle.csp_model.specs.Paths.{front_text}
 use Rattle.csp_model.proofs.PathFronts.{IsRead}
 use Rattle.csp_match.specs.contracts.host_key.HostKeyOrd.TheImpl.Laws.{total-law as host_total}
-use Rattle.csp_match.specs.Types.{Asked, HostKey}
+use Rattle.csp_match.specs.Types.{HostedUrl, HostKey}
 use Rattle.csp_match.specs.Entries.{Entry, entry_text, front_fits, target_fits, IsEntry}
 use Rattle.csp_match.specs.Fronts.{host_cmp, is_up_to, place, within_fits, AreOutersTo, IsLastOuter, IsOuter, IsOuterAt, IsShared, Place, Rises}
 use Rattle.csp_match.proofs.AnyLaws.{first, found, not_true, second}
@@ -77,31 +77,31 @@ outer_here entries outers n next are within at =
 -- ---- which entries match a URL
 
 -- an entry of this host matches
-abbrev pub fits_at : Asked → HostKey → Entry → Bool
+abbrev pub fits_at : HostedUrl → HostKey → Entry → Bool
 fits_at asked host e = is_eq (host_cmp e.0 host) && target_fits asked e
 
 abbrev pub Ends : HostKey → List ℕ → List Entry → ℕ → Type 0
 Ends host path = IsPartitionPoint (λ (e : Entry). is_up_to (host, path) e ≡ true) (λ (e : Entry). is_up_to (host, path) e ≡ false)
 
 -- of the entries that match each is this outer one of the last or stands before it
-abbrev pub IsLeft : Asked → HostKey → List Entry → ℕ → Option ℕ → Type 0
+abbrev pub IsLeft : HostedUrl → HostKey → List Entry → ℕ → Option ℕ → Type 0
 IsLeft asked host entries last (Some m) =
     (m ≤ last) × IsOuterAt entries m last × ((k : ℕ) (d : Entry) → m < k → k < length entries → fits_at asked host (get_or entries k d) ≡ false)
 IsLeft asked host entries last None = All (λ e. fits_at asked host e ≡ false) entries
 
-pub none_fit : (asked : Asked) (host : HostKey) (entries : List Entry) → All (λ e. fits_at asked host e ≡ false) entries
+pub none_fit : (asked : HostedUrl) (host : HostKey) (entries : List Entry) → All (λ e. fits_at asked host e ≡ false) entries
     → false ≡ list_any (fits_at asked host) entries
 none_fit asked host entries unfit = sym (list_any_none (fits_at asked host) entries unfit)
 
 -- so many of the entries aren't behind the path
-pub record IsUpTo (asked : Asked) (host : HostKey) (entries : List Entry) (n : ℕ) : Type 0 where
+pub record IsUpTo (asked : HostedUrl) (host : HostKey) (entries : List Entry) (n : ℕ) : Type 0 where
   pub each : All IsEntry entries
   pub rises : Rises entries
   pub bound : n ≤ length entries
   pub ends : Ends host (front_text asked.path.now) entries n
 
 -- as they are counted
-pub counted : (asked : Asked) (host : HostKey) (entries inside slice : List Entry) (path : List ℕ) (n : ℕ) → All IsEntry entries → Rises inside
+pub counted : (asked : HostedUrl) (host : HostKey) (entries inside slice : List Entry) (path : List ℕ) (n : ℕ) → All IsEntry entries → Rises inside
     → inside ≡ entries → slice ≡ inside → path ≡ front_text asked.path.now → n ≤ length slice → Ends host path slice n → IsUpTo asked host entries n
 counted asked host entries inside slice path n each rises is same text bound ends = record {
   each = each;
@@ -110,7 +110,7 @@ counted asked host entries inside slice path n each rises is same text bound end
   ends = subst (λ (t : List ℕ). Ends host t entries n) text (subst (λ (es : List Entry). Ends host path es n) (same ∙ is) ends);
 }
 
-module _ (asked : Asked) (host : HostKey) (entries : List Entry) (upto : ℕ) (all : IsUpTo asked host entries upto) where
+module _ (asked : HostedUrl) (host : HostKey) (entries : List Entry) (upto : ℕ) (all : IsUpTo asked host entries upto) where
   abbrev here : Place
   here = (host, front_text asked.path.now)
 
@@ -158,7 +158,7 @@ module _ (asked : Asked) (host : HostKey) (entries : List Entry) (upto : ℕ) (a
   left_first last some is = (omega arith, λ d. outer_itself (place (get_or entries last d)), λ k d low within. behind_unfit k d (omega arith) within)
 
 -- an outer entry of the last one, of the path's host, from which the walk goes on
-pub record IsStand (asked : Asked) (host : HostKey) (entries : List Entry) (upto last : ℕ) (end : Entry) (n m : ℕ) (e : Entry) : Type 0 where
+pub record IsStand (asked : HostedUrl) (host : HostKey) (entries : List Entry) (upto last : ℕ) (end : Entry) (n m : ℕ) (e : Entry) : Type 0 where
   pub all : IsUpTo asked host entries upto
   pub some : 1 ≤ upto
   pub is : last ≡ upto - 1
@@ -168,7 +168,7 @@ pub record IsStand (asked : Asked) (host : HostKey) (entries : List Entry) (upto
   pub left : IsLeft asked host entries last (Some m)
   pub at : e ≡ get_or entries m e
 
-module _ {asked : Asked} {host : HostKey} {entries : List Entry} {upto last : ℕ} {end : Entry} {n m : ℕ} {e : Entry}
+module _ {asked : HostedUrl} {host : HostKey} {entries : List Entry} {upto last : ℕ} {end : Entry} {n m : ℕ} {e : Entry}
     (stand : IsStand asked host entries upto last end n m e) where
   low : m < upto
   low = omega (arith, stand.left.0, stand.some, stand.is)

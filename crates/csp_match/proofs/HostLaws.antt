@@ -3,7 +3,7 @@ use Rattle.std.proofs.Common.{◌≡◌, ℕ, Bool, true, false, ◌&&◌, ◌||
 use Rattle.std.specs.List.{list_any}
 use Rattle.std.specs.Str.{bytes_eq}
 use Rattle.csp_model.specs.DecideMatching.{host_matches}
-use Rattle.csp_match.specs.Types.{Host, HostPart, Asked}
+use Rattle.csp_match.specs.Types.{Host, HostPart, HostedUrl}
 use Rattle.csp_model.specs.declared.url.Host.TheVariants.{Domain, Address}
 use Rattle.csp_model.specs.Paths.{host_text}
 use Rattle.csp_match.specs.Keys.{Parts}
@@ -17,7 +17,7 @@ host_first false true true d = refl
 host_first false true false d = refl
 host_first false false c d = refl
 
-pub host_then_rest : (asked : Asked) (sources : List Parts)
+pub host_then_rest : (asked : HostedUrl) (sources : List Parts)
     → list_any (parts_match asked) sources ≡ list_any (λ s. host_matches s.host asked.host.now && rest_matches asked s) sources
 host_then_rest asked sources = any_alike (parts_match asked) (λ (s : Parts). host_matches s.host asked.host.now && rest_matches asked s) sources
     (λ (s : Parts). host_first _ (host_matches s.host asked.host.now) _ _)
@@ -44,7 +44,7 @@ three_or false true true false = refl
 three_or false true false false = refl
 three_or false false c d = refl
 
-domain_matches : (text : List ℕ) (asked : Asked) (sources : List Parts) → asked.host.now ≡ Domain text
+domain_matches : (text : List ℕ) (asked : HostedUrl) (sources : List Parts) → asked.host.now ≡ Domain text
     → list_any (parts_match asked) sources
     ≡ (any_under (HostPart.Exact text) asked sources || (any_under HostPart.Any asked sources || any_suffixed text asked sources))
 domain_matches text asked sources is =
@@ -60,7 +60,7 @@ domain_matches text asked sources is =
     ∙ (any_or exact (λ (s : Parts). any s || suffix s) sources
     ∙ ap (λ (b : Bool). list_any exact sources || b) (any_or any suffix sources)))
 
-address_matches : (text : List ℕ) (asked : Asked) (sources : List Parts) → asked.host.now ≡ Address text
+address_matches : (text : List ℕ) (asked : HostedUrl) (sources : List Parts) → asked.host.now ≡ Address text
     → list_any (parts_match asked) sources ≡ any_under (HostPart.Exact text) asked sources
 address_matches text asked sources is =
     let rest = rest_matches asked in
@@ -69,29 +69,29 @@ address_matches text asked sources is =
     (λ (s : Parts). ap (λ (h : Host). host_matches s.host h && rest s) is ∙ ap (λ (b : Bool). b && rest s) (address_host s.host text))
 
 -- the host-sources that match by "*" or by a suffix
-abbrev pub any_wider : Host → Asked → List Parts → Bool
+abbrev pub any_wider : Host → HostedUrl → List Parts → Bool
 any_wider (Domain text) asked sources = any_under HostPart.Any asked sources || any_suffixed text asked sources
 any_wider (Address text) asked sources = false
 
-by_host : (host : Host) (asked : Asked) (sources : List Parts) → asked.host.now ≡ host
+by_host : (host : Host) (asked : HostedUrl) (sources : List Parts) → asked.host.now ≡ host
     → list_any (parts_match asked) sources
     ≡ (any_under (HostPart.Exact (host_text host)) asked sources || any_wider host asked sources)
 by_host (Domain text) asked sources is = domain_matches text asked sources is
 by_host (Address text) asked sources is = address_matches text asked sources is ∙ sym (or_false _)
 
-matches_by_host : (asked : Asked) (sources : List Parts)
+matches_by_host : (asked : HostedUrl) (sources : List Parts)
     → list_any (parts_match asked) sources
     ≡ (any_under (HostPart.Exact (host_text asked.host.now)) asked sources || any_wider asked.host.now asked sources)
 matches_by_host asked sources = by_host asked.host.now asked sources refl
 
 -- what is found under the host itself, and else by "*" or a suffix
-pub by_exact : (text : List ℕ) (asked : Asked) (sources : List Parts) → text ≡ host_text asked.host.now
+pub by_exact : (text : List ℕ) (asked : HostedUrl) (sources : List Parts) → text ≡ host_text asked.host.now
     → any_under (HostPart.Exact text) asked sources ≡ true → true ≡ list_any (parts_match asked) sources
 by_exact text asked sources is some =
     let exact = λ (t : List ℕ). any_under (HostPart.Exact t) asked sources in
     sym (matches_by_host asked sources ∙ ap (λ (b : Bool). b || any_wider asked.host.now asked sources) (sym (ap exact is) ∙ some))
 
-pub by_wider : (text : List ℕ) (asked : Asked) (sources : List Parts) (found : Bool) → text ≡ host_text asked.host.now
+pub by_wider : (text : List ℕ) (asked : HostedUrl) (sources : List Parts) (found : Bool) → text ≡ host_text asked.host.now
     → any_under (HostPart.Exact text) asked sources ≡ false
     → (host : Host) → asked.host.now ≡ host → found ≡ any_wider host asked sources
     → found ≡ list_any (parts_match asked) sources

@@ -10,12 +10,12 @@ use Rattle.std.proofs.lemmas.Bool.Decides.{Decides-eqb}
 use Rattle.std.proofs.lemmas.Map.Text.{is_eq-slice_cmp}
 use Rattle.std.proofs.lemmas.Slice.Eq.{bytes_eq-Decides}
 use Rattle.csp_model.proofs.Deciding.{same_bool}
-use Rattle.csp_match.specs.Types.{HostPart, HostKey, PathKind, PortKey, Target, Way}
+use Rattle.csp_match.specs.Types.{HostPart, HostKey, PathKind, PortKey, Target, SchemePort}
 use Rattle.csp_match.specs.contracts.host_key.HostKeyPartialEq.TheImpl as host_equal
 use Rattle.csp_match.specs.contracts.path_key.PathKindPartialEq.TheImpl as kind_equal
 use Rattle.csp_match.specs.contracts.host_source.PortKeyPartialEq.TheImpl as port_equal
 use Rattle.csp_match.specs.contracts.host_source.TargetPartialEq.TheImpl as target_equal
-use Rattle.csp_match.specs.contracts.host_source.WayPartialEq.TheImpl as way_equal
+use Rattle.csp_match.specs.contracts.host_source.SchemePortPartialEq.TheImpl as way_equal
 use Rattle.csp_match.specs.Entries.{entry_parts, Entry, scheme_of, way_port}
 use Rattle.csp_match.specs.Fronts.{host_cmp}
 use Rattle.csp_match.specs.Keys.{host_of, hash_of, IsHostKey, port_of}
@@ -29,7 +29,7 @@ host_eq = (host_equal.ghosts).eq
 abbrev pub target_eq : Target → Target → Bool
 target_eq = (target_equal.ghosts).eq
 
-abbrev pub way_eq : Way → Way → Bool
+abbrev pub way_eq : SchemePort → SchemePort → Bool
 way_eq = (way_equal.ghosts).eq
 
 tied_both : (o p : Ordering) → is_eq (ordering_then o p) ≡ (is_eq o && is_eq p)
@@ -100,10 +100,10 @@ one_port PortKey.Any PortKey.Any h = refl
 one_port (PortKey.Number m) (PortKey.Number n) h = ap PortKey.Number ((Decides-eqb m n).0 h)
 one_port a b h = absurd (false≢true h)
 
-pub one_scheme : (v w : Way) → way_eq v w ≡ true → scheme_of v ≡ scheme_of w
+pub one_scheme : (v w : SchemePort) → way_eq v w ≡ true → scheme_of v ≡ scheme_of w
 one_scheme v w h = option_is v.scheme.now w.scheme.now (first (option_eq bytes_eq v.scheme.now w.scheme.now) ((port_equal.ghosts).eq v.port w.port) h)
 
-pub one_way_port : (v w : Way) → way_eq v w ≡ true → way_port v ≡ way_port w
+pub one_way_port : (v w : SchemePort) → way_eq v w ≡ true → way_port v ≡ way_port w
 one_way_port v w h =
     ap port_of (one_port v.port w.port (second (option_eq bytes_eq v.scheme.now w.scheme.now) ((port_equal.ghosts).eq v.port w.port) h))
 

@@ -6,7 +6,7 @@ use Rattle.std.proofs.lemmas.List.Elements.{All-contains, All-map}
 use Rattle.std.proofs.lemmas.List.Folds.{Any-from_list_any}
 use Rattle.csp_model.specs.Ascii.{code}
 use Rattle.csp_model.proofs.EndLaws.{subdomain_Decides}
-use Rattle.csp_match.specs.Types.{HostPart, Asked, HostKey}
+use Rattle.csp_match.specs.Types.{HostPart, HostedUrl, HostKey}
 use Rattle.csp_match.specs.Entries.{Entry, entry_parts, IsEntry}
 use Rattle.csp_match.specs.Keys.{host_of, IsHostKey, key_length, Parts}
 use Rattle.csp_match.specs.Under.{same_part, any_under, is_suffixed, any_suffixed, rest_matches}
@@ -14,7 +14,7 @@ use Rattle.csp_match.proofs.AnyLaws.{both, first, found, not_true, second}
 use Rattle.csp_match.proofs.KeyLaws.{same_part_is, same_part_itself}
 
 -- what is found under the tail behind a dot
-pub suffix_found : (domain : List ℕ) (at : ℕ) (asked : Asked) (sources : List Parts) → at < length domain
+pub suffix_found : (domain : List ℕ) (at : ℕ) (asked : HostedUrl) (sources : List Parts) → at < length domain
     → get_or domain at 0 ≡ code "." → any_under (HostPart.Under (drop (at + 1) domain)) asked sources ≡ true
     → any_suffixed domain asked sources ≡ true
 suffix_found domain at asked sources within is_dot h =
@@ -64,7 +64,7 @@ drop_seam : (front : List ℕ) (x : ℕ) (rest : List ℕ) → drop (length fron
 drop_seam front x rest = rw add-one (drop_behind front x rest)
 
 -- no other tail has a suffix
-pub suffix_missing : (domain : List ℕ) (longest from : ℕ) (asked : Asked) (sources : List Parts)
+pub suffix_missing : (domain : List ℕ) (longest from : ℕ) (asked : HostedUrl) (sources : List Parts)
     → All (λ (s : Parts). suffix_length s.host ≤ longest) sources → from ≤ length domain - longest - 1
     → ((k d : ℕ) → from ≤ k → k < length domain → get_or domain k d ≡ code "."
     → any_under (HostPart.Under (drop (k + 1) domain)) asked sources ≡ false)

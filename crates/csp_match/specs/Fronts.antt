@@ -8,7 +8,7 @@ use Rattle.std.specs.declared.cmp.Ordering.{Ordering}
 use Rattle.std.specs.declared.cmp.Ordering.TheVariants.{Equal}
 use Rattle.csp_model.specs.Paths.{front_text}
 use Rattle.csp_match.specs.contracts.host_key.HostKeyOrd.TheImpl as host_order
-use Rattle.csp_match.specs.declared.asked.Asked.{Asked}
+use Rattle.csp_match.specs.declared.hosted_url.HostedUrl.{HostedUrl}
 use Rattle.csp_match.specs.declared.host_key.HostKey.{HostKey}
 use Rattle.csp_match.specs.declared.host_source.Target.{Target}
 use Rattle.csp_match.specs.Entries.{Entry, entry_text, front_fits}
@@ -66,6 +66,6 @@ pub record IsShared (one other : List ℕ) (n : ℕ) : Type 0 where
   pub apart : n < length one → n < length other → slice_index one n ≢ slice_index other n
 
 -- a target is no longer than what is shared with a URL's path, and is the URL's
-abbrev pub within_fits : Asked → ℕ → Target → Bool
+abbrev pub within_fits : HostedUrl → ℕ → Target → Bool
 within_fits asked n target =
     nat_le (length target.text.now) n && front_fits asked (length target.text.now == length (front_text asked.path.now)) target

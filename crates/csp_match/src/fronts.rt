@@ -7,9 +7,9 @@ ghost use Rattle.csp_match.specs.Entries.{target_fits, IsEntry};
 ghost use Rattle.csp_match.specs.Fronts.{host_cmp, is_up_to, place, within_fits, AreOutersTo, IsLastOuter};
 ghost use Rattle.csp_match.specs.Fronts.{IsOuter, IsShared, Rises};
 
-use crate::asked::Asked;
 use crate::host_key::HostKey;
 use crate::host_source::Target;
+use crate::hosted_url::HostedUrl;
 use crate::multimap::Multimap;
 use csp_model::Memory;
 use std::alloc::Global;
@@ -49,7 +49,7 @@ impl<'a> Fronts<'a> {
     // Whether a target of a host is a URL's. Only those can be whose text begins the text of its path: of the
     // last target that isn't behind the path in order and its outer ones, those that are no longer than what
     // that one shares with the path.
-    pub(crate) fn any_fits(&self, host: &HostKey<'_>, asked: &Asked<'_>) -> bool
+    pub(crate) fn any_fits(&self, host: &HostKey<'_>, asked: &HostedUrl<'_>) -> bool
         requires { All IsEntry self.now }
         ensures { result ≡ list_any (λ e. is_eq (host_cmp e.0 host.now) && target_fits asked.now e) self.now }
     {
@@ -84,7 +84,7 @@ fn count_up_to(targets: &[(HostKey<'_>, Target<'_>)], host: &HostKey<'_>, path: 
 }
 
 // Whether a target is a URL's, whose path begins with the target's text if that is no longer than this.
-fn fits_within(target: &Target<'_>, shared: usize, asked: &Asked<'_>) -> bool
+fn fits_within(target: &Target<'_>, shared: usize, asked: &HostedUrl<'_>) -> bool
     ensures { result ≡ within_fits asked.now shared target.now }
 {
     let length = target.text.len();

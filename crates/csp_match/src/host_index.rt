@@ -6,10 +6,10 @@ ghost use Rattle.csp_match.specs.Entries.{entry_parts, scheme_of, way_fits, way_
 ghost use Rattle.csp_match.specs.Keys.{host_of, key_length, IsHostKey, Parts as HostSource};
 ghost use Rattle.csp_match.specs.Under as spec;
 
-use crate::asked::Asked;
 use crate::fronts::Fronts;
 use crate::host_key::HostKey;
-use crate::host_source::{Target, Way};
+use crate::host_source::{SchemePort, Target};
+use crate::hosted_url::HostedUrl;
 use crate::multimap::{Multimap, without_repeats};
 use csp_model::{Host, Memory};
 use std::alloc::Global;
@@ -23,7 +23,7 @@ pub(crate) struct HostIndex<'a> {
     // The targets at each host.
     targets: Fronts<'a>,
     // The ways to each host, for where paths aren't compared.
-    pathless: Multimap<HostKey<'a>, Way<'a>>,
+    pathless: Multimap<HostKey<'a>, SchemePort<'a>>,
 }
 
 impl<'a> Model for HostIndex<'a> {
@@ -60,7 +60,7 @@ impl<'a> HostIndex<'a> {
     }
 
     // Whether some host-source matches a URL.
-    pub(crate) fn matches(&self, asked: &Asked<'_>) -> bool
+    pub(crate) fn matches(&self, asked: &HostedUrl<'_>) -> bool
         ensures { result ≡ list_any (spec.parts_match asked.now) self.now }
     {
         let text = asked.host.as_str().as_bytes();
@@ -77,7 +77,7 @@ impl<'a> HostIndex<'a> {
 
     // Whether some host-source whose suffix the domain has matches. The tails behind the domain's dots are
     // looked up, but for those that are longer than all suffixes.
-    fn matches_suffix(&self, domain: &[u8], asked: &Asked<'_>) -> bool
+    fn matches_suffix(&self, domain: &[u8], asked: &HostedUrl<'_>) -> bool
         ensures { result ≡ spec.any_suffixed domain.now asked.now self.now }
     {
         let longer = domain.len().saturating_sub(self.longest_suffix);
@@ -91,7 +91,7 @@ impl<'a> HostIndex<'a> {
     }
 
     // Whether some host-source of a host matches.
-    fn matches_under(&self, host: HostKey<'_>, asked: &Asked<'_>) -> bool
+    fn matches_under(&self, host: HostKey<'_>, asked: &HostedUrl<'_>) -> bool
         requires { IsHostKey host }
         ensures { result ≡ spec.any_under (host_of host.entry) asked.now self.now }
     {
@@ -104,7 +104,7 @@ impl<'a> HostIndex<'a> {
 }
 
 // Whether one of the ways is a URL's.
-fn any_way_fits<K>(ways: &[(K, Way<'_>)], asked: &Asked<'_>) -> bool
+fn any_way_fits<K>(ways: &[(K, SchemePort<'_>)], asked: &HostedUrl<'_>) -> bool
     ensures { result ≡ list_any (λ e. way_fits (scheme_of e.1) (way_port e.1) asked.now) ways.now }
 {
     ways.iter().any(|pair| pair.1.fits(asked))
@@ -113,7 +113,7 @@ fn any_way_fits<K>(ways: &[(K, Way<'_>)], asked: &Asked<'_>) -> bool
 fn host_ways<'a>(
     alloc: Global,
     targets: &[(HostKey<'a>, Target<'a>)],
-) -> Result<Vec<(HostKey<'a>, Way<'a>)>, Memory>
+) -> Result<Vec<(HostKey<'a>, SchemePort<'a>)>, Memory>
     ensures { IfOk result (λ made. made.items ≡ map (λ e. (e.0, e.1.way)) targets.now) }
 {
     Ok(

@@ -4,8 +4,8 @@ ghost use Rattle.std.specs.Option.{option_map};
 ghost use Rattle.csp_match.specs.Keys as spec;
 ghost use Rattle.csp_match.specs.Entries as entries;
 
-use crate::asked::Asked;
 use crate::host_key::HostKey;
+use crate::hosted_url::HostedUrl;
 use crate::path_key::{PathKind, front_of};
 use crate::port::port_matches;
 use crate::scheme::own_scheme_matches;
@@ -45,14 +45,14 @@ impl PortKey {
 
 // How the URLs of a host-source are reached.
 #[derive(Clone, Copy, PartialEq, Eq, PartialOrd, Ord)]
-pub(crate) struct Way<'a> {
+pub(crate) struct SchemePort<'a> {
     pub(crate) scheme: &'a Option<Text>,
     pub(crate) port: PortKey,
 }
 
-impl Way<'_> {
+impl SchemePort<'_> {
     // Whether a URL's scheme and port are those that a host-source asks for.
-    pub(crate) fn fits(&self, asked: &Asked<'_>) -> bool
+    pub(crate) fn fits(&self, asked: &HostedUrl<'_>) -> bool
         ensures { result
             ≡ entries.way_fits (entries.scheme_of self.now) (entries.way_port self.now) asked.now }
     {
@@ -67,12 +67,12 @@ impl Way<'_> {
 pub(crate) struct Target<'a> {
     pub(crate) text: &'a str,
     pub(crate) kind: PathKind,
-    pub(crate) way: Way<'a>,
+    pub(crate) way: SchemePort<'a>,
 }
 
 impl Target<'_> {
     // Whether a URL is the target's, whose path begins with its pieces, and has no others if `ends`.
-    pub(crate) fn fits(&self, asked: &Asked<'_>, ends: bool) -> bool
+    pub(crate) fn fits(&self, asked: &HostedUrl<'_>, ends: bool) -> bool
         ensures { result ≡ entries.front_fits asked.now ends self.now }
     {
         self.kind.takes(ends) && self.way.fits(asked)
@@ -95,7 +95,7 @@ pub(crate) fn host_source(source: &Source) -> Option<(HostKey<'_>, Target<'_>)>
             let target = Target {
                 text: front_of(path),
                 kind: PathKind::of(path),
-                way: Way { scheme, port },
+                way: SchemePort { scheme, port },
             };
             Some((HostKey::of(host), target))
         }

@@ -8,10 +8,10 @@ ghost use Rattle.csp_match.specs.Entries.{entry_parts, IsEntry};
 ghost use Rattle.csp_match.specs.Split.{any_host_source, by_scheme_or_host, by_star_or_self, host_sources};
 ghost use Rattle.csp_match.specs.Split.{is_self, is_star, scheme_part, scheme_parts};
 
-use crate::asked::Asked;
 use crate::host_index::HostIndex;
 use crate::host_key::HostKey;
 use crate::host_source::{Target, host_source};
+use crate::hosted_url::HostedUrl;
 use crate::multimap::sorted_once;
 use crate::scheme::{is_network_scheme, scheme_matches, url_scheme};
 use crate::self_source::self_matches;
@@ -104,7 +104,7 @@ impl<'a> Index<'a> {
                 host,
                 port,
                 path,
-            } => self.hosts.matches(&Asked {
+            } => self.hosts.matches(&HostedUrl {
                 origin,
                 scheme: *scheme,
                 host,

@@ -4,7 +4,6 @@
 //! No call but `Candidates::new` and `Index::new` takes memory.
 #![tactic(auto)]
 
-mod asked;
 mod candidates;
 mod fallback;
 mod fronts;
@@ -13,6 +12,7 @@ mod host;
 mod host_index;
 mod host_key;
 mod host_source;
+mod hosted_url;
 mod index;
 mod multimap;
 mod path;

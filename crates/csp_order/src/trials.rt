@@ -41,7 +41,7 @@ impl<'a> Trials<'a> {
         ensures { IfOk result (λ made. made ≡ lists.now) }
     {
         Ok(Trials {
-            lists: compiled(alloc, lists)?,
+            lists: compile_all(alloc, lists)?,
             requests: Vec::new(alloc),
         })
     }
@@ -84,7 +84,7 @@ impl<'a> Trials<'a> {
     }
 }
 
-fn compiled<'a>(alloc: Global, lists: &'a [PolicyList]) -> Result<Vec<CompiledList<'a>>, Memory>
+fn compile_all<'a>(alloc: Global, lists: &'a [PolicyList]) -> Result<Vec<CompiledList<'a>>, Memory>
     requires { All IsReadable lists.now }
     ensures { IfOk result (λ made. made.items ≡ lists.now) }
 {

@@ -11,7 +11,7 @@ ghost use Rattle.csp_facts.specs.declared.shape.Shape.{Shape as ShapeValue};
 
 use csp_facts::shape_laws::each_number_is_one_shape;
 use csp_facts::{Shape, shape_at};
-use csp_formula::{Question, question_at};
+use csp_formula::{ShapeQuestion, question_at};
 use csp_model::{Directive, FetchRule, Policy, PolicyList, Text};
 
 // Whether the first list is found to be within the other: it has the same policies, but that directives which
@@ -83,7 +83,7 @@ fn is_within_at(one: &Policy, other: &Policy, shape: Shape) -> bool
 
 // Whether the answer of the one policy to a question is within that of the other. A list that decides alone may
 // lack tokens.
-fn is_answer_within(one: &Policy, other: &Policy, question: Question) -> bool
+fn is_answer_within(one: &Policy, other: &Policy, question: ShapeQuestion) -> bool
     requires one { IsReadablePolicy one.now }
     requires other { IsReadablePolicy other.now }
     requires origin { one.now.origin ≡ other.now.origin }
@@ -92,11 +92,11 @@ fn is_answer_within(one: &Policy, other: &Policy, question: Question) -> bool
         (question_sentence one.now hashes question) (question_sentence other.now hashes question) }
 {
     match question {
-        Question::Known(_) => true,
-        Question::Listed(asked) => {
+        ShapeQuestion::Known(_) => true,
+        ShapeQuestion::Listed(asked) => {
             matches!(asked.rule, FetchRule::List) || same_tokens_at(one, other, asked.place)
         }
-        Question::Inline { place, .. } => same_tokens_at(one, other, place),
+        ShapeQuestion::Inline { place, .. } => same_tokens_at(one, other, place),
     }
 }
 

@@ -14,10 +14,10 @@ use Rattle.csp_why.specs.Reasons.{acting, asks_sandbox, governed_reason, reason,
 use Rattle.csp_why.specs.declared.reason.Allowance.{Allowance}
 use Rattle.csp_why.specs.declared.reason.Near.{Near}
 use Rattle.csp_why.specs.declared.reason.Reason.TheVariants.{Blocks}
-use Rattle.csp_why.specs.declared.reason.Word.{Word}
+use Rattle.csp_why.specs.declared.reason.Obstacle.{Obstacle}
 use Rattle.csp_why.proofs.Decided.{reason_decided}
 
-blocks_by : (p : Policy) (asked : Check) (displaced : Option Word) (g : Governor) (o : Option Allowance)
+blocks_by : (p : Policy) (asked : Check) (displaced : Option Obstacle) (g : Governor) (o : Option Allowance)
     → is_allowing (governed_reason p asked displaced g o) ≡ false
     → (near : List Near) × (governed_reason p asked displaced g o ≡ Blocks g.name near)
 blocks_by p asked displaced g None refused = (_, refl)

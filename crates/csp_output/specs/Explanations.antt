@@ -30,7 +30,7 @@ use Rattle.csp_why.specs.Words.{rule_text, word_text}
 use Rattle.csp_why.specs.declared.reason.Near.{Near}
 use Rattle.csp_why.specs.declared.reason.Reason.{Reason}
 use Rattle.csp_why.specs.declared.reason.Reason.TheVariants.{Ungoverned, Allows, Blocks}
-use Rattle.csp_why.specs.declared.reason.Word.{Word}
+use Rattle.csp_why.specs.declared.reason.Obstacle.{Obstacle}
 
 -- some policy doesn't allow the check, so that the verdict has an item for it
 abbrev pub is_refused : PolicyList → Check → Bool
@@ -60,7 +60,7 @@ abbrev pub joined : List (List ℕ) → List ℕ
 joined pieces = flat_map (λ piece. piece) pieces
 
 -- a line for each near token
-abbrev pub near_line : List ℕ → Word → List ℕ
+abbrev pub near_line : List ℕ → Obstacle → List ℕ
 near_line token word = codes "    " ++ (token ++ joined (codes " " ∷ word_text word ∷ codes "\n" ∷ []))
 
 abbrev pub near_text : List (List ℕ) → List Near → List ℕ

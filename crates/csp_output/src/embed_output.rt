@@ -39,7 +39,7 @@ pub fn embed(
 {
     let allowed = allow_from(alloc, response.block, embedder)?;
     match decide(alloc, allowed, required, response.list)? {
-        Decision::Added { .. } => added(alloc, required),
+        Decision::Added { .. } => added_output(alloc, required),
         Decision::Served { proof } => {
             let text = proof_text(alloc, &proof)?;
             under_word(alloc, Status::Clean, "served\n", &text)
@@ -53,7 +53,7 @@ pub fn embed(
 }
 
 // The output where the required policy is added.
-fn added(alloc: Global, required: &Policy) -> Result<Built, Memory>
+fn added_output(alloc: Global, required: &Policy) -> Result<Built, Memory>
     ensures { IfOk result (λ built. built ≡ spec.added_output required.now) }
 {
     let policy = policy_text(alloc, required)?;

@@ -9,7 +9,7 @@ use csp_match::governor;
 use csp_model::{Check, Disposition, Memory, Name, Policy, PolicyList, Text, Url, name_text};
 use csp_url::url_text;
 use csp_verdict::{allows, effective_name, list_allows};
-use csp_why::{Near, Reason, Word, explain, missing_url};
+use csp_why::{Near, Obstacle, Reason, explain, missing_url};
 use itoa::Buffer;
 use std::alloc::Global;
 
@@ -158,7 +158,7 @@ fn push_near(text: &mut Vec<u8>, near: &[Near], tokens: &[Text]) -> Result<(), M
     Ok(())
 }
 
-fn push_near_line(text: &mut Vec<u8>, token: &str, word: Word) -> Result<(), Memory>
+fn push_near_line(text: &mut Vec<u8>, token: &str, word: Obstacle) -> Result<(), Memory>
     ensures { OnOk result (text.new.items ≡ text.old.items ++ spec.near_line token.now word) }
 {
     let word = word.as_str();

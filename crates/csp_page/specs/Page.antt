@@ -5,14 +5,14 @@ use Rattle.csp_io.specs.Starts.{MissingAreUnread}
 use Rattle.csp_io.specs.Told.{Rose}
 use Rattle.csp_output.specs.Statuses.{exit_code}
 use Rattle.csp_page.specs.declared.File.{File}
-use Rattle.csp_page.specs.declared.Word.{Word}
+use Rattle.csp_page.specs.declared.Argument.{Argument}
 use Rattle.csp_desk.specs.Desk.{Desk}
 use Rattle.csp_run.specs.Due.{End, IsEndOf, end_status, end_text}
 use Rattle.csp_run.specs.Files.{World}
 use Rattle.csp_run.specs.Words.{plan_of}
 
 -- the bytes of a word, and the name and the bytes of a file
-abbrev pub word_of : Word → List ℕ
+abbrev pub word_of : Argument → List ℕ
 word_of word = word.text.now
 
 abbrev pub name_of : File → List ℕ

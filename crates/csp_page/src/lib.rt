@@ -35,7 +35,7 @@ const SPARE: usize = 11;
 
 /// A word.
 #[repr(C)]
-pub struct Word<'a> {
+pub struct Argument<'a> {
     pub text: &'a [u8],
 }
 
@@ -54,7 +54,7 @@ pub struct File<'a> {
 #[unsafe(no_mangle)]
 pub extern "C" fn csp_page(
     alloc: Global,
-    words: &[Word<'_>],
+    words: &[Argument<'_>],
     files: &[File<'_>],
     out: &mut [u8],
     written: &mut usize,
@@ -80,7 +80,7 @@ pub extern "C" fn csp_page(
 {
     *written = 0;
     let room = out.len() + SPARE;
-    match answered(alloc, words, files, room) {
+    match answer_words(alloc, words, files, room) {
         Err(Unfit::Memory) => NO_MEMORY,
         Err(Unfit::Text) => BAD_WORDS,
         Ok((code, text)) => {
@@ -125,9 +125,9 @@ impl From<Memory> for Unfit {
 }
 
 // The exit code, and the output, or its front where that fills a sink of this room.
-fn answered(
+fn answer_words(
     alloc: Global,
-    words: &[Word<'_>],
+    words: &[Argument<'_>],
     files: &[File<'_>],
     room: usize,
 ) -> Result<(u8, Bytes), Unfit>
@@ -171,7 +171,7 @@ fn text_of(alloc: Global, bytes: &[u8]) -> Result<Text, Unfit>
     }
 }
 
-fn words_of(alloc: Global, words: &[Word<'_>]) -> Result<List<Text>, Unfit>
+fn words_of(alloc: Global, words: &[Argument<'_>]) -> Result<List<Text>, Unfit>
     ensures made { IfOk result (λ made. made ≡ map word_of words.now) }
     ensures bad { IsErrOf result Unfit.Text → HasBad (map word_of words.now) }
     ensures good { OnOk result (HasBad (map word_of words.now) → ⊥) }

@@ -64,7 +64,7 @@ pub(crate) fn fresh_text<S: Says>(
     ensures fresh { IfOk result (λ text. All (λ value. S.said value ≢ Some text) values.now) }
 {
     for number in 1..values.len() as u64 + 2 {
-        let text = numbered(alloc, front, number, back)?;
+        let text = numbered_text(alloc, front, number, back)?;
         if !is_said(values, text.as_str().as_bytes()) {
             return Ok(text);
         }
@@ -80,7 +80,7 @@ pub(crate) fn is_said<S: Says>(values: &[S], text: &[u8]) -> bool
 }
 
 // The candidate of this number.
-fn numbered(alloc: Global, front: &str, number: u64, back: &str) -> Result<Text, Memory>
+fn numbered_text(alloc: Global, front: &str, number: u64, back: &str) -> Result<Text, Memory>
     ensures { IfOk result (λ text. text ≡ spec.numbered front.now number back.now) }
 {
     let text = match number {

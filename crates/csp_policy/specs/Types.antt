@@ -8,7 +8,7 @@ pub use Rattle.csp_policy.specs.declared.caseless_name.{CaselessName.CaselessNam
 pub use Rattle.csp_policy.specs.declared.directive.{Standing.Standing}
 pub use Rattle.csp_policy.specs.declared.error.{BlockError.BlockError}
 pub use Rattle.csp_policy.specs.declared.fate.{Fate.Fate, Piece.Piece, Reason.Reason}
-pub use Rattle.csp_policy.specs.declared.lines.{Line.Line}
+pub use Rattle.csp_policy.specs.declared.lines.{HeaderLine.HeaderLine}
 pub use Rattle.csp_policy.specs.declared.pieces.{Pieces.Pieces}
 pub use Rattle.csp_policy.specs.declared.reader.{Reader.Reader}
 pub use Rattle.csp_policy.specs.declared.serialized.{Delivery.Delivery, SerializedPolicy.SerializedPolicy}

@@ -7,7 +7,7 @@ ghost use Rattle.csp_policy.specs.Refusal as spec;
 ghost use Rattle.csp_policy.specs.Room.{AreRead};
 
 use crate::error::BlockError;
-use crate::lines::{Line, read_line, without_status};
+use crate::lines::{HeaderLine, read_line, without_status};
 use crate::pieces::Pieces;
 use crate::reader::Reader;
 use csp_model::{Memory, Origin, PolicyList};
@@ -27,9 +27,9 @@ fn read_lines(alloc: Global, bytes: &[u8], origin: &Origin) -> Result<Reader, Bl
     for line in Pieces::new(without_status(bytes), b'\n') {
         number += 1;
         match read_line(line) {
-            Line::Skipped => {}
-            Line::Bad => return Err(BlockError::BadLine { line: number }),
-            Line::Header { name, value } => reader.add_header(alloc, origin, name, value)?,
+            HeaderLine::Skipped => {}
+            HeaderLine::Bad => return Err(BlockError::BadLine { line: number }),
+            HeaderLine::Header { name, value } => reader.add_header(alloc, origin, name, value)?,
         }
     }
     Ok(reader)

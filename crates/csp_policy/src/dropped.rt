@@ -10,7 +10,7 @@ use json::Writer;
 use std::alloc::{AllocError, Global};
 
 // The text that bytes are where each is the code point of that number (Infra Standard, section 4.5).
-fn decoded(alloc: Global, bytes: &[u8]) -> Result<String, Memory>
+fn isomorphic_decode(alloc: Global, bytes: &[u8]) -> Result<String, Memory>
     ensures { IfOk result (λ text. string_bytes text ≡ isomorphic_decode bytes.now) }
 {
     let mut text = String::new(alloc);
@@ -73,7 +73,7 @@ fn write_dropped(
             Ok(())
         }
         Err(_) => {
-            let shown = decoded(alloc, piece)?;
+            let shown = isomorphic_decode(alloc, piece)?;
             write_other(out, shown.as_str(), line, reason)?;
             Ok(())
         }

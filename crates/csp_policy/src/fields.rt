@@ -4,13 +4,13 @@ ghost use Rattle.std.specs.Str.Lines.{strip_carriage_return};
 ghost use Rattle.csp_model.specs.Policies.{line_of};
 ghost use Rattle.csp_policy.specs.Fields as spec;
 
-use crate::lines::{Line, read_line, without_status};
+use crate::lines::{HeaderLine, read_line, without_status};
 use crate::pieces::Pieces;
 use csp_model::Memory;
 use std::alloc::Global;
 
 /// The text without ASCII whitespace at its ends.
-pub fn trimmed(text: &[u8]) -> &[u8]
+pub fn trim(text: &[u8]) -> &[u8]
     ensures { result.now ≡ spec.trimmed text.now }
 {
     text.trim_ascii()
@@ -22,9 +22,8 @@ fn value_named<'a>(line: &'a [u8], name: &str) -> Option<&'a [u8]>
         ≡ spec.value_named name.now (line_of (strip_carriage_return line.now)) }
 {
     match read_line(line) {
-        Line::Header { name: field, value } if field.eq_ignore_ascii_case(name.as_bytes()) => {
-            Some(trimmed(value))
-        }
+        HeaderLine::Header { name: field, value } if field.eq_ignore_ascii_case(name.as_bytes()) =>
+            { Some(trim(value)) }
         _ => None,
     }
 }

@@ -24,7 +24,7 @@ mod words;
 pub use block::read_block;
 pub use error::BlockError;
 pub use fate::{Fate, Piece, Reason, read_pieces};
-pub use fields::{field_values, trimmed};
+pub use fields::{field_values, trim};
 pub use print::policy_text;
 pub use read::reading;
 pub use serialized::{SerializedPolicy, serialized_policies};

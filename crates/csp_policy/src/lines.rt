@@ -10,7 +10,7 @@ use http_header::is_token_char;
 
 // What a line of a header block says.
 #[derive(Clone, Copy, Debug)]
-pub(crate) enum Line<'a> {
+pub(crate) enum HeaderLine<'a> {
     Skipped,
     Bad,
     Header { name: &'a [u8], value: &'a [u8] },
@@ -44,27 +44,27 @@ fn is_field_value(value: &[u8]) -> bool
 
 // The header of this value and of a name that has no byte but those of a name.
 #[tactic(auto, unfolding(csp_model::specs::Policies::is_field_name))]
-fn header_named<'a>(name: &'a [u8], value: &'a [u8]) -> Line<'a>
+fn header_named<'a>(name: &'a [u8], value: &'a [u8]) -> HeaderLine<'a>
     requires { list_all spec.is_token_char name.now ≡ true }
     ensures { line_said result
         ≡ (if spec.is_field_name name.now && spec.is_field_value value.now
         then spec.Header name.now value.now else spec.Bad) }
 {
     if !name.is_empty() && name.len() < 65536 && is_field_value(value) {
-        Line::Header { name, value }
+        HeaderLine::Header { name, value }
     } else {
-        Line::Bad
+        HeaderLine::Bad
     }
 }
 
 // What a line that isn't empty says.
-fn header(line: &[u8]) -> Line<'_>
+fn header(line: &[u8]) -> HeaderLine<'_>
     ensures { line_said result ≡ spec.header_of line.now }
 {
     let (name, rest) = line.split_at(name_len(line));
     match rest.split_first() {
         Some((first, value)) if *first == b':' => header_named(name, value),
-        _ => Line::Bad,
+        _ => HeaderLine::Bad,
     }
 }
 
@@ -78,18 +78,18 @@ fn without_carriage_return(line: &[u8]) -> &[u8]
 }
 
 #[tactic(auto, unfolding(csp_model::specs::Policies::line_of))]
-fn filled_line(line: &[u8]) -> Line<'_>
+fn filled_line(line: &[u8]) -> HeaderLine<'_>
     ensures { line_said result ≡ spec.line_of line.now }
 {
     if line.is_empty() {
-        Line::Skipped
+        HeaderLine::Skipped
     } else {
         header(line)
     }
 }
 
 // What a line says, where its line feed is taken off.
-pub(crate) fn read_line(line: &[u8]) -> Line<'_>
+pub(crate) fn read_line(line: &[u8]) -> HeaderLine<'_>
     ensures { line_said result ≡ spec.line_of (strip_carriage_return line.now) }
 {
     filled_line(without_carriage_return(line))

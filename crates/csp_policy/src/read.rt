@@ -8,7 +8,7 @@ ghost use Rattle.csp_policy.specs.Told.{directives_in, told_dropped, told_policy
 
 use crate::dropped::append_dropped;
 use crate::fate::{Fate, Piece, read_pieces};
-use crate::fields::trimmed;
+use crate::fields::trim;
 use crate::kinds::reason_text;
 use crate::policies::append_policy;
 use crate::serialized::{SerializedPolicy, serialized_policies};
@@ -40,7 +40,7 @@ fn append_pieces(
     let mut text = text;
     for piece in pieces {
         if let Fate::Dropped { reason } = &piece.fate {
-            text = append_dropped(alloc, text, trimmed(piece.text), line, reason_text(*reason))?;
+            text = append_dropped(alloc, text, trim(piece.text), line, reason_text(*reason))?;
         }
     }
     Ok(text)
@@ -60,13 +60,7 @@ fn append_front(
     if has_kept(pieces) {
         append_policy(text, number, policy, pieces)
     } else {
-        append_dropped(
-            alloc,
-            text,
-            trimmed(policy.text),
-            policy.line,
-            "empty-policy",
-        )
+        append_dropped(alloc, text, trim(policy.text), policy.line, "empty-policy")
     }
 }
 

@@ -3,7 +3,7 @@ ghost use Rattle.std.specs.Prelude.{◌≡◌, ◌++◌, IfOk, OnOk, map};
 ghost use Rattle.csp_policy.specs.Delivered.{serialized_said};
 ghost use Rattle.csp_policy.specs.Fates as spec;
 
-use crate::lines::{Line, read_line, without_status};
+use crate::lines::{HeaderLine, read_line, without_status};
 use crate::pieces::Pieces;
 use csp_model::{Disposition, Memory};
 use std::alloc::Global;
@@ -104,9 +104,9 @@ pub fn serialized_policies<'a>(
     for line in Pieces::new(without_status(bytes), b'\n') {
         number += 1;
         match read_line(line) {
-            Line::Skipped => {}
-            Line::Bad => {}
-            Line::Header { name, value } => add_delivered(&mut made, number, name, value)?,
+            HeaderLine::Skipped => {}
+            HeaderLine::Bad => {}
+            HeaderLine::Header { name, value } => add_delivered(&mut made, number, name, value)?,
         }
     }
     Ok(made)

@@ -9,7 +9,7 @@ use Rattle.std.proofs.lemmas.List.Splits.{slice_split_first, slice_split-cons_no
 use Rattle.csp_model.specs.Ascii.{split_at}
 use Rattle.csp_proof.specs.Reading.{IsValidLine}
 use Rattle.csp_proof.specs.Spelling.{line_text, lines_text}
-use Rattle.csp_proof.specs.declared.line.Line.{Line}
+use Rattle.csp_proof.specs.declared.line.ProofLine.{ProofLine}
 use Rattle.csp_proof.proofs.LineBytes.{IsPlain, plain_line}
 
 abbrev is_feed : ℕ → Bool
@@ -41,18 +41,18 @@ none_first text is = elim (cases_Bool (nat_lt (position_or_len is_feed text) (le
 
 -- Lines and their text
 
-lines_joined : (ls : List Line) → join_with_byte 10 (map line_text ls ++ [] ∷ []) ≡ lines_text ls
+lines_joined : (ls : List ProofLine) → join_with_byte 10 (map line_text ls ++ [] ∷ []) ≡ lines_text ls
 lines_joined [] = refl
 lines_joined (l ∷ []) = sym (append-nil (line_text l ++ 10 ∷ []))
 lines_joined (l ∷ next ∷ ls) = ap (λ (t : List ℕ). line_text l ++ 10 ∷ t) (lines_joined (next ∷ ls)) ∙ sym (append_assoc (line_text l) (10 ∷ []) (lines_text (next ∷ ls)))
 
-pub text_joined : (text : List ℕ) (ls : List Line) → split_at 10 text ≡ map line_text ls ++ [] ∷ [] → text ≡ lines_text ls
+pub text_joined : (text : List ℕ) (ls : List ProofLine) → split_at 10 text ≡ map line_text ls ++ [] ∷ [] → text ≡ lines_text ls
 text_joined text ls is = sym (join_with_byte-slice_split 10 text) ∙ ap (join_with_byte 10) is ∙ lines_joined ls
 
-no_feed : (l : Line) → IsValidLine l → All (λ (c : ℕ). is_feed c ≡ false) (line_text l)
+no_feed : (l : ProofLine) → IsValidLine l → All (λ (c : ℕ). is_feed c ≡ false) (line_text l)
 no_feed l valid = All-weaker IsPlain (λ (c : ℕ). is_feed c ≡ false) (λ c plain. ne_eqb c 10 (λ same. omega arith)) (line_text l) (plain_line l valid)
 
-pub lines_split : (ls : List Line) → All IsValidLine ls → split_at 10 (lines_text ls) ≡ map line_text ls ++ [] ∷ []
+pub lines_split : (ls : List ProofLine) → All IsValidLine ls → split_at 10 (lines_text ls) ≡ map line_text ls ++ [] ∷ []
 lines_split [] valid = refl
 lines_split (l ∷ ls) valid =
     ap (split_at 10) (append_assoc (line_text l) (10 ∷ []) (lines_text ls))

@@ -17,8 +17,8 @@ use Rattle.csp_facts.proofs.SpelledWords.{IsWord}
 use Rattle.csp_facts.proofs.Spelling.{words}
 use Rattle.csp_proof.specs.Reading.{IsValidLine}
 use Rattle.csp_proof.specs.Spelling.{line_text}
-use Rattle.csp_proof.specs.declared.line.Line.{Line}
-use Rattle.csp_proof.specs.declared.line.Line.TheVariants as line
+use Rattle.csp_proof.specs.declared.line.ProofLine.{ProofLine}
+use Rattle.csp_proof.specs.declared.line.ProofLine.TheVariants as line
 use Rattle.csp_proof.specs.declared.proof.Format.TheVariants.{One, Two}
 use Rattle.csp_proof.specs.declared.proof.Node.TheVariants as node
 
@@ -48,7 +48,7 @@ join_plain (w ∷ v ∷ ws) each =
 two : (v w : List ℕ) → All IsPlain v → All IsPlain w → All (All IsPlain) (v ∷ w ∷ [])
 two v w first second = All-cons (All IsPlain) v (w ∷ []) first (All-cons (All IsPlain) w [] second (All-nil (All IsPlain)))
 
-pub plain_line : (l : Line) → IsValidLine l → All IsPlain (line_text l)
+pub plain_line : (l : ProofLine) → IsValidLine l → All IsPlain (line_text l)
 plain_line (line.Head One) valid = join_plain (codes "csp-proof" ∷ codes "1" ∷ []) (two (codes "csp-proof") (codes "1") (word_plain (codes "csp-proof") refl) (word_plain (codes "1") refl))
 plain_line (line.Head Two) valid = join_plain (codes "csp-proof" ∷ codes "2" ∷ []) (two (codes "csp-proof") (codes "2") (word_plain (codes "csp-proof") refl) (word_plain (codes "2") refl))
 plain_line (line.Tree shape policy) valid =
@@ -70,5 +70,5 @@ ascii text each i = elim (cases_lt i (length text)) [
   | inr past ↦ omega (arith, get_or_past text i 0 past)
 ]
 
-pub utf8_line : (l : Line) → IsValidLine l → IsUtf8 (line_text l)
+pub utf8_line : (l : ProofLine) → IsValidLine l → IsUtf8 (line_text l)
 utf8_line l valid = IsUtf8-from_ascii (line_text l) (ascii (line_text l) (plain_line l valid))

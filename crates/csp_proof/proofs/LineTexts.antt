@@ -6,11 +6,11 @@ use Rattle.csp_facts.specs.declared.atom.Atom.{Atom}
 use Rattle.csp_facts.specs.declared.atom.Atom.TheVariants.{HostIs, HostUnder, HostDomain, PortIs, PathIs, PathUnder, SchemeIs, NonceIs, IntegrityHas, IntegrityOutside, DigestIs}
 use Rattle.std.proofs.lemmas.List.Concat.{flat_map-append}
 use Rattle.csp_proof.specs.Spelling.{atom_text, body_lines, line_text, lines_text, tree_lines, proof_text}
-use Rattle.csp_proof.specs.declared.line.Line.{Line}
+use Rattle.csp_proof.specs.declared.line.ProofLine.{ProofLine}
 use Rattle.csp_proof.specs.declared.proof.Tree.{Tree}
 use Rattle.csp_proof.specs.declared.proof.Body.TheVariants as body
 use Rattle.csp_proof.specs.declared.proof.Proof.{Proof}
-use Rattle.csp_proof.specs.declared.line.Line.TheVariants as line
+use Rattle.csp_proof.specs.declared.line.ProofLine.TheVariants as line
 use Rattle.csp_proof.specs.declared.proof.Node.{Node}
 use Rattle.csp_proof.specs.declared.proof.Node.TheVariants as node
 
@@ -48,11 +48,11 @@ tree_pushed tree nodes shape policy old first second third slice is shaped numbe
 pub trees_text : (trees : List Tree) → lines_text (flat_map tree_lines trees) ≡ flat_map (λ tree. lines_text (tree_lines tree)) trees
 trees_text [] = refl
 trees_text (first ∷ trees) =
-    flat_map-append (λ (l : Line). line_text l ++ codes "\n") (tree_lines first) (flat_map tree_lines trees) ∙ ap (λ t. lines_text (tree_lines first) ++ t) (trees_text trees)
+    flat_map-append (λ (l : ProofLine). line_text l ++ codes "\n") (tree_lines first) (flat_map tree_lines trees) ∙ ap (λ t. lines_text (tree_lines first) ++ t) (trees_text trees)
 
 pub text_of_proof : (proof : Proof)
     → ((line_text (line.Head proof.format) ++ codes "\n") ++ flat_map (λ tree. lines_text (tree_lines tree)) proof.trees) ++ codes "end\n" ≡ proof_text proof
 text_of_proof proof =
     let head = line_text (line.Head proof.format) ++ codes "\n" in
-    let ends = flat_map-append (λ (l : Line). line_text l ++ codes "\n") (flat_map tree_lines proof.trees) (line.End ∷ []) in
+    let ends = flat_map-append (λ (l : ProofLine). line_text l ++ codes "\n") (flat_map tree_lines proof.trees) (line.End ∷ []) in
     append_assoc head _ (codes "end\n") ∙ ap (λ t. head ++ t) (sym (ends ∙ ap (λ t. t ++ codes "end\n") (trees_text proof.trees)))

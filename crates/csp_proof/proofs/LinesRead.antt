@@ -13,8 +13,8 @@ use Rattle.csp_facts.proofs.SpelledWords.{IsWord, decimal_word}
 use Rattle.csp_facts.specs.Numbers.{shape_count}
 use Rattle.csp_proof.specs.Reading.{cut, number_below, atom_of, format_named, tree_line, tree_of, bare_line, line_about, line_by, line_of, IsValidLine, IsReadAs}
 use Rattle.csp_proof.specs.Spelling.{line_text}
-use Rattle.csp_proof.specs.declared.line.Line.{Line}
-use Rattle.csp_proof.specs.declared.line.Line.TheVariants as line
+use Rattle.csp_proof.specs.declared.line.ProofLine.{ProofLine}
+use Rattle.csp_proof.specs.declared.line.ProofLine.TheVariants as line
 use Rattle.csp_proof.specs.declared.proof.Format.TheVariants.{One, Two}
 use Rattle.csp_proof.specs.declared.proof.Node.TheVariants as node
 use Rattle.csp_proof.proofs.AtomsRead.{spelling_read, atom_sound, number_sound, mapped}
@@ -36,7 +36,7 @@ tree_read shape policy shaped numbered =
     ∙ ap (λ o. tree_line o (number_below policy_limit (decimal policy))) (number_read shape_count shape shaped (omega arith))
     ∙ ap (tree_line (Some shape)) (number_read policy_limit policy numbered (omega arith))
 
-pub line_read : (l : Line) → IsValidLine l → line_of (line_text l) ≡ Some l
+pub line_read : (l : ProofLine) → IsValidLine l → line_of (line_text l) ≡ Some l
 unfolding line_about
 line_read (line.Head One) valid = refl
 line_read (line.Head Two) valid = refl
@@ -49,7 +49,7 @@ line_read line.End valid = refl
 
 -- What is read
 
-abbrev Says : List ℕ → Line → Type 0
+abbrev Says : List ℕ → ProofLine → Type 0
 Says text l = IsValidLine l × (text ≡ line_text l)
 
 bare_sound : (text : List ℕ) → IfSome (bare_line text) (Says text)
@@ -83,7 +83,7 @@ format_sound value text is = cond_both (bytes_eq value (codes "1")) _ _ (λ o. I
 about_sound : (word value text : List ℕ) → text ≡ word ++ 32 ∷ value → IfSome (line_about word value) (Says text)
 unfolding line_about
 about_sound word value text is =
-    let P = λ (o : Option Line). IfSome o (Says text) in
+    let P = λ (o : Option ProofLine). IfSome o (Says text) in
     cond_both (bytes_eq word (codes "split")) _ _ P (λ h. mapped (λ a. line.Node (node.Split a)) (Says text) (atom_of value) (IfSome_then (atom_of value) (atom_sound value)
     (λ a sound. (sound.0, behind word value text (codes "split") is h ∙ ap (λ v. codes "split" ++ 32 ∷ v) (sym sound.1) ∙ sym (split_text a)))))
     (λ _. cond_both (bytes_eq word (codes "blocked")) _ _ P (λ h. mapped (λ n. line.Node (node.Blocked n)) (Says text) (number_below policy_limit value) (IfSome_then (number_below policy_limit value) (number_sound policy_limit value)
@@ -102,10 +102,10 @@ line_sound text = by (cut text) refl where
 
 pub read_as : (text : List ℕ) → IsReadAs text (line_of text)
 read_as text = by (line_of text) refl (line_sound text) where
-  by : (found : Option Line) → line_of text ≡ found → IfSome found (Says text) → IsReadAs text found
+  by : (found : Option ProofLine) → line_of text ≡ found → IfSome found (Says text) → IsReadAs text found
   by None is sound = λ l valid same. none-some l (sym is ∙ ap line_of same ∙ line_read l valid)
   by (Some l) is sound = sound
 
 -- a text is that of one line
-pub line_told : (l other : Line) → IsValidLine l → IsValidLine other → line_text l ≡ line_text other → l ≡ other
+pub line_told : (l other : ProofLine) → IsValidLine l → IsValidLine other → line_text l ≡ line_text other → l ≡ other
 line_told l other valid also same = same_Some l other (sym (line_read l valid) ∙ ap line_of same ∙ line_read other also)

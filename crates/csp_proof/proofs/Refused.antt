@@ -10,9 +10,9 @@ use Rattle.csp_proof.specs.Places.{next, place_lines, run, IsPlace, IsReached}
 use Rattle.csp_proof.specs.Reading.{IsValidLine}
 use Rattle.csp_proof.specs.Spelling.{line_text, proof_lines}
 use Rattle.csp_proof.specs.Texts.{IsTextOf, whole_lines, CanStand, IsFirstBad, IsRefused}
-use Rattle.csp_proof.specs.declared.line.Line.{Line}
-use Rattle.csp_proof.specs.declared.place.Place.{Place}
-use Rattle.csp_proof.specs.declared.place.Place.TheVariants.{Start, Done}
+use Rattle.csp_proof.specs.declared.line.ProofLine.{ProofLine}
+use Rattle.csp_proof.specs.declared.progress.Progress.{Progress}
+use Rattle.csp_proof.specs.declared.progress.Progress.TheVariants.{Start, Done}
 use Rattle.csp_proof.specs.declared.proof.Proof.{Proof}
 use Rattle.csp_proof.proofs.FirstLines.{text_joined, lines_split}
 use Rattle.csp_proof.proofs.LinesRead.{line_told}
@@ -21,21 +21,21 @@ use Rattle.csp_proof.proofs.Whole.{whole_run, lines_valid, goes_on}
 
 -- Lines that are told by their texts
 
-pub lines_told : (ls others : List Line) → All IsValidLine ls → All IsValidLine others → map line_text ls ≡ map line_text others → ls ≡ others
+pub lines_told : (ls others : List ProofLine) → All IsValidLine ls → All IsValidLine others → map line_text ls ≡ map line_text others → ls ≡ others
 lines_told [] [] valid also same = refl
 lines_told [] (other ∷ others) valid also same = cc
 lines_told (l ∷ ls) [] valid also same = cc
 lines_told (l ∷ ls) (other ∷ others) valid also same =
     let first : line_text l ≡ line_text other = cc in
     let rest : map line_text ls ≡ map line_text others = cc in
-    ap (λ (m : Line). m ∷ ls) (line_told l other (All-head IsValidLine l ls valid) (All-head IsValidLine other others also) first)
-    ∙ ap (λ (ms : List Line). other ∷ ms) (lines_told ls others (All-tail IsValidLine l ls valid) (All-tail IsValidLine other others also) rest)
+    ap (λ (m : ProofLine). m ∷ ls) (line_told l other (All-head IsValidLine l ls valid) (All-head IsValidLine other others also) first)
+    ∙ ap (λ (ms : List ProofLine). other ∷ ms) (lines_told ls others (All-tail IsValidLine l ls valid) (All-tail IsValidLine other others also) rest)
 
 -- the lines are these and one more, which has this text
-abbrev IsOneMore : List Line → List Line → List ℕ → Type 0
-IsOneMore ls before text = (l : Line) × (ls ≡ before ++ l ∷ []) × (line_text l ≡ text) × IsValidLine l
+abbrev IsOneMore : List ProofLine → List ProofLine → List ℕ → Type 0
+IsOneMore ls before text = (l : ProofLine) × (ls ≡ before ++ l ∷ []) × (line_text l ≡ text) × IsValidLine l
 
-one_more : (ls before : List Line) (text : List ℕ) → All IsValidLine ls → All IsValidLine before → map line_text ls ≡ map line_text before ++ text ∷ [] → IsOneMore ls before text
+one_more : (ls before : List ProofLine) (text : List ℕ) → All IsValidLine ls → All IsValidLine before → map line_text ls ≡ map line_text before ++ text ∷ [] → IsOneMore ls before text
 one_more [] [] text valid also same = cc
 one_more [] (b ∷ before) text valid also same = cc
 one_more (l ∷ []) [] text valid also same = let first : line_text l ≡ text = cc in (l, refl, first, All-head IsValidLine l [] valid)
@@ -44,9 +44,9 @@ one_more (l ∷ ls) (b ∷ before) text valid also same =
     let first : line_text l ≡ line_text b = cc in
     let rest : map line_text ls ≡ map line_text before ++ text ∷ [] = cc in
     let more = one_more ls before text (All-tail IsValidLine l ls valid) (All-tail IsValidLine b before also) rest in
-    (more.0, ap (λ (m : Line). m ∷ ls) (line_told l b (All-head IsValidLine l ls valid) (All-head IsValidLine b before also) first) ∙ ap (λ (ms : List Line). b ∷ ms) more.1, more.2, more.3)
+    (more.0, ap (λ (m : ProofLine). m ∷ ls) (line_told l b (All-head IsValidLine l ls valid) (All-head IsValidLine b before also) first) ∙ ap (λ (ms : List ProofLine). b ∷ ms) more.1, more.2, more.3)
 
-place_valid : (place : Place) → IsPlace place → All IsValidLine (place_lines place)
+place_valid : (place : Progress) → IsPlace place → All IsValidLine (place_lines place)
 place_valid place is =
     let on = goes_on place is in
     subst (All IsValidLine) (ap (take (length (place_lines place))) on.3 ∙ take_at (place_lines place) on.1 (length (place_lines place)) refl)
@@ -74,7 +74,7 @@ text_lines proof text is = ap (split_at 10) is.spelled ∙ lines_split (proof_li
 
 -- A place that is reached, and what stands behind it
 
-stands : (text : List ℕ) (place : Place) (back : List (List ℕ)) → IsPlace place → split_at 10 text ≡ map line_text (place_lines place) ++ back → 0 < length back
+stands : (text : List ℕ) (place : Progress) (back : List (List ℕ)) → IsPlace place → split_at 10 text ≡ map line_text (place_lines place) ++ back → 0 < length back
     → CanStand text (length (place_lines place))
 stands text place back is parts some =
     let ls = place_lines place in
@@ -89,19 +89,19 @@ stands text place back is parts some =
     )
 
 -- the line behind the place can't stand there
-abbrev CantStand : Place → List ℕ → Type 0
-CantStand place text = (l : Line) → IsValidLine l → text ≡ line_text l → next (length (place_lines place) + 1) place l ≡ None
+abbrev CantStand : Progress → List ℕ → Type 0
+CantStand place text = (l : ProofLine) → IsValidLine l → text ≡ line_text l → next (length (place_lines place) + 1) place l ≡ None
 
-stuck_run : (place : Place) (l : Line) (back : List Line) → IsReached place → next (length (place_lines place) + 1) place l ≡ None → run 1 Start ((place_lines place ++ l ∷ []) ++ back) ≡ None
+stuck_run : (place : Progress) (l : ProofLine) (back : List ProofLine) → IsReached place → next (length (place_lines place) + 1) place l ≡ None → run 1 Start ((place_lines place ++ l ∷ []) ++ back) ≡ None
 stuck_run place l back reached stuck =
     let ls = place_lines place in
     let at : 1 + length ls ≡ length ls + 1 = omega arith in
     run-append 1 Start (ls ++ l ∷ []) back
-    ∙ ap (option_and_then (λ (p : Place). run (1 + length (ls ++ l ∷ [])) p back))
-    (run-append 1 Start ls (l ∷ []) ∙ ap (option_and_then (λ (p : Place). run (1 + length ls) p (l ∷ []))) reached.run
-    ∙ ap (λ (n : ℕ). run n place (l ∷ [])) at ∙ ap (option_and_then (λ (p : Place). run (length ls + 1 + 1) p [])) stuck)
+    ∙ ap (option_and_then (λ (p : Progress). run (1 + length (ls ++ l ∷ [])) p back))
+    (run-append 1 Start ls (l ∷ []) ∙ ap (option_and_then (λ (p : Progress). run (1 + length ls) p (l ∷ []))) reached.run
+    ∙ ap (λ (n : ℕ). run n place (l ∷ [])) at ∙ ap (option_and_then (λ (p : Progress). run (length ls + 1 + 1) p [])) stuck)
 
-no_front : (text : List ℕ) (place : Place) (part next_part : List ℕ) (back : List (List ℕ)) → IsReached place → split_at 10 text ≡ map line_text (place_lines place) ++ part ∷ next_part ∷ back
+no_front : (text : List ℕ) (place : Progress) (part next_part : List ℕ) (back : List (List ℕ)) → IsReached place → split_at 10 text ≡ map line_text (place_lines place) ++ part ∷ next_part ∷ back
     → CantStand place part → ¬ CanStand text (length (place_lines place) + 1)
 no_front text place part next_part back reached parts stuck can =
     let ls = place_lines place in
@@ -113,11 +113,11 @@ no_front text place part next_part back reached parts stuck can =
     let same : map line_text q ≡ front = sym (take-map line_text (length ls + 1) (proof_lines proof)) ∙ sym can.3 ∙ ap (λ (n : ℕ). take n (whole_lines text)) (sym count) ∙ first.1 in
     let more = one_more q ls part (All-take IsValidLine (length ls + 1) (proof_lines proof) (lines_valid proof can.2)) (place_valid place reached.valid) same in
     let split : proof_lines proof ≡ (ls ++ more.0 ∷ []) ++ drop (length ls + 1) (proof_lines proof)
-    = sym (take-append-drop (length ls + 1) (proof_lines proof)) ∙ ap (λ (ms : List Line). ms ++ drop (length ls + 1) (proof_lines proof)) more.1 in
+    = sym (take-append-drop (length ls + 1) (proof_lines proof)) ∙ ap (λ (ms : List ProofLine). ms ++ drop (length ls + 1) (proof_lines proof)) more.1 in
     none-some (Done proof) (sym (stuck_run place more.0 (drop (length ls + 1) (proof_lines proof)) reached (stuck more.0 more.3 (sym more.2))) ∙ ap (run 1 Start) (sym split) ∙ whole_run proof can.2)
 
 -- a line that can't stand is the first that can't
-pub bad_line : (text : List ℕ) (place : Place) (part next_part : List ℕ) (back : List (List ℕ)) → IsReached place → split_at 10 text ≡ map line_text (place_lines place) ++ part ∷ next_part ∷ back
+pub bad_line : (text : List ℕ) (place : Progress) (part next_part : List ℕ) (back : List (List ℕ)) → IsReached place → split_at 10 text ≡ map line_text (place_lines place) ++ part ∷ next_part ∷ back
     → CantStand place part → IsRefused text (length (place_lines place) + 1)
 bad_line text place part next_part back reached parts stuck =
     let ls = place_lines place in
@@ -133,7 +133,7 @@ bad_line text place part next_part back reached parts stuck =
     }
 
 -- a text that ends elsewhere than a proof's does
-pub ends_early : (text : List ℕ) (place : Place) (rest : List ℕ) → IsReached place → split_at 10 text ≡ map line_text (place_lines place) ++ rest ∷ []
+pub ends_early : (text : List ℕ) (place : Progress) (rest : List ℕ) → IsReached place → split_at 10 text ≡ map line_text (place_lines place) ++ rest ∷ []
     → ((proof : Proof) → place ≡ Done proof → rest ≡ [] → ⊥) → IsRefused text (length (place_lines place) + 1)
 ends_early text place rest reached parts open_end =
     let ls = place_lines place in

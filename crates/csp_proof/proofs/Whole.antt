@@ -10,11 +10,11 @@ use Rattle.csp_proof.specs.Places.{closed, behind_node, is_second, may_share, pl
 use Rattle.csp_proof.specs.Reading.{IsValidLine}
 use Rattle.csp_proof.specs.Spelling.{tree_lines, proof_lines, body_lines}
 use Rattle.csp_proof.specs.WellFormed.{Cases, Splits, IsBlocked, IsMet, preorder, IsValidNode, has_nodes, body_at, IsBody, line_behind, IsTree, AreTrees, IsWellFormed}
-use Rattle.csp_proof.specs.declared.line.Line.{Line}
-use Rattle.csp_proof.specs.declared.line.Line.TheVariants as line
-use Rattle.csp_proof.specs.declared.place.Opened.{Opened}
-use Rattle.csp_proof.specs.declared.place.Place.{Place}
-use Rattle.csp_proof.specs.declared.place.Place.TheVariants.{Start, Between, Within, Done}
+use Rattle.csp_proof.specs.declared.line.ProofLine.{ProofLine}
+use Rattle.csp_proof.specs.declared.line.ProofLine.TheVariants as line
+use Rattle.csp_proof.specs.declared.progress.OpenTree.{OpenTree}
+use Rattle.csp_proof.specs.declared.progress.Progress.{Progress}
+use Rattle.csp_proof.specs.declared.progress.Progress.TheVariants.{Start, Between, Within, Done}
 use Rattle.csp_proof.specs.declared.proof.Body.{Body}
 use Rattle.csp_proof.specs.declared.proof.Body.TheVariants as body
 use Rattle.csp_proof.specs.declared.proof.Format.{Format}
@@ -42,7 +42,7 @@ line_on before tree =
     let e = ap length (flat_map-append tree_lines before (tree ∷ []) ∙ ap (λ ls. flat_map tree_lines before ++ ls) (append-nil (tree_lines tree))) in
     omega (arith, e, length-append (flat_map tree_lines before) (tree_lines tree))
 
-cases_run : (cases : Cases) (format : Format) (trees : List Tree) (opened : Opened) (nodes : List Node) (more number : ℕ) (rest : List Line)
+cases_run : (cases : Cases) (format : Format) (trees : List Tree) (opened : OpenTree) (nodes : List Node) (more number : ℕ) (rest : List ProofLine)
     → run number (Within format trees opened nodes more) (map line.Node (preorder cases) ++ rest)
     ≡ run (number + length (preorder cases)) (behind_node format trees opened (nodes ++ preorder cases) (less more)) rest
 cases_run (IsBlocked policy) format trees opened nodes zero number rest = refl
@@ -59,7 +59,7 @@ cases_run (Splits atom holds fails) format trees opened nodes more number rest =
     ∙ ap (λ ns. run (number + suc (length (preorder holds ++ preorder fails))) (behind_node format trees opened ns (less more)) rest)
     (append_assoc front (preorder holds) (preorder fails) ∙ append_assoc nodes (node.Split atom ∷ []) (preorder holds ++ preorder fails))
 
-body_run : (format : Format) (trees : List Tree) (opened : Opened) (b : Body) (number : ℕ) (rest : List Line) → IsBody format trees b
+body_run : (format : Format) (trees : List Tree) (opened : OpenTree) (b : Body) (number : ℕ) (rest : List ProofLine) → IsBody format trees b
     → run number (Within format trees opened [] 0) (body_lines b ++ rest) ≡ run (number + length (body_lines b)) (Between format (trees ++ closed opened b ∷ [])) rest
 body_run format trees opened (body.Nodes nodes) number rest is =
     subst (λ (ns : List Node). run number (Within format trees opened [] 0) (map line.Node ns ++ rest) ≡ run (number + length (map line.Node ns)) (Between format (trees ++ closed opened (body.Nodes ns) ∷ [])) rest) is.0.1
@@ -68,11 +68,11 @@ body_run format trees opened (body.Same tree) number rest is =
     let shares : may_share format trees tree ≡ true = and_from (is_second format) (has_nodes (body_at trees tree)) (ap is_second is.0) is.2 in
     ap (option_and_then (λ p. run (number + 1) p rest)) (cond-true _ _ _ shares)
 
-trees_run : (format : Format) (before trees : List Tree) (rest : List Line) → AreTrees format before trees
+trees_run : (format : Format) (before trees : List Tree) (rest : List ProofLine) → AreTrees format before trees
     → run (line_behind before) (Between format before) (flat_map tree_lines trees ++ rest) ≡ run (line_behind (before ++ trees)) (Between format (before ++ trees)) rest
 trees_run format before [] rest each = ap (λ ts. run (line_behind ts) (Between format ts) rest) (sym (append-nil before))
 trees_run format before (tree ∷ trees) rest each =
-    let opened : Opened = record { shape = tree.shape; policy = tree.policy; line = line_behind before } in
+    let opened : OpenTree = record { shape = tree.shape; policy = tree.policy; line = line_behind before } in
     let same : closed opened tree.body ≡ tree = ap (λ (n : ℕ). record { shape = tree.shape; policy = tree.policy; line = n; body = tree.body }) (sym each.0.line) in
     let more = flat_map tree_lines trees ++ rest in
     ap (λ ls. run (line_behind before) (Between format before) (line.Tree tree.shape tree.policy ∷ ls)) (append_assoc (body_lines tree.body) (flat_map tree_lines trees) rest)
@@ -107,8 +107,8 @@ lines_valid proof formed =
 
 -- What leads to a place begins a proof
 
-abbrev GoesOn : Place → Type 0
-GoesOn place = (proof : Proof) × (rest : List Line) × IsWellFormed proof × (proof_lines proof ≡ place_lines place ++ rest)
+abbrev GoesOn : Progress → Type 0
+GoesOn place = (proof : Proof) × (rest : List ProofLine) × IsWellFormed proof × (proof_lines proof ≡ place_lines place ++ rest)
 
 ended : (format : Format) (trees : List Tree) → AreTrees format [] trees → GoesOn (Between format trees)
 ended format trees each = (record { format = format; trees = trees; last_line = line_behind trees }, line.End ∷ [], record { trees = each; last_line = refl }, refl)
@@ -125,7 +125,7 @@ met_valid : (n : ℕ) → All IsValidNode (flat_map preorder (all_met n))
 met_valid zero = All-nil IsValidNode
 met_valid (suc n) = All-cons IsValidNode node.Met (flat_map preorder (all_met n)) tt (met_valid n)
 
-finished : (format : Format) (trees : List Tree) (opened : Opened) (nodes : List Node) (more : ℕ) → IsWithin format trees opened nodes more → GoesOn (Within format trees opened nodes more)
+finished : (format : Format) (trees : List Tree) (opened : OpenTree) (nodes : List Node) (more : ℕ) → IsWithin format trees opened nodes more → GoesOn (Within format trees opened nodes more)
 unfolding ended
 finished format trees opened nodes more within =
     let mets = flat_map preorder (all_met (more + 1)) in
@@ -141,7 +141,7 @@ finished format trees opened nodes more within =
           ∙ append_assoc (front ++ line.Tree opened.shape opened.policy ∷ map line.Node nodes) (map line.Node mets) (line.End ∷ []),
     )
 
-pub goes_on : (place : Place) → IsPlace place → GoesOn place
+pub goes_on : (place : Progress) → IsPlace place → GoesOn place
 goes_on Start is = (record { format = One; trees = []; last_line = 2 }, line.Head One ∷ line.End ∷ [], record { trees = tt; last_line = refl }, refl)
 goes_on (Between format trees) is = ended format trees is
 goes_on (Within format trees opened nodes more) is = finished format trees opened nodes more is

@@ -26,8 +26,8 @@ use Rattle.csp_facts.specs.declared.atom.Atom.TheVariants.{HostIs, HostUnder, Ho
 use Rattle.csp_facts.specs.Numbers.{shape_count}
 use Rattle.csp_proof.specs.Spelling.{atom_text, line_text}
 use Rattle.csp_proof.specs.WellFormed.{IsValidNode}
-use Rattle.csp_proof.specs.declared.line.Line.{Line}
-use Rattle.csp_proof.specs.declared.line.Line.TheVariants as line
+use Rattle.csp_proof.specs.declared.line.ProofLine.{ProofLine}
+use Rattle.csp_proof.specs.declared.line.ProofLine.TheVariants as line
 use Rattle.csp_proof.specs.declared.proof.Format.{Format}
 use Rattle.csp_proof.specs.declared.proof.Format.TheVariants.{One, Two}
 use Rattle.csp_proof.specs.declared.proof.Node.TheVariants as node
@@ -139,23 +139,23 @@ abbrev pub format_named : List ℕ → Option Format
 format_named text =
     if bytes_eq text (codes "1") then Some One else if bytes_eq text (codes "2") then Some Two else None
 
-abbrev pub tree_line : Option ℕ → Option ℕ → Option Line
+abbrev pub tree_line : Option ℕ → Option ℕ → Option ProofLine
 tree_line (Some shape) (Some policy) = Some (line.Tree shape policy)
 tree_line shape policy = None
 
-abbrev pub tree_of : Option (List ℕ × List ℕ) → Option Line
+abbrev pub tree_of : Option (List ℕ × List ℕ) → Option ProofLine
 tree_of None = None
 tree_of (Some parts) = tree_line (number_below shape_count parts.0) (number_below policy_limit parts.1)
 
 -- a line of one word
-abbrev pub bare_line : List ℕ → Option Line
+abbrev pub bare_line : List ℕ → Option ProofLine
 bare_line text =
     if bytes_eq text (codes "met") then Some (line.Node node.Met)
     else if bytes_eq text (codes "end") then Some line.End
     else None
 
 -- a line of a word and what stands behind it
-unfoldable pub line_about : List ℕ → List ℕ → Option Line
+unfoldable pub line_about : List ℕ → List ℕ → Option ProofLine
 line_about word value =
     if bytes_eq word (codes "split") then option_map (λ a. line.Node (node.Split a)) (atom_of value)
     else if bytes_eq word (codes "blocked")
@@ -165,17 +165,17 @@ line_about word value =
     else if bytes_eq word (codes "csp-proof") then option_map line.Head (format_named value)
     else None
 
-abbrev pub line_by : Option (List ℕ × List ℕ) → List ℕ → Option Line
+abbrev pub line_by : Option (List ℕ × List ℕ) → List ℕ → Option ProofLine
 line_by None text = bare_line text
 line_by (Some parts) text = line_about parts.0 parts.1
 
-abbrev pub line_of : List ℕ → Option Line
+abbrev pub line_of : List ℕ → Option ProofLine
 line_of text = line_by (cut text) text
 
 -- What a line spells
 
 -- a line that the format can spell
-abbrev pub IsValidLine : Line → Type 0
+abbrev pub IsValidLine : ProofLine → Type 0
 IsValidLine (line.Head format) = ⊤
 IsValidLine (line.Tree shape policy) = (shape < shape_count) × (policy < policy_limit)
 IsValidLine (line.Same number) = number < 2 ^ 32
@@ -183,6 +183,6 @@ IsValidLine (line.Node step) = IsValidNode step
 IsValidLine line.End = ⊤
 
 -- the text spells this line, or none
-abbrev pub IsReadAs : List ℕ → Option Line → Type 0
-IsReadAs text None = (l : Line) → IsValidLine l → text ≡ line_text l → ⊥
+abbrev pub IsReadAs : List ℕ → Option ProofLine → Type 0
+IsReadAs text None = (l : ProofLine) → IsValidLine l → text ≡ line_text l → ⊥
 IsReadAs text (Some l) = IsValidLine l × (text ≡ line_text l)

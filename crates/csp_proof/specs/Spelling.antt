@@ -5,8 +5,8 @@ use Rattle.std.specs.List.{flat_map, join_with_byte}
 use Rattle.csp_model.specs.Ascii.{code}
 use Rattle.csp_facts.specs.Spelling.{spelled}
 use Rattle.csp_facts.specs.declared.atom.Atom.{Atom}
-use Rattle.csp_proof.specs.declared.line.Line.{Line}
-use Rattle.csp_proof.specs.declared.line.Line.TheVariants as line
+use Rattle.csp_proof.specs.declared.line.ProofLine.{ProofLine}
+use Rattle.csp_proof.specs.declared.line.ProofLine.TheVariants as line
 use Rattle.csp_proof.specs.declared.proof.Node.{Node}
 use Rattle.csp_proof.specs.declared.proof.Node.TheVariants as node
 use Rattle.csp_proof.specs.declared.proof.Format.{Format}
@@ -30,29 +30,29 @@ node_words (node.Blocked policy) = codes "blocked" ∷ decimal policy ∷ []
 node_words node.Met = codes "met" ∷ []
 
 -- the words of a line; a number is in decimal digits, without leading zeros
-abbrev pub line_words : Line → List (List ℕ)
+abbrev pub line_words : ProofLine → List (List ℕ)
 line_words (line.Head format) = codes "csp-proof" ∷ format_text format ∷ []
 line_words (line.Tree shape policy) = codes "tree" ∷ decimal shape ∷ decimal policy ∷ []
 line_words (line.Same number) = codes "same" ∷ decimal number ∷ []
 line_words (line.Node step) = node_words step
 line_words line.End = codes "end" ∷ []
 
-abbrev pub line_text : Line → List ℕ
+abbrev pub line_text : ProofLine → List ℕ
 line_text l = join_with_byte (code " ") (line_words l)
 
-abbrev pub body_lines : Body → List Line
+abbrev pub body_lines : Body → List ProofLine
 body_lines (body.Nodes nodes) = map line.Node nodes
 body_lines (body.Same number) = line.Same number ∷ []
 
 -- a tree's own line, and those of its nodes in preorder, or the one that says which nodes it shares
-abbrev pub tree_lines : Tree → List Line
+abbrev pub tree_lines : Tree → List ProofLine
 tree_lines tree = line.Tree tree.shape tree.policy ∷ body_lines tree.body
 
 -- the format, the trees and the end
-abbrev pub proof_lines : Proof → List Line
+abbrev pub proof_lines : Proof → List ProofLine
 proof_lines proof = line.Head proof.format ∷ flat_map tree_lines proof.trees ++ line.End ∷ []
 
-abbrev pub lines_text : List Line → List ℕ
+abbrev pub lines_text : List ProofLine → List ℕ
 lines_text lines = flat_map (λ l. line_text l ++ codes "\n") lines
 
 abbrev pub proof_text : Proof → List ℕ

@@ -11,7 +11,7 @@ use std::alloc::Global;
 
 // What a line says.
 #[derive(Drop)]
-pub(crate) enum Line {
+pub(crate) enum ProofLine {
     // The first line of a proof, with its format.
     Head { format: Format },
     // A tree begins, for a shape and a policy.
@@ -43,45 +43,45 @@ fn shape_of(text: &str) -> Option<u8>
 }
 
 // The line of a tree for this shape and this policy.
-fn tree_of(text: &str) -> Option<Line>
+fn tree_of(text: &str) -> Option<ProofLine>
     ensures { result ≡ spec.tree_of (spec.cut text.now) }
 {
     let (shape, policy) = cut(text)?;
     let shape = shape_of(shape)?;
     let policy = number_below(64, policy)?;
-    Some(Line::Tree { shape, policy })
+    Some(ProofLine::Tree { shape, policy })
 }
 
-fn bare_line(word: &str) -> Option<Line>
+fn bare_line(word: &str) -> Option<ProofLine>
     ensures { result ≡ spec.bare_line word.now }
 {
     match word {
-        "met" => Some(Line::Node { node: Node::Met }),
-        "end" => Some(Line::End),
+        "met" => Some(ProofLine::Node { node: Node::Met }),
+        "end" => Some(ProofLine::End),
         _ => None,
     }
 }
 
 // The line of a word and what stands behind it.
 #[tactic(auto, unfolding(crate::specs::Reading::line_about))]
-fn line_about(alloc: Global, word: &str, value: &str) -> Result<Option<Line>, Memory>
+fn line_about(alloc: Global, word: &str, value: &str) -> Result<Option<ProofLine>, Memory>
     ensures { IfOk result (λ found. found ≡ spec.line_about word.now value.now) }
 {
     match word {
-        "split" => Ok(read_atom(alloc, value)?.map(|atom| Line::Node {
+        "split" => Ok(read_atom(alloc, value)?.map(|atom| ProofLine::Node {
             node: Node::Split { atom },
         })),
-        "blocked" => Ok(number_below(64, value).map(|policy| Line::Node {
+        "blocked" => Ok(number_below(64, value).map(|policy| ProofLine::Node {
             node: Node::Blocked { policy },
         })),
         "tree" => Ok(tree_of(value)),
-        "same" => Ok(number_below(1 << 32, value).map(|tree| Line::Same { tree })),
-        "csp-proof" => Ok(format_named(value).map(|format| Line::Head { format })),
+        "same" => Ok(number_below(1 << 32, value).map(|tree| ProofLine::Same { tree })),
+        "csp-proof" => Ok(format_named(value).map(|format| ProofLine::Head { format })),
         _ => Ok(None),
     }
 }
 
-fn read_text(alloc: Global, text: &str) -> Result<Option<Line>, Memory>
+fn read_text(alloc: Global, text: &str) -> Result<Option<ProofLine>, Memory>
     ensures { IfOk result (λ found. found ≡ spec.line_of text.now) }
 {
     match cut(text) {
@@ -91,7 +91,7 @@ fn read_text(alloc: Global, text: &str) -> Result<Option<Line>, Memory>
 }
 
 // The line that these bytes spell.
-pub(crate) fn read_line(alloc: Global, bytes: &[u8]) -> Result<Option<Line>, Memory>
+pub(crate) fn read_line(alloc: Global, bytes: &[u8]) -> Result<Option<ProofLine>, Memory>
     ensures { IfOk result (λ found. spec.IsReadAs bytes.now found) }
 {
     match str::from_utf8(bytes) {

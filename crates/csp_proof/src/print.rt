@@ -6,7 +6,7 @@ ghost use Rattle.csp_model.specs.Tokens.{algorithm_of, bytes_of};
 ghost use Rattle.csp_model.specs.Grammar.{algorithm_text};
 ghost use Rattle.hex.specs.Hex.{encode_lower};
 ghost use Rattle.csp_proof.specs.Spelling as spec;
-ghost use Rattle.csp_proof.specs.declared.line.Line.TheVariants as line;
+ghost use Rattle.csp_proof.specs.declared.line.ProofLine.TheVariants as line;
 ghost use Rattle.csp_proof.specs.WellFormed.{IsWellFormed};
 
 use crate::proof::{Body, Format, Node, Proof, Tree};

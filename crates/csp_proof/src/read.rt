@@ -8,7 +8,7 @@ ghost use Rattle.csp_proof.specs.declared.proof.Proof.{Proof as ProofValue};
 
 use crate::error::ProofError;
 use crate::line::read_line;
-use crate::place::Place;
+use crate::progress::Progress;
 use crate::proof::Proof;
 use std::alloc::Global;
 
@@ -32,7 +32,12 @@ fn first_line(text: &[u8]) -> Option<(&[u8], &[u8])>
 }
 
 // The place behind the line that a text spells, which is the one of this number.
-fn place_behind(alloc: Global, place: Place, number: u32, text: &[u8]) -> Result<Place, ProofError>
+fn place_behind(
+    alloc: Global,
+    place: Progress,
+    number: u32,
+    text: &[u8],
+) -> Result<Progress, ProofError>
     requires { places.branches place + 1 < 2 ^ 32 }
     ensures ok { IfOk result (λ after. places.Leads number place text.now after) }
     ensures bad { IfErr result (λ e. places.IsStuck number place text.now e) }
@@ -49,11 +54,11 @@ fn place_behind(alloc: Global, place: Place, number: u32, text: &[u8]) -> Result
 
 // The proof at whose end the lines are, where nothing stands behind them. Else the line of this number can't
 // stand there.
-fn whole_proof(place: Place, rest: &[u8], number: u32) -> Result<Proof, ProofError>
+fn whole_proof(place: Progress, rest: &[u8], number: u32) -> Result<Proof, ProofError>
     ensures { result ≡ places.proof_at place rest.now number }
 {
     match place {
-        Place::Done { proof } if rest.is_empty() => Ok(proof),
+        Progress::Done { proof } if rest.is_empty() => Ok(proof),
         _ => Err(ProofError::BadProof { line: number }),
     }
 }
@@ -71,7 +76,7 @@ pub fn read_proof(alloc: Global, bytes: &[u8]) -> Result<Proof, ProofError>
     ensures only { (proof : ProofValue) → spec.IsTextOf proof bytes.now
         → Gives ProofError.Memory result (Ok proof) }
 {
-    let mut place = Place::Start;
+    let mut place = Progress::Start;
     let mut number = 1;
     let mut rest = bytes;
     while let Some((text, behind)) = first_line(rest) {

@@ -13,8 +13,8 @@ use Rattle.csp_request.specs.Members.{◌>>=◌, demand, optional, required, nam
 use Rattle.csp_request.specs.declared.error.DescriptionError.{DescriptionError}
 use Rattle.csp_request.specs.declared.field.Field.TheVariants as field
 use Rattle.csp_request.specs.declared.inline.InlineSource.{InlineSource}
-use Rattle.csp_request.specs.declared.kind.Kind.{Kind}
-use Rattle.csp_request.specs.declared.kind.Kind.TheVariants as kind
+use Rattle.csp_request.specs.declared.kind.DescriptionKind.{DescriptionKind}
+use Rattle.csp_request.specs.declared.kind.DescriptionKind.TheVariants as kind
 use Rattle.csp_request.specs.declared.texts.ReportTexts.TheVariants.{Made}
 
 abbrev pub Outcome : Type 0
@@ -65,7 +65,7 @@ inline_same f one other value alike =
     (λ s. then_same f (nonce_of value) _ _ (λ nonce. alike which nonce s)))
 
 by_kind : {X : Type 0} (f : Outcome → X) (one other : List ℕ → Digests) (value : Data)
-    → AreAlike f one other → (which : Kind) → f (described_by Made one which value) ≡ f (described_by Made other which value)
+    → AreAlike f one other → (which : DescriptionKind) → f (described_by Made one which value) ≡ f (described_by Made other which value)
 by_kind f one other value alike kind.Fetch = refl
 by_kind f one other value alike kind.Inline = inline_same f one other value alike
 by_kind f one other value alike kind.Eval = refl

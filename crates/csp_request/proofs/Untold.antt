@@ -21,8 +21,8 @@ use Rattle.csp_request.specs.declared.chain.Hop.{Hop}
 use Rattle.csp_request.specs.declared.error.DescriptionError.{DescriptionError}
 use Rattle.csp_request.specs.declared.field.Field.TheVariants as field
 use Rattle.csp_request.specs.declared.inline.InlineSource.{InlineSource}
-use Rattle.csp_request.specs.declared.kind.Kind.{Kind}
-use Rattle.csp_request.specs.declared.kind.Kind.TheVariants as kind
+use Rattle.csp_request.specs.declared.kind.DescriptionKind.{DescriptionKind}
+use Rattle.csp_request.specs.declared.kind.DescriptionKind.TheVariants as kind
 use Rattle.csp_request.specs.declared.texts.ReportTexts.{ReportTexts}
 use Rattle.csp_request.specs.declared.texts.ReportTexts.TheVariants.{Made}
 use Rattle.csp_request.proofs.Hashed.{Outcome, then_same}
@@ -160,7 +160,7 @@ inline_told texts hashed value =
       by which (Ok source) = source_same texts hashed which value source
       by which (Err e) = refl
 
-by_kind : (texts : ReportTexts) (hashed : List ℕ → Digests) (value : Data) (which : Kind)
+by_kind : (texts : ReportTexts) (hashed : List ℕ → Digests) (value : Data) (which : DescriptionKind)
     → checks_in (described_by texts hashed which value) ≡ checks_in (described_by Made hashed which value)
 by_kind texts hashed value kind.Fetch = fetch_same texts value
 by_kind texts hashed value kind.Inline = inline_told texts hashed value

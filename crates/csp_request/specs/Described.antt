@@ -30,8 +30,8 @@ use Rattle.csp_request.specs.declared.field.Field.{Field}
 use Rattle.csp_request.specs.declared.field.Field.TheVariants as field
 use Rattle.csp_request.specs.declared.fetch.FetchOptions.{FetchOptions}
 use Rattle.csp_request.specs.declared.inline.InlineSource.{InlineSource}
-use Rattle.csp_request.specs.declared.kind.Kind.{Kind}
-use Rattle.csp_request.specs.declared.kind.Kind.TheVariants as kind
+use Rattle.csp_request.specs.declared.kind.DescriptionKind.{DescriptionKind}
+use Rattle.csp_request.specs.declared.kind.DescriptionKind.TheVariants as kind
 use Rattle.csp_request.specs.declared.texts.ReportTexts.{ReportTexts}
 use Rattle.csp_request.specs.declared.texts.ReportTexts.TheVariants as texts
 
@@ -198,7 +198,7 @@ worker_start = Ok (described_as (check.WorkerStart ∷ []) [] [])
 
 -- a description of a kind, with the texts that a report shows or without, where `hashed` gives the digests of
 -- a source
-abbrev pub described_by : ReportTexts → (List ℕ → Digests) → Kind → Data → Result Described DescriptionError
+abbrev pub described_by : ReportTexts → (List ℕ → Digests) → DescriptionKind → Data → Result Described DescriptionError
 described_by texts hashed kind.Fetch value = fetch texts value
 described_by texts hashed kind.Inline value = inline texts hashed value
 described_by texts hashed kind.Eval value = eval texts value

@@ -4,10 +4,10 @@ use Rattle.std.specs.List.{find}
 use Rattle.std.specs.Str.{bytes_eq}
 use Rattle.csp_model.specs.declared.check.InlineKind.{InlineKind}
 use Rattle.csp_model.specs.declared.check.InlineKind.TheVariants as inline
-use Rattle.csp_request.specs.declared.kind.Kind.{Kind}
-use Rattle.csp_request.specs.declared.kind.Kind.TheVariants as kind
+use Rattle.csp_request.specs.declared.kind.DescriptionKind.{DescriptionKind}
+use Rattle.csp_request.specs.declared.kind.DescriptionKind.TheVariants as kind
 
-abbrev pub kind_text : Kind → List ℕ
+abbrev pub kind_text : DescriptionKind → List ℕ
 kind_text kind.Fetch = codes "fetch"
 kind_text kind.Inline = codes "inline"
 kind_text kind.Eval = codes "eval"
@@ -18,11 +18,11 @@ kind_text kind.Ancestors = codes "ancestors"
 kind_text kind.Capability = codes "capability"
 kind_text kind.WorkerStart = codes "worker-start"
 
-abbrev pub kinds : List Kind
+abbrev pub kinds : List DescriptionKind
 kinds = kind.Fetch ∷ kind.Inline ∷ kind.Eval ∷ kind.Wasm ∷ kind.Base ∷ kind.Form ∷ kind.Ancestors
     ∷ kind.Capability ∷ kind.WorkerStart ∷ []
 
-abbrev pub kind_named : List ℕ → Option Kind
+abbrev pub kind_named : List ℕ → Option DescriptionKind
 kind_named name = find (λ k. bytes_eq name (kind_text k)) kinds
 
 abbrev pub inline_text : InlineKind → List ℕ

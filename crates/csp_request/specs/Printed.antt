@@ -20,8 +20,8 @@ use Rattle.csp_model.specs.declared.destination.Destination.TheVariants as desti
 use Rattle.csp_token.specs.Integrity.{integrity_text}
 use Rattle.csp_request.specs.Kinds.{kind_text, inline_text}
 use Rattle.csp_request.specs.Requests.{requests_of}
-use Rattle.csp_request.specs.declared.kind.Kind.{Kind}
-use Rattle.csp_request.specs.declared.kind.Kind.TheVariants as kind
+use Rattle.csp_request.specs.declared.kind.DescriptionKind.{DescriptionKind}
+use Rattle.csp_request.specs.declared.kind.DescriptionKind.TheVariants as kind
 
 -- an object of these members, whose names stand in byte order
 abbrev pub members : List (List ℕ × Data) → Members
@@ -50,7 +50,7 @@ digests_data digests = object_of (
     ∷ (codes "sha384", string (encode_lower digests.sha384))
     ∷ (codes "sha512", string (encode_lower digests.sha512)) ∷ [])
 
-abbrev pub kind_member : Kind → (List ℕ × Data)
+abbrev pub kind_member : DescriptionKind → (List ℕ × Data)
 kind_member which = (codes "kind", string (kind_text which))
 
 -- the destination that stands for a group in what is printed

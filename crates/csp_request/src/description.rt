@@ -17,11 +17,11 @@ use crate::error::DescriptionError;
 use crate::fetch::fetch;
 use crate::field::Field;
 use crate::inline::source_of;
-use crate::kind::{Kind, inline_named};
+use crate::kind::{DescriptionKind, inline_named};
 use crate::located::{page, required_url, web_url};
-use crate::member::{demand, needed, needed_array, required_text, text_or_empty};
+use crate::member::{demand, needed_array, require, required_text, text_or_empty};
 use crate::sample::{sample_of, text_is_utf8};
-use crate::texts::{ReportTexts, no_text, told as told_text};
+use crate::texts::{ReportTexts, no_text, report_text};
 use csp_json::Value;
 use csp_model::{Capability, Check, Described, InlineKind, List, Memory, Path, Text, Url};
 use csp_token::Algorithms;
@@ -29,11 +29,11 @@ use csp_url::ShownUrl;
 use std::alloc::{AllocError, Global};
 
 // The kind of a description.
-fn kind_of(value: &Value<'_>) -> Result<Kind, DescriptionError>
+fn kind_of(value: &Value<'_>) -> Result<DescriptionKind, DescriptionError>
     ensures { result ≡ required (named kind_named) Field.Kind (view value.now) }
 {
     let name = required_text(Field::Kind, value)?;
-    needed(Field::Kind, Kind::from_name(name))
+    require(Field::Kind, DescriptionKind::from_name(name))
 }
 
 // The capability that a description asks for.
@@ -41,7 +41,7 @@ fn capability_of(value: &Value<'_>) -> Result<Capability, DescriptionError>
     ensures { result ≡ required (named capability_named) Field.Name (view value.now) }
 {
     let name = required_text(Field::Name, value)?;
-    needed(Field::Name, Capability::from_name(name))
+    require(Field::Name, Capability::from_name(name))
 }
 
 // A request of one check.
@@ -61,7 +61,7 @@ fn of_one_check(
     checks.push(check)?;
     Ok(Described {
         checks,
-        blocked_uri: told_text(alloc, texts, blocked_uri)?,
+        blocked_uri: report_text(alloc, texts, blocked_uri)?,
         sample,
     })
 }
@@ -239,7 +239,7 @@ fn inline_kind_of(value: &Value<'_>) -> Result<InlineKind, DescriptionError>
     ensures { result ≡ required (named kind_of_inline) Field.InlineType (view value.now) }
 {
     let name = required_text(Field::InlineType, value)?;
-    needed(Field::InlineType, inline_named(name))
+    require(Field::InlineType, inline_named(name))
 }
 
 // Inline code or style.
@@ -269,7 +269,7 @@ fn inline(
 fn described_by(
     alloc: Global,
     texts: ReportTexts,
-    kind: Kind,
+    kind: DescriptionKind,
     value: &Value<'_>,
     wanted: Algorithms,
 ) -> Result<Described, DescriptionError>
@@ -278,15 +278,15 @@ fn described_by(
     ensures valid { IfOk result (λ made. All IsValidCheck made.checks) }
 {
     match kind {
-        Kind::Fetch => fetch(alloc, texts, value),
-        Kind::Inline => inline(alloc, texts, value, wanted),
-        Kind::Eval => eval(alloc, texts, value),
-        Kind::Wasm => wasm(alloc, texts),
-        Kind::Base => base(alloc, texts, value),
-        Kind::Form => form(alloc, texts, value),
-        Kind::Ancestors => ancestors(alloc, texts, value),
-        Kind::Capability => capability(alloc, value),
-        Kind::WorkerStart => worker_start(alloc),
+        DescriptionKind::Fetch => fetch(alloc, texts, value),
+        DescriptionKind::Inline => inline(alloc, texts, value, wanted),
+        DescriptionKind::Eval => eval(alloc, texts, value),
+        DescriptionKind::Wasm => wasm(alloc, texts),
+        DescriptionKind::Base => base(alloc, texts, value),
+        DescriptionKind::Form => form(alloc, texts, value),
+        DescriptionKind::Ancestors => ancestors(alloc, texts, value),
+        DescriptionKind::Capability => capability(alloc, value),
+        DescriptionKind::WorkerStart => worker_start(alloc),
     }
 }
 

@@ -13,7 +13,7 @@ use crate::chain::{Chain, Hop, chain_of};
 use crate::error::DescriptionError;
 use crate::field::Field;
 use crate::located::optional_url;
-use crate::member::{flag_part, needed, required_text, text_or_empty};
+use crate::member::{flag_part, require, required_text, text_or_empty};
 use crate::sample::text_is_utf8;
 use crate::texts::{ReportTexts, no_text};
 use csp_json::Value;
@@ -36,7 +36,7 @@ fn destination_of(value: &Value<'_>) -> Result<Destination, DescriptionError>
     ensures { result ≡ required (named destination_named) Field.Destination (view value.now) }
 {
     let name = required_text(Field::Destination, value)?;
-    needed(Field::Destination, Destination::from_name(name))
+    require(Field::Destination, Destination::from_name(name))
 }
 
 // The count of the last hop.

@@ -11,7 +11,7 @@ ghost use Rattle.csp_request.specs.Described as spec;
 
 use crate::error::DescriptionError;
 use crate::field::Field;
-use crate::member::{demand, is_absent, needed, needed_text, present, text_part};
+use crate::member::{demand, is_absent, needed_text, present, require, text_part};
 use crate::sample::sample_of;
 use crate::texts::{ReportTexts, no_text};
 use csp_json::Value;
@@ -65,7 +65,7 @@ fn digest_part<const N: usize>(
     ensures size { IfOk result (IsOfSize N) }
 {
     let word = needed_text(name, field, value)?;
-    needed(field, lower_hex(word))
+    require(field, lower_hex(word))
 }
 
 fn digests_from(field: Field, value: &Value<'_>) -> Result<Digests, DescriptionError>
@@ -110,7 +110,7 @@ pub(crate) fn source_of(
             })
         }
         None => Ok(InlineSource {
-            digests: needed(Field::Source, optional_digests(value)?)?,
+            digests: require(Field::Source, optional_digests(value)?)?,
             sample: no_text(alloc),
         }),
     }

@@ -6,7 +6,7 @@ use csp_model::InlineKind;
 
 /// What a description asks for: its member `kind`.
 #[derive(Clone, Copy, Debug, PartialEq, Eq)]
-pub enum Kind {
+pub enum DescriptionKind {
     Fetch,
     Inline,
     Eval,
@@ -18,38 +18,38 @@ pub enum Kind {
     WorkerStart,
 }
 
-impl Kind {
+impl DescriptionKind {
     /// The kind as it is written, as `worker-start`.
     pub fn as_str(self) -> &'static str
         ensures { result.now ≡ spec.kind_text self }
     {
         match self {
-            Kind::Fetch => "fetch",
-            Kind::Inline => "inline",
-            Kind::Eval => "eval",
-            Kind::Wasm => "wasm",
-            Kind::Base => "base",
-            Kind::Form => "form",
-            Kind::Ancestors => "ancestors",
-            Kind::Capability => "capability",
-            Kind::WorkerStart => "worker-start",
+            DescriptionKind::Fetch => "fetch",
+            DescriptionKind::Inline => "inline",
+            DescriptionKind::Eval => "eval",
+            DescriptionKind::Wasm => "wasm",
+            DescriptionKind::Base => "base",
+            DescriptionKind::Form => "form",
+            DescriptionKind::Ancestors => "ancestors",
+            DescriptionKind::Capability => "capability",
+            DescriptionKind::WorkerStart => "worker-start",
         }
     }
 
     // The kind that is so written.
-    pub(crate) fn from_name(name: &str) -> Option<Kind>
+    pub(crate) fn from_name(name: &str) -> Option<DescriptionKind>
         ensures { result ≡ spec.kind_named name.now }
     {
         match name {
-            "fetch" => Some(Kind::Fetch),
-            "inline" => Some(Kind::Inline),
-            "eval" => Some(Kind::Eval),
-            "wasm" => Some(Kind::Wasm),
-            "base" => Some(Kind::Base),
-            "form" => Some(Kind::Form),
-            "ancestors" => Some(Kind::Ancestors),
-            "capability" => Some(Kind::Capability),
-            "worker-start" => Some(Kind::WorkerStart),
+            "fetch" => Some(DescriptionKind::Fetch),
+            "inline" => Some(DescriptionKind::Inline),
+            "eval" => Some(DescriptionKind::Eval),
+            "wasm" => Some(DescriptionKind::Wasm),
+            "base" => Some(DescriptionKind::Base),
+            "form" => Some(DescriptionKind::Form),
+            "ancestors" => Some(DescriptionKind::Ancestors),
+            "capability" => Some(DescriptionKind::Capability),
+            "worker-start" => Some(DescriptionKind::WorkerStart),
             _ => None,
         }
     }

@@ -25,7 +25,7 @@ pub use check::read_check;
 pub use description::{describe, describe_for};
 pub use error::{CheckError, DescriptionError, RequestError};
 pub use field::Field;
-pub use kind::{Kind, inline_text};
+pub use kind::{DescriptionKind, inline_text};
 pub use print::check_json;
 pub use requests::read_requests;
 pub use taking::{Take, each};

@@ -12,7 +12,7 @@ ghost use Rattle.csp_request.specs.Urls as spec;
 
 use crate::error::DescriptionError;
 use crate::field::Field;
-use crate::member::{needed, needed_text, number_part, present, text_part};
+use crate::member::{needed_text, number_part, present, require, text_part};
 use crate::texts::{ReportTexts, no_text};
 use csp_json::Value;
 use csp_model::{Memory, Scheme, Text, Url};
@@ -162,7 +162,11 @@ pub(crate) fn required_url(
     ensures url { Gives DescriptionError.Memory result (required spec.web_url field (view value.now)) }
     ensures valid { IfOk result IsValidUrl }
 {
-    web_url(alloc, field, needed(field, present(value, field.as_str()))?)
+    web_url(
+        alloc,
+        field,
+        require(field, present(value, field.as_str()))?,
+    )
 }
 
 // The page of a description, or none where it is absent.
@@ -190,6 +194,6 @@ pub(crate) fn only_url(
         (required (spec.located_url texts) Field.Url (view value.now)) }
     ensures valid { IfOk result (λ there. IsValidUrl there.url) }
 {
-    let found = needed(Field::Url, present(value, "url"))?;
+    let found = require(Field::Url, present(value, "url"))?;
     located_url(alloc, texts, Field::Url, found)
 }

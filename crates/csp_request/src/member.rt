@@ -9,7 +9,7 @@ use crate::field::Field;
 use csp_json::Value;
 
 // What has to be there.
-pub(crate) fn needed<T: Drop>(field: Field, found: Option<T>) -> Result<T, DescriptionError>
+pub(crate) fn require<T: Drop>(field: Field, found: Option<T>) -> Result<T, DescriptionError>
     ensures { result ≡ spec.needed field found }
 {
     match found {
@@ -48,14 +48,14 @@ pub(crate) fn is_absent(value: &Value<'_>, field: Field) -> bool
 pub(crate) fn text<'v>(field: Field, value: &'v Value<'_>) -> Result<&'v str, DescriptionError>
     ensures { spec.found_map (λ t. t.now) result ≡ spec.text field (view value.now) }
 {
-    needed(field, value.as_str())
+    require(field, value.as_str())
 }
 
 // A truth value.
 fn flag(field: Field, value: &Value<'_>) -> Result<bool, DescriptionError>
     ensures { result ≡ spec.flag field (view value.now) }
 {
-    needed(field, value.as_bool())
+    require(field, value.as_bool())
 }
 
 // A whole number up to the greatest that is allowed.
@@ -73,7 +73,7 @@ fn whole_number(greatest: u32, value: &Value<'_>) -> Option<u32>
 fn number(greatest: u32, field: Field, value: &Value<'_>) -> Result<u32, DescriptionError>
     ensures { result ≡ spec.number greatest field (view value.now) }
 {
-    needed(field, whole_number(greatest, value))
+    require(field, whole_number(greatest, value))
 }
 
 // The items of an array.
@@ -83,7 +83,7 @@ pub(crate) fn array<'v, 'a>(
 ) -> Result<&'v [Value<'a>], DescriptionError>
     ensures { spec.found_map (λ items. map view items.now) result ≡ spec.array field (view value.now) }
 {
-    needed(field, value.as_array())
+    require(field, value.as_array())
 }
 
 // A part that holds a text, or none where it is absent.
@@ -109,7 +109,7 @@ pub(crate) fn needed_text<'v>(
     ensures { spec.found_map (λ t. t.now) result
         ≡ spec.needed_part name.now spec.text field (view value.now) }
 {
-    needed(field, text_part(name, field, value)?)
+    require(field, text_part(name, field, value)?)
 }
 
 // A part that holds a whole number up to the greatest that is allowed, or none where it is absent.
@@ -150,7 +150,7 @@ pub(crate) fn needed_array<'v, 'a>(
     ensures { spec.found_map (λ items. map view items.now) result
         ≡ spec.needed_part name.now spec.array field (view value.now) }
 {
-    array(field, needed(field, present(value, name))?)
+    array(field, require(field, present(value, name))?)
 }
 
 // A member that holds a text, which is empty where it is absent.

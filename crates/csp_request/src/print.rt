@@ -8,7 +8,7 @@ ghost use Rattle.csp_request.specs.Printed as spec;
 ghost use Rattle.csp_request.specs.Requests.{check_of};
 
 use crate::destination::destination_for;
-use crate::kind::{Kind, inline_text};
+use crate::kind::{DescriptionKind, inline_text};
 use crate::url_parts::url_value;
 use csp_model::{
     Bytes, Capability, Check, Digests, Group, Hash, InlineKind, List, Memory, Text, Url,
@@ -27,7 +27,7 @@ fn digests_value(alloc: Global, digests: &Digests) -> Result<Value, Memory>
 }
 
 // A description with no member but its kind.
-fn kind_value(alloc: Global, kind: Kind) -> Result<Value, Memory>
+fn kind_value(alloc: Global, kind: DescriptionKind) -> Result<Value, Memory>
     ensures { IfOk result (λ value. view value ≡ spec.object_of (spec.kind_member kind ∷ [])) }
 {
     Ok(json!(in alloc; {"kind": kind.as_str()})?)
@@ -49,7 +49,7 @@ fn fetch_object(
     json!(in alloc; {
         "destination": destination_for(group).as_str(),
         "integrity": integrity,
-        "kind": Kind::Fetch.as_str(),
+        "kind": DescriptionKind::Fetch.as_str(),
         "nonce": nonce,
         "parser-inserted": parser_inserted,
         "redirects": redirects,
@@ -94,7 +94,7 @@ fn inline_value(
     let digests = digests_value(alloc, digests)?;
     Ok(json!(in alloc; {
         "digests": digests,
-        "kind": Kind::Inline.as_str(),
+        "kind": DescriptionKind::Inline.as_str(),
         "nonce": nonce.as_str(),
         "type": inline_text(kind)
     })?)
@@ -104,33 +104,37 @@ fn base_value(alloc: Global, url: &Url) -> Result<Value, Memory>
     ensures { IfOk result (λ value. view value ≡ spec.printed (check.Base url.now)) }
 {
     let url = url_value(alloc, url)?;
-    Ok(json!(in alloc; {"kind": Kind::Base.as_str(), "url": url})?)
+    Ok(json!(in alloc; {"kind": DescriptionKind::Base.as_str(), "url": url})?)
 }
 
 fn form_value(alloc: Global, url: &Url, redirects: u32) -> Result<Value, Memory>
     ensures { IfOk result (λ value. view value ≡ spec.printed (check.Form url.now redirects)) }
 {
     let url = url_value(alloc, url)?;
-    Ok(json!(in alloc; {"kind": Kind::Form.as_str(), "redirects": redirects, "url": url})?)
+    Ok(
+        json!(in alloc; {"kind": DescriptionKind::Form.as_str(), "redirects": redirects, "url": url})?,
+    )
 }
 
 fn ancestor_value(alloc: Global, url: &Url) -> Result<Value, Memory>
     ensures { IfOk result (λ value. view value ≡ spec.printed (check.Ancestor url.now)) }
 {
     let url = url_value(alloc, url)?;
-    Ok(json!(in alloc; {"ancestors": [url], "kind": Kind::Ancestors.as_str()})?)
+    Ok(json!(in alloc; {"ancestors": [url], "kind": DescriptionKind::Ancestors.as_str()})?)
 }
 
 fn opaque_ancestor_value(alloc: Global) -> Result<Value, Memory>
     ensures { IfOk result (λ value. view value ≡ spec.printed check.OpaqueAncestor) }
 {
-    Ok(json!(in alloc; {"ancestors": ["null"], "kind": Kind::Ancestors.as_str()})?)
+    Ok(json!(in alloc; {"ancestors": ["null"], "kind": DescriptionKind::Ancestors.as_str()})?)
 }
 
 fn capability_value(alloc: Global, capability: Capability) -> Result<Value, Memory>
     ensures { IfOk result (λ value. view value ≡ spec.printed (check.Capability capability)) }
 {
-    Ok(json!(in alloc; {"kind": Kind::Capability.as_str(), "name": capability.as_str()})?)
+    Ok(
+        json!(in alloc; {"kind": DescriptionKind::Capability.as_str(), "name": capability.as_str()})?,
+    )
 }
 
 // A check as a description.
@@ -159,14 +163,14 @@ fn check_value(alloc: Global, check: &Check) -> Result<Value, Memory>
             nonce,
             digests,
         } => inline_value(alloc, *kind, nonce, digests),
-        Check::Eval => kind_value(alloc, Kind::Eval),
-        Check::Wasm => kind_value(alloc, Kind::Wasm),
+        Check::Eval => kind_value(alloc, DescriptionKind::Eval),
+        Check::Wasm => kind_value(alloc, DescriptionKind::Wasm),
         Check::Base { url } => base_value(alloc, url),
         Check::Form { url, redirects } => form_value(alloc, url, *redirects),
         Check::Ancestor { url } => ancestor_value(alloc, url),
         Check::OpaqueAncestor => opaque_ancestor_value(alloc),
         Check::Capability { capability } => capability_value(alloc, *capability),
-        Check::WorkerStart => kind_value(alloc, Kind::WorkerStart),
+        Check::WorkerStart => kind_value(alloc, DescriptionKind::WorkerStart),
     }
 }
 

@@ -22,7 +22,7 @@ pub(crate) fn no_text(alloc: Global) -> Text
 }
 
 // A text that only a report shows.
-pub(crate) fn told(alloc: Global, texts: ReportTexts, shown: &str) -> Result<Text, Memory>
+pub(crate) fn report_text(alloc: Global, texts: ReportTexts, shown: &str) -> Result<Text, Memory>
     ensures { IfOk result (λ text. text ≡ spec.told texts shown.now) }
 {
     match texts {

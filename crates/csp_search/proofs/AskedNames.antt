@@ -19,11 +19,11 @@ use Rattle.csp_formula.specs.Sentences.{Sentence}
 use Rattle.csp_formula.specs.Values.{atoms_in}
 use Rattle.csp_answer.specs.Answers.{IsAnswer, names_of, sentence_in}
 use Rattle.csp_answer.specs.Tables.{AreAnswers, answer_of}
-use Rattle.csp_answer.specs.declared.answer.Answer.{Answer}
+use Rattle.csp_answer.specs.declared.answer.ShapeAnswer.{ShapeAnswer}
 use Rattle.csp_answer.specs.declared.policy.PolicyAnswers.{PolicyAnswers}
 use Rattle.csp_search.specs.Asking.{AreAsked, IsAsked, IsName, enforced_answer, first_answer, names_where, second_answer, where_enforced}
 use Rattle.csp_search.specs.Questions.{IsPosed, asked_atoms, atoms_of}
-use Rattle.csp_search.specs.declared.asked.Asked.{Asked}
+use Rattle.csp_search.specs.declared.named_question.NamedQuestion.{NamedQuestion}
 use Rattle.csp_search.specs.declared.searching.Question.{Question}
 use Rattle.csp_search.proofs.Saying.{found_says, has_answer}
 
@@ -42,10 +42,10 @@ all_names q = first_names q (length q.lists.now.first.now.policies) ++ names_whe
 
 -- what is proved of an answer's names
 abbrev pub AnswersSpeak : Type 0
-AnswersSpeak = (atoms : List Atom) (answer : Answer) → atoms_in (sentence_in atoms answer) ≡ map (atom_in atoms) (names_of answer)
+AnswersSpeak = (atoms : List Atom) (answer : ShapeAnswer) → atoms_in (sentence_in atoms answer) ≡ map (atom_in atoms) (names_of answer)
 
 abbrev pub NamesAreThere : Type 0
-NamesAreThere = (count : ℕ) (answer : Answer) → IsAnswer count answer → All (λ name. name < count) (names_of answer)
+NamesAreThere = (count : ℕ) (answer : ShapeAnswer) → IsAnswer count answer → All (λ name. name < count) (names_of answer)
 
 has_mapped : {A B : Type 0} (f : A → B) (xs : List A) → All (λ x. Contains (map f xs) (f x)) xs
 has_mapped f xs k d within = (k, omega (arith, length-map xs f), get_or-map f xs k d (f (get_or xs k d)) within)
@@ -64,7 +64,7 @@ module _ (hashes : List Hash) (kind : Shape) where
 
 module _ (speak : AnswersSpeak) (there : NamesAreThere) (q : Question) (atoms : List Atom) where
   -- where all atoms of the policies are asked for
-  names_asked : (policies : List Policy) (made : List PolicyAnswers) (place : ℕ) (found : Option Answer) → IsPosed q atoms
+  names_asked : (policies : List Policy) (made : List PolicyAnswers) (place : ℕ) (found : Option ShapeAnswer) → IsPosed q atoms
       → AreAnswers atoms q.lists.now.vocabulary.hashes policies made
       → ((atom : Atom) → Contains (flat_map atoms_in (map (says q.lists.now.vocabulary.hashes q.shape) policies)) atom → Contains (asked_atoms q) atom)
       → found ≡ enforced_answer policies made q.shape place → All (IsName q atoms) (names_where found)
@@ -137,7 +137,7 @@ second_among q = more_right (first_names q (length q.lists.now.first.now.policie
 
 -- So it is of the same names, sorted and each once
 
-if_there : (found : Option Answer) (kept : List ℕ) → AreAmong (names_where found) kept → IfSome found (λ answer. All (Contains kept) (names_of answer))
+if_there : (found : Option ShapeAnswer) (kept : List ℕ) → AreAmong (names_where found) kept → IfSome found (λ answer. All (Contains kept) (names_of answer))
 if_there None kept among = tt
 if_there (Some answer) kept among = among
 
@@ -147,7 +147,7 @@ are_asked speak there q atoms given sorted kept all moved is posed =
     let keeps : (x : ℕ) → Contains (all_names q) x → Contains kept x =
     λ x has. subst (λ (xs : List ℕ). Contains xs x) (sym is)
     (Contains-dedup_nat sorted x (Contains-permutation given sorted x moved (subst (λ (xs : List ℕ). Contains xs x) (sym all) has))) in
-    let among : (found : Option Answer) → AreAmong (names_where found) (all_names q) → IfSome found (λ answer. All (Contains kept) (names_of answer)) =
+    let among : (found : Option ShapeAnswer) → AreAmong (names_where found) (all_names q) → IfSome found (λ answer. All (Contains kept) (names_of answer)) =
     λ found has. if_there found kept (All-weaker (Contains (all_names q)) (Contains kept) keeps (names_where found) has) in
     record {
       each = subst (All (IsName q atoms)) (sym is)
@@ -157,7 +157,7 @@ are_asked speak there q atoms given sorted kept all moved is posed =
     }
 
 -- a question that is posed, with such names
-pub is_asked : (asked : Asked) (made : List ℕ) (atoms : List Atom) → asked.names.now ≡ made → ((xs : List Atom) → IsPosed asked.question xs → AreAsked asked.question xs made) → IsPosed asked.question atoms
+pub is_asked : (asked : NamedQuestion) (made : List ℕ) (atoms : List Atom) → asked.names.now ≡ made → ((xs : List Atom) → IsPosed asked.question xs → AreAsked asked.question xs made) → IsPosed asked.question atoms
     → IsAsked asked atoms
 is_asked asked made atoms same each posed = record {
   posed = posed;

@@ -12,7 +12,7 @@ use Rattle.csp_branch.specs.Walks.{Position, at_root}
 use Rattle.csp_search.specs.Asking.{AreAsked, IsAsked, IsName, IsOpenName, StandsOn}
 use Rattle.csp_search.specs.Branches.{IsBranch}
 use Rattle.csp_search.specs.Questions.{asked_atoms}
-use Rattle.csp_search.specs.declared.asked.Asked.{Asked}
+use Rattle.csp_search.specs.declared.named_question.NamedQuestion.{NamedQuestion}
 use Rattle.csp_search.specs.declared.searching.Question.{Question}
 use Rattle.csp_search.proofs.Opens.{still_known, taken_known}
 use Rattle.csp_search.proofs.Trees.{branch_with, has_room}
@@ -45,12 +45,12 @@ module _ (q : Question) (start at : Position) (same : at_root at ≡ at_root sta
         (ap at_root took ∙ same, subst (λ (p : Position). IsBranch p.atoms (asked_atoms q) p.literals) (sym took) (branch_with q at.atoms at.literals name positive branch is_open))
 
 -- what a walker keeps that goes on from its start by literals on names that are asked for
-pub record GoesOn (asked : Asked) (start at : Position) : Type 0 where
+pub record GoesOn (asked : NamedQuestion) (start at : Position) : Type 0 where
   pub kept : at_root at ≡ at_root start
   pub stands : StandsOn asked at
 
 -- it stands where it stood, at the root of the same names, on another branch
-pub stands_there : (asked : Asked) (start at : Position) → StandsOn asked start → at_root at ≡ at_root start → IsBranch at.atoms (asked_atoms asked.question) at.literals → StandsOn asked at
+pub stands_there : (asked : NamedQuestion) (start at : Position) → StandsOn asked start → at_root at ≡ at_root start → IsBranch at.atoms (asked_atoms asked.question) at.literals → StandsOn asked at
 stands_there asked start at stands same branch =
     let atoms : start.atoms ≡ at.atoms = ap (λ (p : Position). p.atoms) (sym same) in
     let room : at.room ≡ start.room = ap (λ (p : Position). p.room) same in

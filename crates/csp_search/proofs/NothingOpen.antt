@@ -9,7 +9,7 @@ use Rattle.csp_formula.specs.Sentences.{Sentence}
 use Rattle.csp_formula.specs.Surely.{surely}
 use Rattle.csp_formula.specs.Values.{atoms_in}
 use Rattle.csp_answer.specs.Answers.{names_of, sentence_in}
-use Rattle.csp_answer.specs.declared.answer.Answer.{Answer}
+use Rattle.csp_answer.specs.declared.answer.ShapeAnswer.{ShapeAnswer}
 use Rattle.csp_proof.specs.Accepts.{hashes_in}
 use Rattle.csp_search.specs.Asking.{AreAsked, first_answer, second_answer}
 use Rattle.csp_search.specs.Leaves.{IsDecided, LeavesNothing}
@@ -23,7 +23,7 @@ some_of None known = absurd (known refl)
 
 -- what is proved of the atoms of an answer, and of literals that decide each atom of a sentence
 abbrev pub AnswersSpeak : Type 0
-AnswersSpeak = (atoms : List Atom) (answer : Answer) → atoms_in (sentence_in atoms answer) ≡ map (atom_in atoms) (names_of answer)
+AnswersSpeak = (atoms : List Atom) (answer : ShapeAnswer) → atoms_in (sentence_in atoms answer) ≡ map (atom_in atoms) (names_of answer)
 
 abbrev pub LiteralsDecide : Type 0
 LiteralsDecide = (literals : List Literal) (sentence : Sentence) → All (λ (a : Atom). decided literals a ≢ None) (atoms_in sentence) → surely literals sentence ≢ None
@@ -33,10 +33,10 @@ module _ (speaks : AnswersSpeak) (decides : LiteralsDecide) (q : Question) (name
   abbrev IsKnown : Atom → Type 0
   IsKnown a = decided literals a ≢ None
 
-  abbrev AreAmong : Answer → Type 0
+  abbrev AreAmong : ShapeAnswer → Type 0
   AreAmong answer = All (Contains asked) (names_of answer)
 
-  answer_known : (answer : Answer) → AreAmong answer → IsSome (surely literals (sentence_in names answer))
+  answer_known : (answer : ShapeAnswer) → AreAmong answer → IsSome (surely literals (sentence_in names answer))
   answer_known answer among =
       let IsKnownName = λ (name : ℕ). IsKnown (atom_in names name) in
       let named = All-weaker (Contains asked) IsKnownName (λ name has. All-contains IsKnownName asked name known has) (names_of answer) among in
@@ -45,13 +45,13 @@ module _ (speaks : AnswersSpeak) (decides : LiteralsDecide) (q : Question) (name
 
   first_known : (place : ℕ) → IsDecided (hashes_in (lists_of q)) q.shape literals (slice_get q.lists.now.first.now.policies place)
   first_known place = by (first_answer q place) refl (are.first place) where
-    by : (o : Option Answer) → o ≡ first_answer q place → IfSome o AreAmong → IsDecided (hashes_in (lists_of q)) q.shape literals (slice_get q.lists.now.first.now.policies place)
+    by : (o : Option ShapeAnswer) → o ≡ first_answer q place → IfSome o AreAmong → IsDecided (hashes_in (lists_of q)) q.shape literals (slice_get q.lists.now.first.now.policies place)
     by None same among = (first_silent q names literals posed place same).decided
     by (Some answer) same among = (first_tells q names literals posed place answer same).decided (answer_known answer among)
 
   second_known : IsDecided (hashes_in (lists_of q)) q.shape literals (slice_get q.lists.now.second.now.policies q.policy)
   second_known = by (second_answer q) refl are.second where
-    by : (o : Option Answer) → o ≡ second_answer q → IfSome o AreAmong → IsDecided (hashes_in (lists_of q)) q.shape literals (slice_get q.lists.now.second.now.policies q.policy)
+    by : (o : Option ShapeAnswer) → o ≡ second_answer q → IfSome o AreAmong → IsDecided (hashes_in (lists_of q)) q.shape literals (slice_get q.lists.now.second.now.policies q.policy)
     by None same among = (second_silent q names literals posed same).decided
     by (Some answer) same among = (second_tells q names literals posed answer same).decided (answer_known answer among)
 

@@ -13,7 +13,7 @@ use Rattle.csp_formula.specs.Compiled.{policy_sentence}
 use Rattle.csp_formula.specs.Surely.{surely}
 use Rattle.csp_answer.specs.Answers.{IsAnswer, sentence_in}
 use Rattle.csp_answer.specs.Tables.{AreAnswers, Says, answer_of}
-use Rattle.csp_answer.specs.declared.answer.Answer.{Answer}
+use Rattle.csp_answer.specs.declared.answer.ShapeAnswer.{ShapeAnswer}
 use Rattle.csp_answer.specs.declared.policy.PolicyAnswers.{PolicyAnswers}
 use Rattle.csp_proof.specs.Accepts.{hashes_in, is_surely, policy_is, Lists}
 use Rattle.csp_proof.specs.Pairs.{Pair}
@@ -24,7 +24,7 @@ use Rattle.csp_search.specs.declared.searching.Question.{Question}
 
 module _ (atoms : List Atom) (hashes : List Hash) (kind : Shape) where
   -- where there is a policy it has an answer, which says what it says
-  abbrev pub HasAnswer : Option Policy → Option Answer → Type 0
+  abbrev pub HasAnswer : Option Policy → Option ShapeAnswer → Type 0
   HasAnswer None answer = ⊤
   HasAnswer (Some policy) answer = MatchOption answer ⊥ (Says atoms (policy_sentence policy kind hashes))
 
@@ -43,16 +43,16 @@ module _ (atoms : List Atom) (hashes : List Hash) (kind : Shape) where
       answer_at_place policies made place are.long (λ n p a one two. are.each n p a one two kind listed)
 
   -- the policy is there and enforced, and the answer says what it says
-  pub record IsSaid (asked : Option Policy) (found : Answer) : Type 0 where
+  pub record IsSaid (asked : Option Policy) (found : ShapeAnswer) : Type 0 where
     pub policy : Policy
     pub is : asked ≡ Some policy
     pub enforced : is_enforce policy.disposition ≡ true
     pub says : Says atoms (policy_sentence policy kind hashes) found
 
-  same_answer : (answer found : Answer) → Some found ≡ Some answer → answer ≡ found
+  same_answer : (answer found : ShapeAnswer) → Some found ≡ Some answer → answer ≡ found
   same_answer answer found same = cc
 
-  pub found_says : (asked : Option Policy) (answer : Option Answer) (found : Answer) → HasAnswer asked answer → Some found ≡ where_enforced asked answer → IsSaid asked found
+  pub found_says : (asked : Option Policy) (answer : Option ShapeAnswer) (found : ShapeAnswer) → HasAnswer asked answer → Some found ≡ where_enforced asked answer → IsSaid asked found
   found_says None answer found has same = cc
   found_says (Some p) None found has same = absurd has
   found_says (Some p) (Some answer) found has same = by (is_enforce p.disposition) refl same where
@@ -62,12 +62,12 @@ module _ (atoms : List Atom) (hashes : List Hash) (kind : Shape) where
 
   module _ (literals : List Literal) where
     -- the answer is one, and tells the value of the policy
-    pub record Tells (asked : Option Policy) (found : Answer) : Type 0 where
+    pub record Tells (asked : Option Policy) (found : ShapeAnswer) : Type 0 where
       pub named : IsAnswer (length atoms) found
       pub value : (expected : Bool) → is_surely expected (surely literals (sentence_in atoms found)) ≡ policy_is expected hashes kind literals asked
       pub decided : IsSome (surely literals (sentence_in atoms found)) → IsDecided hashes kind literals asked
 
-    found_tells : (asked : Option Policy) (found : Answer) → IsSaid asked found → Tells asked found
+    found_tells : (asked : Option Policy) (found : ShapeAnswer) → IsSaid asked found → Tells asked found
     found_tells asked found said = record {
       named = said.says.answer;
       value = λ expected. rw (said.is, said.enforced) (ap (is_surely expected) (said.says.says literals));
@@ -79,14 +79,14 @@ module _ (atoms : List Atom) (hashes : List Hash) (kind : Shape) where
       pub value : (expected : Bool) → policy_is expected hashes kind literals policy ≡ false
       pub decided : IsDecided hashes kind literals policy
 
-    none_says : (enforced : Bool) (p : Policy) (answer : Answer) → is_enforce p.disposition ≡ enforced → None ≡ (if enforced then Some answer else None) → SaysNothing (Some p)
+    none_says : (enforced : Bool) (p : Policy) (answer : ShapeAnswer) → is_enforce p.disposition ≡ enforced → None ≡ (if enforced then Some answer else None) → SaysNothing (Some p)
     none_says true p answer is same = cc
     none_says false p answer is same = record {
       value = λ expected. rw is refl;
       decided = λ enforced. cc;
     }
 
-    none_tells : (policy : Option Policy) (answer : Option Answer) → HasAnswer policy answer → None ≡ where_enforced policy answer → SaysNothing policy
+    none_tells : (policy : Option Policy) (answer : Option ShapeAnswer) → HasAnswer policy answer → None ≡ where_enforced policy answer → SaysNothing policy
     none_tells None answer has same = record { value = λ expected. refl; decided = tt }
     none_tells (Some p) None has same = absurd has
     none_tells (Some p) (Some answer) has same = none_says (is_enforce p.disposition) p answer refl same
@@ -106,7 +106,7 @@ second_has q atoms posed =
     (subst (λ (hs : List Hash). AreAnswers atoms hs q.lists.now.second.now.policies q.lists.now.table.second) posed.lists.hashes posed.lists.second_answers)
 
 module _ (q : Question) (atoms : List Atom) (literals : List Literal) (posed : IsPosed q atoms) where
-  pub first_tells : (place : ℕ) (found : Answer) → Some found ≡ first_answer q place
+  pub first_tells : (place : ℕ) (found : ShapeAnswer) → Some found ≡ first_answer q place
       → Tells atoms (hashes_in (lists_of q)) q.shape literals (slice_get q.lists.now.first.now.policies place) found
   first_tells place found same =
       let policy = slice_get q.lists.now.first.now.policies place in
@@ -117,7 +117,7 @@ module _ (q : Question) (atoms : List Atom) (literals : List Literal) (posed : I
   first_silent place same =
       none_tells atoms (hashes_in (lists_of q)) q.shape literals (slice_get q.lists.now.first.now.policies place) (answer_of q.lists.now.table.first place (number q.shape)) (first_has q atoms place posed) same
 
-  pub second_tells : (found : Answer) → Some found ≡ second_answer q
+  pub second_tells : (found : ShapeAnswer) → Some found ≡ second_answer q
       → Tells atoms (hashes_in (lists_of q)) q.shape literals (slice_get q.lists.now.second.now.policies q.policy) found
   second_tells found same =
       let policy = slice_get q.lists.now.second.now.policies q.policy in

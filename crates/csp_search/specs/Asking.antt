@@ -12,35 +12,35 @@ use Rattle.csp_facts.specs.Numbers.{number}
 use Rattle.csp_facts.specs.declared.shape.Shape.{Shape}
 use Rattle.csp_answer.specs.Answers.{names_of}
 use Rattle.csp_answer.specs.Tables.{answer_of}
-use Rattle.csp_answer.specs.declared.answer.Answer.{Answer}
+use Rattle.csp_answer.specs.declared.answer.ShapeAnswer.{ShapeAnswer}
 use Rattle.csp_answer.specs.declared.policy.PolicyAnswers.{PolicyAnswers}
 use Rattle.csp_branch.specs.Walks.{Position}
 use Rattle.csp_search.specs.Branches.{IsBranch}
 use Rattle.csp_search.specs.Questions.{IsPosed, asked_atoms}
-use Rattle.csp_search.specs.declared.asked.Asked.{Asked}
+use Rattle.csp_search.specs.declared.named_question.NamedQuestion.{NamedQuestion}
 use Rattle.csp_search.specs.declared.searching.Question.{Question}
 
 -- Answers
 
-abbrev pub where_enforced : Option Policy → Option Answer → Option Answer
+abbrev pub where_enforced : Option Policy → Option ShapeAnswer → Option ShapeAnswer
 where_enforced None answer = None
 where_enforced (Some policy) answer = if is_enforce policy.disposition then answer else None
 
 -- the answer at the shape of the policy at a place, where it is enforced
-abbrev pub enforced_answer : List Policy → List PolicyAnswers → Shape → ℕ → Option Answer
+abbrev pub enforced_answer : List Policy → List PolicyAnswers → Shape → ℕ → Option ShapeAnswer
 enforced_answer policies answers kind place =
     where_enforced (slice_get policies place) (answer_of answers place (number kind))
 
-abbrev pub first_answer : Question → ℕ → Option Answer
+abbrev pub first_answer : Question → ℕ → Option ShapeAnswer
 first_answer q place = enforced_answer q.lists.now.first.now.policies q.lists.now.table.first q.shape place
 
-abbrev pub second_answer : Question → Option Answer
+abbrev pub second_answer : Question → Option ShapeAnswer
 second_answer q = enforced_answer q.lists.now.second.now.policies q.lists.now.table.second q.shape q.policy
 
 -- Names
 
 -- those of an answer, where there is one
-abbrev pub names_where : Option Answer → List ℕ
+abbrev pub names_where : Option ShapeAnswer → List ℕ
 names_where None = []
 names_where (Some answer) = names_of answer
 
@@ -56,12 +56,12 @@ pub record AreAsked (q : Question) (names : List Atom) (asked : List ℕ) : Type
   pub second : IfSome (second_answer q) (λ answer. All (Contains asked) (names_of answer))
 
 -- the question is posed, and these are the names that it asks for
-pub record IsAsked (asked : Asked) (atoms : List Atom) : Type 0 where
+pub record IsAsked (asked : NamedQuestion) (atoms : List Atom) : Type 0 where
   pub posed : IsPosed asked.question atoms
   pub names : AreAsked asked.question atoms asked.names.now
 
 -- the walker stands on a branch of the question, and has room for a literal on each open name
-pub record StandsOn (of : Asked) (at : Position) : Type 0 where
+pub record StandsOn (of : NamedQuestion) (at : Position) : Type 0 where
   pub asked : IsAsked of at.atoms
   pub branch : IsBranch at.atoms (asked_atoms of.question) at.literals
   pub room : length at.atoms ≤ at.room

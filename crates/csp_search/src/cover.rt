@@ -1,6 +1,6 @@
 //! The widest conjunctions of a policy.
 use crate::view::View;
-use csp_answer::{Answer, Conjunction, Ground};
+use csp_answer::{Conjunction, Ground, ShapeAnswer};
 use csp_branch::Names;
 use csp_model::{CheckPart, Memory};
 use std::alloc::Global;
@@ -9,7 +9,7 @@ use std::alloc::Global;
 // lies under that of another with the same port and path.
 #[derive(Drop)]
 pub(crate) struct Cover<'c> {
-    answer: &'c Answer,
+    answer: &'c ShapeAnswer,
     hosted: Vec<Conjunction>,
     // The own pairs of the rule on integrity metadata by name, each with its place among them.
     pairs: Vec<(usize, usize)>,
@@ -19,7 +19,7 @@ impl<'c> Cover<'c> {
     pub(crate) fn new(
         alloc: Global,
         names: &Names,
-        answer: &'c Answer,
+        answer: &'c ShapeAnswer,
     ) -> Result<Cover<'c>, Memory> {
         let mut all = Vec::new(alloc);
         for conjunction in answer.conjunctions() {
@@ -48,7 +48,7 @@ impl<'c> Cover<'c> {
         })
     }
 
-    pub(crate) fn answer(&self) -> &'c Answer {
+    pub(crate) fn answer(&self) -> &'c ShapeAnswer {
         self.answer
     }
 

@@ -1,7 +1,7 @@
 //! What a policy can still hold by.
 use crate::cover::Cover;
 use crate::view::View;
-use csp_answer::{Answer, Conjunction};
+use csp_answer::{Conjunction, ShapeAnswer};
 use csp_model::Memory;
 use std::alloc::Global;
 
@@ -18,7 +18,7 @@ pub(crate) struct Goal {
 pub(crate) fn goals_of(
     alloc: Global,
     view: View,
-    answer: &Answer,
+    answer: &ShapeAnswer,
     second: &Cover,
 ) -> Result<Vec<Goal>, Memory> {
     let mut goals = Vec::new(alloc);
@@ -38,7 +38,7 @@ pub(crate) fn goals_of(
 }
 
 // Whether a policy can hold on the branch.
-pub(crate) fn can_hold(alloc: Global, view: View, answer: &Answer) -> Result<bool, Memory> {
+pub(crate) fn can_hold(alloc: Global, view: View, answer: &ShapeAnswer) -> Result<bool, Memory> {
     let left = view.left_of(alloc, answer.conjunctions())?;
     let mut conjunctions = left.iter().copied().flatten();
     if conjunctions.any(|one| view.may_hold(*one)) {

@@ -6,9 +6,9 @@ ghost use Rattle.csp_proof.specs.Accepts.{hashes_in, is_surely};
 ghost use Rattle.csp_search.specs.Leaves as spec;
 ghost use Rattle.csp_search.specs.Questions.{IsPosed, lists_of, pair_of};
 
-use crate::asked::{first_answer, second_answer};
+use crate::named_question::{first_answer, second_answer};
 use crate::searching::Question;
-use csp_answer::{Ground, decided, decided_by};
+use csp_answer::{Ground, decide, decided_by};
 use csp_branch::Branch;
 use csp_proof::Node;
 
@@ -22,7 +22,7 @@ pub(crate) fn first_standing(question: Question, branch: &Branch, place: usize) 
         (slice_get question.entry.lists.now.first.now.policies place)) }
 {
     match first_answer(question, place) {
-        Some(answer) => decided(branch, answer),
+        Some(answer) => decide(branch, answer),
         None => Some(true),
     }
 }
@@ -37,7 +37,7 @@ pub(crate) fn second_standing(question: Question, branch: &Branch) -> Option<boo
         (slice_get question.entry.lists.now.second.now.policies question.entry.policy)) }
 {
     match second_answer(question) {
-        Some(answer) => decided(branch, answer),
+        Some(answer) => decide(branch, answer),
         None => Some(false),
     }
 }

@@ -2,10 +2,10 @@
 //! there is none.
 #![tactic(auto)]
 
-mod asked;
 mod cover;
 mod goals;
 mod leaf;
+mod named_question;
 mod open;
 mod parts;
 mod plan;

@@ -12,8 +12,8 @@ ghost use Rattle.csp_search.specs.Leaves.{HasNoLeaf};
 ghost use Rattle.csp_search.specs.Questions.{asked_atoms, lists_of, pair_of};
 ghost use Rattle.csp_facts.specs.Shapes.{looks_at};
 
-use crate::asked::Asked;
 use crate::leaf::leaf_of;
+use crate::named_question::NamedQuestion;
 use csp_answer::laws::an_answer_speaks_of_its_names;
 use csp_branch::Walker;
 use csp_cell::Cell;
@@ -30,7 +30,7 @@ use std::alloc::Global;
 // second list refuses it.
 pub(crate) fn refute(
     alloc: Global,
-    asked: Asked,
+    asked: NamedQuestion,
     walker: &mut Walker,
 ) -> Result<Option<Check>, Memory>
     requires { StandsOn asked walker.old }
@@ -50,7 +50,7 @@ pub(crate) fn refute(
 }
 
 // Denies each open name that is asked for.
-fn deny_all(asked: Asked, walker: &mut Walker)
+fn deny_all(asked: NamedQuestion, walker: &mut Walker)
     requires { StandsOn asked walker.old }
     ensures kept { at_root walker.new ≡ at_root walker.old }
     ensures longer { take (length walker.old.literals) walker.new.literals ≡ walker.old.literals }
@@ -66,7 +66,11 @@ fn deny_all(asked: Asked, walker: &mut Walker)
 }
 
 // A check of a branch where nothing that is asked for is open, and no leaf may stand.
-pub(crate) fn open_check(alloc: Global, asked: Asked, walker: &Walker) -> Result<Check, Memory>
+pub(crate) fn open_check(
+    alloc: Global,
+    asked: NamedQuestion,
+    walker: &Walker,
+) -> Result<Check, Memory>
     requires asked { IsAsked asked walker.now.atoms }
     requires branch { IsBranch walker.now.atoms (asked_atoms asked.question) walker.now.literals }
     requires known { All (λ name. decided walker.now.literals (atom_in walker.now.atoms name) ≢ None)

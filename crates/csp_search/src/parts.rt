@@ -1,7 +1,7 @@
 //! The part of a check that a branch is split on.
 use crate::goals::Goal;
 use crate::view::{View, names_in};
-use csp_answer::Answer;
+use csp_answer::ShapeAnswer;
 use csp_model::{Algorithm, CheckPart, Memory};
 use std::alloc::Global;
 
@@ -23,7 +23,7 @@ pub(crate) fn part_for(
     alloc: Global,
     view: View,
     goals: &[Goal],
-    second: &Answer,
+    second: &ShapeAnswer,
 ) -> Result<Option<CheckPart>, Memory> {
     let mut best: Option<(usize, CheckPart)> = None;
     for part in PARTS {
@@ -43,7 +43,7 @@ fn goals_left(
     view: View,
     goals: &[Goal],
     part: CheckPart,
-    second: &Answer,
+    second: &ShapeAnswer,
 ) -> Result<Option<usize>, Memory> {
     let mut names = Vec::new(alloc);
     for goal in goals {
@@ -104,7 +104,7 @@ fn ends_at(view: View, goal: &Goal, part: CheckPart) -> bool {
 }
 
 // How many pairs are open that the second list's policy refuses.
-fn refused_pairs(view: View, second: &Answer) -> usize {
+fn refused_pairs(view: View, second: &ShapeAnswer) -> usize {
     let Some(rule) = second.integrity() else {
         return 0;
     };

@@ -2,10 +2,10 @@
 //! what it wishes for is looked at before it is done.
 ghost use Rattle.csp_search.specs.Questions.{IsPosed};
 
-use crate::asked::{first_answer, second_answer};
 use crate::cover::Cover;
 use crate::goals::{Goal, can_hold, goals_of};
 use crate::leaf::is_met;
+use crate::named_question::{first_answer, second_answer};
 use crate::parts::part_for;
 use crate::searching::Question;
 use crate::view::View;
@@ -72,7 +72,7 @@ struct Frame {
 }
 
 #[derive(Drop)]
-pub(crate) struct Plan<'p> {
+pub(crate) struct SearchPlan<'p> {
     alloc: Global,
     // The second list's policy, if it has an answer.
     cover: Option<Cover<'p>>,
@@ -84,12 +84,12 @@ pub(crate) struct Plan<'p> {
     pair: Option<usize>,
 }
 
-impl<'p> Plan<'p> {
+impl<'p> SearchPlan<'p> {
     pub(crate) fn new(
         alloc: Global,
         question: Question<'p>,
         branch: &Branch,
-    ) -> Result<Plan<'p>, Memory> {
+    ) -> Result<SearchPlan<'p>, Memory> {
         let cover = match second_answer(question) {
             Some(answer) => Some(Cover::new(alloc, branch.names(), answer)?),
             None => None,
@@ -100,7 +100,7 @@ impl<'p> Plan<'p> {
                 firsts.push(place)?;
             }
         }
-        Ok(Plan {
+        Ok(SearchPlan {
             alloc,
             cover,
             frames: Vec::new(alloc),
@@ -111,7 +111,7 @@ impl<'p> Plan<'p> {
     }
 
     // The branch was ended. The next one is that where the last name doesn't hold.
-    pub(crate) fn closed(&mut self) {
+    pub(crate) fn close_branch(&mut self) {
         if !self.is_given_up {
             self.task = Some(Task::Leave);
         }

@@ -5,12 +5,12 @@ ghost use Rattle.csp_search.specs.Answers.{ShowsNone};
 ghost use Rattle.csp_search.specs.Asking.{IsAsked, StandsOn};
 ghost use Rattle.csp_search.specs.Questions.{IsPosed, lists_of, pair_of};
 
-use crate::asked::{Asked, asked_names, first_answer, second_answer};
+use crate::named_question::{NamedQuestion, asked_names, first_answer, second_answer};
 use crate::open::refute;
 use crate::searching::Question;
 use crate::step::is_open;
 use crate::view::{View, names_in};
-use csp_answer::{Answer, Conjunction};
+use csp_answer::{Conjunction, ShapeAnswer};
 use csp_branch::{Branch, Walker};
 use csp_facts::{Atom, Shape};
 use csp_model::{Check, Memory};
@@ -36,7 +36,7 @@ pub fn probe(
     ensures walker { OnOk result (walker.new ≡ walker.old) }
 {
     let names = asked_names(alloc, question)?;
-    let asked = Asked {
+    let asked = NamedQuestion {
         question,
         names: &names,
     };
@@ -65,7 +65,7 @@ fn port_name(shape: Shape, branch: &Branch) -> Option<usize> {
 // A check that one look finds, where this port holds if there is one.
 fn probe_at(
     alloc: Global,
-    asked: Asked,
+    asked: NamedQuestion,
     walker: &mut Walker,
     port: Option<usize>,
 ) -> Result<Option<Check>, Memory>
@@ -87,7 +87,7 @@ fn probe_at(
 }
 
 // What the branch tells, where no pair of integrity metadata is said to hold.
-fn view_of<'v>(asked: Asked<'v>, walker: &'v Walker) -> View<'v> {
+fn view_of<'v>(asked: NamedQuestion<'v>, walker: &'v Walker) -> View<'v> {
     View {
         question: asked.question,
         branch: walker.branch(),
@@ -96,7 +96,7 @@ fn view_of<'v>(asked: Asked<'v>, walker: &'v Walker) -> View<'v> {
 }
 
 // Takes a literal if its name is asked for and open.
-fn take_open(asked: Asked, walker: &mut Walker, name: usize, positive: bool)
+fn take_open(asked: NamedQuestion, walker: &mut Walker, name: usize, positive: bool)
     requires { StandsOn asked walker.old }
     ensures kept { at_root walker.new ≡ at_root walker.old }
     ensures stands { StandsOn asked.entry walker.new }
@@ -107,7 +107,7 @@ fn take_open(asked: Asked, walker: &mut Walker, name: usize, positive: bool)
 }
 
 // Has nothing hold that makes the policy of the second list allow a check.
-fn refuse_second(asked: Asked, walker: &mut Walker)
+fn refuse_second(asked: NamedQuestion, walker: &mut Walker)
     requires { StandsOn asked walker.old }
     ensures kept { at_root walker.new ≡ at_root walker.old }
     ensures stands { StandsOn asked.entry walker.new }
@@ -126,7 +126,7 @@ fn refuse_second(asked: Asked, walker: &mut Walker)
 }
 
 // Denies an open name of a conjunction, unless one of its names is denied already.
-fn refuse(asked: Asked, walker: &mut Walker, conjunction: Conjunction)
+fn refuse(asked: NamedQuestion, walker: &mut Walker, conjunction: Conjunction)
     requires { StandsOn asked walker.old }
     ensures kept { at_root walker.new ≡ at_root walker.old }
     ensures stands { StandsOn asked.entry walker.new }
@@ -143,7 +143,7 @@ fn refuse(asked: Asked, walker: &mut Walker, conjunction: Conjunction)
 }
 
 // Has something hold for each policy of the first list, so that it allows a check.
-fn allow_firsts(asked: Asked, walker: &mut Walker)
+fn allow_firsts(asked: NamedQuestion, walker: &mut Walker)
     requires { StandsOn asked walker.old }
     ensures kept { at_root walker.new ≡ at_root walker.old }
     ensures stands { StandsOn asked.entry walker.new }
@@ -157,7 +157,7 @@ fn allow_firsts(asked: Asked, walker: &mut Walker)
 
 // Has the first conjunction of some names hold that can, or else a pair of integrity metadata. Where the
 // policy allows everything without either, nothing has to hold.
-fn allow(asked: Asked, walker: &mut Walker, answer: &Answer)
+fn allow(asked: NamedQuestion, walker: &mut Walker, answer: &ShapeAnswer)
     requires { StandsOn asked walker.old }
     ensures kept { at_root walker.new ≡ at_root walker.old }
     ensures stands { StandsOn asked.entry walker.new }

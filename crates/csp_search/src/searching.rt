@@ -3,7 +3,7 @@ ghost use Rattle.std.specs.Prelude.{◌≡◌, ◌≤◌, [], IfOk, OnOk, length
 ghost use Rattle.csp_search.specs.Answers.{IsFound};
 ghost use Rattle.csp_search.specs.Questions.{IsPosed, lists_of, pair_of};
 
-use crate::asked::{Asked, asked_names};
+use crate::named_question::{NamedQuestion, asked_names};
 use crate::tree::find_tree;
 use csp_answer::AnswerTable;
 use csp_branch::Walker;
@@ -50,7 +50,7 @@ pub fn search(alloc: Global, question: Question, walker: &mut Walker) -> Result<
     ensures walker { OnOk result (walker.new ≡ walker.old) }
 {
     let names = asked_names(alloc, question)?;
-    let asked = Asked {
+    let asked = NamedQuestion {
         question,
         names: &names,
     };

@@ -7,10 +7,10 @@ ghost use Rattle.csp_search.specs.Branches.{IsBranch};
 ghost use Rattle.csp_search.specs.Leaves as spec;
 ghost use Rattle.csp_search.specs.Questions.{asked_atoms};
 
-use crate::asked::Asked;
 use crate::leaf::{is_blocked, is_met_by, leaf_of};
+use crate::named_question::NamedQuestion;
 use crate::open::{open_check, refute};
-use crate::plan::{Plan, Wish};
+use crate::plan::{SearchPlan, Wish};
 use csp_branch::{Branch, Walker};
 use csp_model::{Check, Memory};
 use csp_proof::Node;
@@ -29,16 +29,16 @@ pub(crate) enum Step {
 // What a branch calls for. A plan's wish is granted where it may be; where it may not, the plan is given up.
 pub(crate) fn next_step(
     alloc: Global,
-    asked: Asked,
+    asked: NamedQuestion,
     walker: &mut Walker,
-    plan: &mut Plan,
+    plan: &mut SearchPlan,
 ) -> Result<Step, Memory>
     requires { StandsOn asked walker.old }
     ensures step { IfOk result (spec.IsStep asked.entry.question walker.new.atoms walker.new.literals) }
     ensures walker { OnOk result (walker.new ≡ walker.old) }
 {
     let wish = plan.next(asked.question, walker.branch())?;
-    if let Some(step) = granted(alloc, asked, walker, wish)? {
+    if let Some(step) = grant(alloc, asked, walker, wish)? {
         return Ok(step);
     }
     plan.give_up();
@@ -46,9 +46,9 @@ pub(crate) fn next_step(
 }
 
 // The step that a plan wishes for, if it may be.
-fn granted(
+fn grant(
     alloc: Global,
-    asked: Asked,
+    asked: NamedQuestion,
     walker: &mut Walker,
     wish: Wish,
 ) -> Result<Option<Step>, Memory>
@@ -78,7 +78,7 @@ fn granted(
 }
 
 // Whether a name is asked for and open.
-pub(crate) fn is_open(asked: Asked, branch: &Branch, name: usize) -> bool
+pub(crate) fn is_open(asked: NamedQuestion, branch: &Branch, name: usize) -> bool
     requires { IsAsked asked branch.now.atoms }
     ensures { result ≡ true → IsOpenName asked.entry.question branch.now.atoms branch.now.literals name }
 {
@@ -86,7 +86,7 @@ pub(crate) fn is_open(asked: Asked, branch: &Branch, name: usize) -> bool
 }
 
 // What a branch calls for where there is no plan: a leaf, or else a split by any open name.
-fn plain_step(alloc: Global, asked: Asked, walker: &Walker) -> Result<Step, Memory>
+fn plain_step(alloc: Global, asked: NamedQuestion, walker: &Walker) -> Result<Step, Memory>
     requires asked { IsAsked asked walker.now.atoms }
     requires branch { IsBranch walker.now.atoms (asked_atoms asked.question) walker.now.literals }
     ensures { IfOk result (spec.IsStep asked.entry.question walker.now.atoms walker.now.literals) }
@@ -104,7 +104,7 @@ fn plain_step(alloc: Global, asked: Asked, walker: &Walker) -> Result<Step, Memo
 }
 
 // An open name among those that are asked for.
-fn open_name(asked: Asked, branch: &Branch) -> Option<usize>
+fn open_name(asked: NamedQuestion, branch: &Branch) -> Option<usize>
     requires { IsAsked asked branch.now.atoms }
     ensures { MatchOption result
         (All (λ name. decided branch.now.literals (atom_in branch.now.atoms name) ≢ None)

@@ -6,8 +6,8 @@ ghost use Rattle.csp_search.specs.Answers.{IsFound};
 ghost use Rattle.csp_search.specs.Asking.{IsAsked};
 ghost use Rattle.csp_search.specs.Questions.{lists_of, pair_of};
 
-use crate::asked::Asked;
-use crate::plan::Plan;
+use crate::named_question::NamedQuestion;
+use crate::plan::SearchPlan;
 use crate::searching::Found;
 use crate::step::{Step, next_step};
 use csp_branch::Walker;
@@ -17,7 +17,11 @@ use std::alloc::Global;
 
 // The nodes of a tree that keeps all rules, or a check that the first list allows and the policy of the
 // second list refuses.
-pub(crate) fn find_tree(alloc: Global, asked: Asked, walker: &mut Walker) -> Result<Found, Memory>
+pub(crate) fn find_tree(
+    alloc: Global,
+    asked: NamedQuestion,
+    walker: &mut Walker,
+) -> Result<Found, Memory>
     requires asked { IsAsked asked walker.old.atoms }
     requires root { walker.old.literals ≡ [] }
     requires room { length walker.old.atoms ≤ walker.old.room }
@@ -31,7 +35,7 @@ pub(crate) fn find_tree(alloc: Global, asked: Asked, walker: &mut Walker) -> Res
 }
 
 // What `find_tree` finds. The walker stands where the search ended.
-fn walk(alloc: Global, asked: Asked, walker: &mut Walker) -> Result<Found, Memory>
+fn walk(alloc: Global, asked: NamedQuestion, walker: &mut Walker) -> Result<Found, Memory>
     requires asked { IsAsked asked walker.old.atoms }
     requires root { walker.old.literals ≡ [] }
     requires room { length walker.old.atoms ≤ walker.old.room }
@@ -40,7 +44,7 @@ fn walk(alloc: Global, asked: Asked, walker: &mut Walker) -> Result<Found, Memor
     ensures walker { OnOk result (at_root walker.new ≡ at_root walker.old) }
 {
     let mut nodes = List::new(alloc);
-    let mut plan = Plan::new(alloc, asked.question, walker.branch())?;
+    let mut plan = SearchPlan::new(alloc, asked.question, walker.branch())?;
     loop {
         match next_step(alloc, asked, walker, &mut plan)? {
             Step::Close { leaf } => {
@@ -48,7 +52,7 @@ fn walk(alloc: Global, asked: Asked, walker: &mut Walker) -> Result<Found, Memor
                 if !walker.next_branch() {
                     return Ok(Found::Nodes { nodes });
                 }
-                plan.closed();
+                plan.close_branch();
             }
             Step::Split { name } => {
                 let names = walker.branch().names();

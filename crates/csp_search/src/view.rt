@@ -109,10 +109,10 @@ impl<'v> View<'v> {
         conjunctions: &'c [Conjunction],
     ) -> Result<Vec<&'c [Conjunction]>, Memory> {
         let names = self.branch.names();
-        let (unled, mut rest) = parted(conjunctions, Some(0));
+        let (unled, mut rest) = split_at_name(conjunctions, Some(0));
         let mut left = vec![in alloc; unled]?;
         for part in PARTS {
-            let (on_part, others) = parted(rest, Some(names.start(part_number(part) + 1)));
+            let (on_part, others) = split_at_name(rest, Some(names.start(part_number(part) + 1)));
             match self.place(part) {
                 Some(place) => self.add_about(place, on_part, &mut left)?,
                 None => left.push(on_part)?,
@@ -129,8 +129,8 @@ impl<'v> View<'v> {
         conjunctions: &'c [Conjunction],
         left: &mut Vec<&'c [Conjunction]>,
     ) -> Result<(), Memory> {
-        let (outside, rest) = parted(conjunctions, Some(place));
-        left.push(parted(rest, Some(self.end(place))).0)?;
+        let (outside, rest) = split_at_name(conjunctions, Some(place));
+        left.push(split_at_name(rest, Some(self.end(place))).0)?;
         let mut next = self.outer(place);
         while let Some(name) = next {
             left.push(led_by(outside, name))?;
@@ -146,7 +146,10 @@ pub(crate) fn names_in(conjunction: Conjunction) -> [Option<usize>; 3] {
 }
 
 // The conjunctions led by no name or by one before this one, and the others.
-fn parted(conjunctions: &[Conjunction], name: Option<usize>) -> (&[Conjunction], &[Conjunction]) {
+fn split_at_name(
+    conjunctions: &[Conjunction],
+    name: Option<usize>,
+) -> (&[Conjunction], &[Conjunction]) {
     conjunctions.split_at(conjunctions.partition_point(|one| one.lead < name))
 }
 

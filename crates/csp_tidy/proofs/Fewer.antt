@@ -10,7 +10,7 @@ use Rattle.csp_model.specs.declared.policy.Policy.{Policy}
 use Rattle.csp_model.specs.declared.policy.PolicyList.{PolicyList}
 use Rattle.csp_model.specs.declared.source.Source.{Source}
 use Rattle.csp_tidy.specs.Candidates.{IsCandidate, IsCandidateIn, IsCandidateOf, change_at, directive_without, policy_without, without, is_report_sample}
-use Rattle.csp_tidy.specs.declared.place.Place.{Place}
+use Rattle.csp_tidy.specs.declared.place.TokenPlace.{TokenPlace}
 use Rattle.csp_tidy.proofs.Readable.{HasRead}
 
 module _ {A : Type 0} (step : ℕ → A → ℕ) (grows : (a b : ℕ) (x : A) → a < b → step a x < step b x) where
@@ -55,7 +55,7 @@ fewer_policy p n t readable is b =
     (λ d read candidate. fewer_directive d t read candidate) is.1) in
     omega (arith, fewer)
 
-pub fewer_tokens : (list : PolicyList) (place : Place) → IsReadable list → IsCandidate list place → token_count (without list place).policies < token_count list.policies
+pub fewer_tokens : (list : PolicyList) (place : TokenPlace) → IsReadable list → IsCandidate list place → token_count (without list place).policies < token_count list.policies
 fewer_tokens list place readable is =
     fold_fewer (λ a (p : Policy). a + sum_by tokens_in p.directives) (λ a c p less. omega (arith, less)) (policy_without place.directive place.token) place.policy list.policies 0
     (each_at IsReadablePolicy (λ (p : Policy). IsCandidateOf p place.directive place.token)

@@ -9,7 +9,7 @@ use Rattle.csp_tidy.specs.Asking.{IsThinner}
 use Rattle.csp_tidy.specs.Candidates.{IsCandidate, candidates, without}
 use Rattle.csp_tidy.specs.Thinnings.{AreEquivalent, IsThinning}
 use Rattle.csp_tidy.specs.Tidied.{place_of}
-use Rattle.csp_tidy.specs.declared.place.Place.{Place}
+use Rattle.csp_tidy.specs.declared.place.TokenPlace.{TokenPlace}
 use Rattle.csp_tidy.specs.declared.tidying.Needed.{Needed}
 use Rattle.csp_tidy.proofs.Fewer.{fewer_tokens}
 use Rattle.csp_tidy.proofs.Listed.{candidates_are}
@@ -22,18 +22,18 @@ middle : {A : Type 0} (P : A → Type 0) (xs : List A) (x : A) (ys : List A) →
 middle P [] x ys all = All-head P x ys all
 middle P (y ∷ xs) x ys all = middle P xs x ys (All-tail P y (xs ++ x ∷ ys) all)
 
-parted : (places old : List Place) (place : Place) (rest all : List Place) → old ≡ places ++ place ∷ [] → old ++ rest ≡ all → places ++ place ∷ rest ≡ all
-parted places old place rest all is whole = sym (append_assoc places (place ∷ []) rest) ∙ ap (λ (ps : List Place). ps ++ rest) (sym is) ∙ whole
+parted : (places old : List TokenPlace) (place : TokenPlace) (rest all : List TokenPlace) → old ≡ places ++ place ∷ [] → old ++ rest ≡ all → places ++ place ∷ rest ≡ all
+parted places old place rest all is whole = sym (append_assoc places (place ∷ []) rest) ∙ ap (λ (ps : List TokenPlace). ps ++ rest) (sym is) ∙ whole
 
-pub candidate_popped : (list : PolicyList) (places old : List Place) (place : Place) (rest : List Place) → old ≡ places ++ place ∷ [] → old ++ rest ≡ candidates list → IsCandidate list place
+pub candidate_popped : (list : PolicyList) (places old : List TokenPlace) (place : TokenPlace) (rest : List TokenPlace) → old ≡ places ++ place ∷ [] → old ++ rest ≡ candidates list → IsCandidate list place
 candidate_popped list places old place rest is whole =
     middle (IsCandidate list) places place rest (subst (All (IsCandidate list)) (sym (parted places old place rest (candidates list) is whole)) (candidates_are list))
 
-pub entries_more : (list : PolicyList) (places old : List Place) (place : Place) (needed : List Needed) (entry : Needed) → old ≡ places ++ place ∷ [] → place_of entry ≡ place
+pub entries_more : (list : PolicyList) (places old : List TokenPlace) (place : TokenPlace) (needed : List Needed) (entry : Needed) → old ≡ places ++ place ∷ [] → place_of entry ≡ place
     → old ++ map place_of (reverse needed) ≡ candidates list → places ++ map place_of (reverse (needed ++ entry ∷ [])) ≡ candidates list
 entries_more list places old place needed entry is at whole =
     ap (λ (ns : List Needed). places ++ map place_of ns) (reverse-append needed (entry ∷ []))
-    ∙ ap (λ (q : Place). places ++ q ∷ map place_of (reverse needed)) at
+    ∙ ap (λ (q : TokenPlace). places ++ q ∷ map place_of (reverse needed)) at
     ∙ parted places old place (map place_of (reverse needed)) (candidates list) is whole
 
 -- Thinner lists
@@ -46,7 +46,7 @@ thinner_itself list readable = record {
   fewer = omega arith;
 }
 
-pub thinner_more : (first list thinner : PolicyList) (place : Place) → IsThinner first list → IsCandidate list place → thinner ≡ without list place → AreEquivalent list thinner
+pub thinner_more : (first list thinner : PolicyList) (place : TokenPlace) → IsThinner first list → IsCandidate list place → thinner ≡ without list place → AreEquivalent list thinner
     → IsThinner first thinner × (token_count thinner.policies < token_count list.policies)
 thinner_more first list thinner place is candidate made equivalent =
     let fewer = fewer_tokens list place is.readable candidate in

@@ -1,4 +1,4 @@
-pub mod Asked
+pub mod TokenUse
 pub mod Changes
 pub mod Fewer
 pub mod InRounds

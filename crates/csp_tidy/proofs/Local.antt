@@ -25,7 +25,7 @@ use Rattle.csp_model.specs.declared.policy.PolicyList.{PolicyList}
 use Rattle.csp_model.specs.declared.source.Keyword.TheVariants as keyword
 use Rattle.csp_tidy.specs.Candidates.{change_at, directive_without, policy_without, without}
 use Rattle.csp_tidy.specs.Governed.{governs, governs_by}
-use Rattle.csp_tidy.specs.declared.place.Place.{Place}
+use Rattle.csp_tidy.specs.declared.place.TokenPlace.{TokenPlace}
 
 -- What governs
 
@@ -113,7 +113,7 @@ all_same test f zero (p ∷ ps) same = ap (λ b. b && list_all test ps) same
 all_same test f (suc n) (p ∷ ps) same = ap (λ b. test p && b) (all_same test f n ps same)
 
 -- the list says of a check what it says without a token of a directive that doesn't govern the check
-pub list_same : (list : PolicyList) (place : Place) (p : Policy) (d : Directive) (asked : Check) → slice_get list.policies place.policy ≡ Some p → slice_get p.directives place.directive ≡ Some d
+pub list_same : (list : PolicyList) (place : TokenPlace) (p : Policy) (d : Directive) (asked : Check) → slice_get list.policies place.policy ≡ Some p → slice_get p.directives place.directive ≡ Some d
     → governs p d (effective_name asked) ≡ false → list_allows (without list place) asked ≡ list_allows list asked
 list_same list place p d asked here there other =
     let same = allows_same p place.directive place.token asked (governor_same p place.directive place.token d (effective_name asked) there other) in

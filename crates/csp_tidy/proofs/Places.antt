@@ -9,7 +9,7 @@ use Rattle.csp_model.specs.declared.policy.Policy.{Policy}
 use Rattle.csp_model.specs.declared.policy.PolicyList.{PolicyList}
 use Rattle.csp_model.specs.declared.source.Source.{Source}
 use Rattle.csp_tidy.specs.Candidates.{IsCandidate, IsCandidateIn, IsCandidateOf, is_report_sample}
-use Rattle.csp_tidy.specs.declared.place.Place.{Place}
+use Rattle.csp_tidy.specs.declared.place.TokenPlace.{TokenPlace}
 use Rattle.csp_tidy.proofs.Fewer.{each_at, there, tokens_in}
 use Rattle.csp_tidy.proofs.Readable.{HasRead}
 
@@ -39,7 +39,7 @@ below_policy p n t readable is =
     (each_at HasRead (λ (d : Directive). IsCandidateIn d t) (λ (d : Directive). t < tokens_in d) p.directives n readable.read
     (λ d read candidate. below_directive d t read candidate) is.1)
 
-pub token_below : (list : PolicyList) (place : Place) → IsReadable list → IsCandidate list place → place.token < token_limit
+pub token_below : (list : PolicyList) (place : TokenPlace) → IsReadable list → IsCandidate list place → place.token < token_limit
 token_below list place readable is =
     let counted : place.token < token_count list.policies =
     below_sum (λ (p : Policy). sum_by tokens_in p.directives) place.token list.policies place.policy
@@ -49,7 +49,7 @@ token_below list place readable is =
     let few : token_count list.policies ≤ token_limit = readable.tokens in
     omega (arith, counted, few)
 
-pub policy_below : (list : PolicyList) (place : Place) → IsReadable list → IsCandidate list place
+pub policy_below : (list : PolicyList) (place : TokenPlace) → IsReadable list → IsCandidate list place
     → place.policy < policy_limit
 policy_below list place readable is =
     let counted : place.policy < length list.policies =

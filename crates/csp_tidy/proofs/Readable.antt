@@ -9,7 +9,7 @@ use Rattle.csp_model.specs.declared.policy.Directive.{Directive}
 use Rattle.csp_model.specs.declared.policy.Policy.{Policy}
 use Rattle.csp_model.specs.declared.policy.PolicyList.{PolicyList}
 use Rattle.csp_tidy.specs.Candidates.{change_at, directive_without, policy_without, without}
-use Rattle.csp_tidy.specs.declared.place.Place.{Place}
+use Rattle.csp_tidy.specs.declared.place.TokenPlace.{TokenPlace}
 use Rattle.csp_tidy.proofs.Changes.{length_change, all_changed, map_removed}
 
 -- Counts
@@ -47,7 +47,7 @@ fewer_policy n t a p =
     let fewer = fold_changed (λ a (d : Directive). a + tokens_in d) (λ a b d less. omega (arith, less)) (directive_without t) (fewer_directive t) n p.directives 0 0 (omega arith) in
     omega (arith, fewer)
 
-fewer_tokens : (list : PolicyList) (place : Place) → token_count (without list place).policies ≤ token_count list.policies
+fewer_tokens : (list : PolicyList) (place : TokenPlace) → token_count (without list place).policies ≤ token_count list.policies
 fewer_tokens list place =
     fold_changed (λ a (p : Policy). a + sum_by tokens_in p.directives) (λ a b p less. omega (arith, less)) (policy_without place.directive place.token)
     (fewer_policy place.directive place.token) place.policy list.policies 0 0 (omega arith)
@@ -83,7 +83,7 @@ least_policy n t a p =
     let new = fold_flat longer texts_in (policy_without n t p).directives a in
     omega (arith, least, old, new)
 
-least_texts : (list : PolicyList) (place : Place) → longest_text (without list place).policies ≤ longest_text list.policies
+least_texts : (list : PolicyList) (place : TokenPlace) → longest_text (without list place).policies ≤ longest_text list.policies
 least_texts list place =
     let step = λ (b : ℕ) (p : Policy). fold longer b (texts_of p) in
     let least = fold_changed step (λ b c p less. fold_grows longer longer_grows (texts_of p) b c less) (policy_without place.directive place.token)
@@ -122,7 +122,7 @@ readable_policy n t p is = record {
   origin = is.origin;
 }
 
-pub readable_without : (list : PolicyList) (place : Place) → IsReadable list → IsReadable (without list place)
+pub readable_without : (list : PolicyList) (place : TokenPlace) → IsReadable list → IsReadable (without list place)
 readable_without list place is =
     let f = policy_without place.directive place.token in
     let long = length_change f place.policy list.policies in

@@ -14,7 +14,7 @@ use Rattle.csp_model.specs.declared.source.Source.{Source}
 use Rattle.csp_match.specs.Candidates.{can_govern}
 use Rattle.csp_tidy.specs.Candidates.{has_source_name, is_report_sample, IsCandidateIn, IsCandidateOf, IsCandidate, change_at, directive_without, policy_without, without}
 use Rattle.csp_tidy.specs.Thinnings.{Thins, is_candidate, IsThinnedDirective, IsThinnedPolicy, IsThinning}
-use Rattle.csp_tidy.specs.declared.place.Place.{Place}
+use Rattle.csp_tidy.specs.declared.place.TokenPlace.{TokenPlace}
 use Rattle.csp_tidy.proofs.Readable.{HasRead, read_without}
 
 -- Itself
@@ -115,5 +115,5 @@ policies_one (p ∷ olds) (q ∷ news) zero m t zips candidate =
     )
 policies_one (p ∷ olds) (q ∷ news) (suc n) m t zips candidate = (zips.0, policies_one olds news n m t zips.1 candidate)
 
-pub thins_more : (first list : PolicyList) (place : Place) → IsThinning first list → IsCandidate list place → IsThinning first (without list place)
+pub thins_more : (first list : PolicyList) (place : TokenPlace) → IsThinning first list → IsCandidate list place → IsThinning first (without list place)
 thins_more first list place thinning candidate = policies_one first.policies list.policies place.policy place.directive place.token thinning candidate

@@ -12,22 +12,22 @@ use Rattle.csp_tidy.specs.Candidates.{candidates, without}
 use Rattle.csp_tidy.specs.Governed.{governs}
 use Rattle.csp_tidy.specs.Thinnings.{AreEquivalent, IsThinning}
 use Rattle.csp_tidy.specs.Tidied.{IsNeeded, place_of}
-use Rattle.csp_tidy.specs.declared.asking.Asked.{Asked}
-use Rattle.csp_tidy.specs.declared.asking.Asked.TheVariants as asked
-use Rattle.csp_tidy.specs.declared.place.Place.{Place}
+use Rattle.csp_tidy.specs.declared.asking.TokenUse.{TokenUse}
+use Rattle.csp_tidy.specs.declared.asking.TokenUse.TheVariants as asked
+use Rattle.csp_tidy.specs.declared.place.TokenPlace.{TokenPlace}
 use Rattle.csp_tidy.specs.declared.rounds.Round.{Round}
 use Rattle.csp_tidy.specs.declared.rounds.Round.TheVariants as round
 use Rattle.csp_tidy.specs.declared.rounds.Settled.{Settled}
 
 -- the effective directives of the checks that the directive at the place governs
-abbrev pub GovernsAt : PolicyList → Place → List Name → Type 0
+abbrev pub GovernsAt : PolicyList → TokenPlace → List Name → Type 0
 GovernsAt list place names =
     MatchOption (slice_get list.policies place.policy) ⊥ (λ (p : Policy).
     MatchOption (slice_get p.directives place.directive) ⊥ (λ (d : Directive).
     names ≡ filter (governs p d) effective_names))
 
 -- an entry for the candidate, or the equivalent list without it
-abbrev pub IsAsked : PolicyList → Place → Asked → Type 0
+abbrev pub IsAsked : PolicyList → TokenPlace → TokenUse → Type 0
 IsAsked list place (asked.Needed needed) = (place_of needed ≡ place) × IsNeeded list needed
 IsAsked list place (asked.Spare thinner) = (thinner ≡ without list place) × AreEquivalent list thinner
 

@@ -11,7 +11,7 @@ use Rattle.csp_model.specs.declared.policy.PolicyList.{PolicyList}
 use Rattle.csp_model.specs.declared.source.Keyword.TheVariants.{ReportSample}
 use Rattle.csp_model.specs.declared.source.Source.{Source}
 use Rattle.csp_model.specs.declared.source.Source.TheVariants.{Word}
-use Rattle.csp_tidy.specs.declared.place.Place.{Place}
+use Rattle.csp_tidy.specs.declared.place.TokenPlace.{TokenPlace}
 
 -- the directive decides by sources: it can govern a check, and isn't `sandbox`
 abbrev pub has_source_name : Directive → Bool
@@ -25,7 +25,7 @@ is_report_sample other = false
 -- Each candidate, in order
 
 -- of these sources, of which the first has this number
-abbrev pub source_candidates : ℕ → ℕ → ℕ → List Source → List Place
+abbrev pub source_candidates : ℕ → ℕ → ℕ → List Source → List TokenPlace
 source_candidates policy directive number [] = []
 source_candidates policy directive number (s ∷ sources) =
     if is_report_sample s then source_candidates policy directive (number + 1) sources
@@ -33,14 +33,14 @@ source_candidates policy directive number (s ∷ sources) =
     ∷ source_candidates policy directive (number + 1) sources
 
 -- of these directives, of which the first has this number
-abbrev pub directive_candidates : ℕ → ℕ → List Directive → List Place
+abbrev pub directive_candidates : ℕ → ℕ → List Directive → List TokenPlace
 directive_candidates policy number [] = []
 directive_candidates policy number (d ∷ ds) =
     (if has_source_name d then source_candidates policy number 0 d.sources else [])
     ++ directive_candidates policy (number + 1) ds
 
 -- of these policies, of which the first has this number
-abbrev pub policy_candidates : ℕ → List Policy → List Place
+abbrev pub policy_candidates : ℕ → List Policy → List TokenPlace
 policy_candidates number [] = []
 policy_candidates number (p ∷ ps) =
     (if is_enforce p.disposition then directive_candidates number 0 p.directives else [])
@@ -48,7 +48,7 @@ policy_candidates number (p ∷ ps) =
 
 -- the places of all candidates of a list, ordered by policy, directive and token: the tokens of enforced
 -- policies in directives that decide by sources, but for 'report-sample'
-abbrev pub candidates : PolicyList → List Place
+abbrev pub candidates : PolicyList → List TokenPlace
 candidates list = policy_candidates 0 list.policies
 
 -- at this place
@@ -64,7 +64,7 @@ IsCandidateOf p directive token =
     × MatchOption (slice_get p.directives directive) ⊥ (λ (d : Directive). IsCandidateIn d token)
 
 -- a candidate stands at the place
-abbrev pub IsCandidate : PolicyList → Place → Type 0
+abbrev pub IsCandidate : PolicyList → TokenPlace → Type 0
 IsCandidate list place =
     MatchOption (slice_get list.policies place.policy) ⊥
     (λ (p : Policy). IsCandidateOf p place.directive place.token)
@@ -90,7 +90,7 @@ policy_without directive token p = record {
 }
 
 -- the list without the token at the place and its source, all else unchanged
-abbrev pub without : PolicyList → Place → PolicyList
+abbrev pub without : PolicyList → TokenPlace → PolicyList
 without list place = record {
   policies = change_at (policy_without place.directive place.token) place.policy list.policies;
 }

@@ -7,11 +7,11 @@ use Rattle.csp_model.specs.Verdict.{list_allows}
 use Rattle.csp_model.specs.declared.policy.PolicyList.{PolicyList}
 use Rattle.csp_tidy.specs.Candidates.{candidates, without}
 use Rattle.csp_tidy.specs.Thinnings.{AreEquivalent, IsThinning}
-use Rattle.csp_tidy.specs.declared.place.Place.{Place}
+use Rattle.csp_tidy.specs.declared.place.TokenPlace.{TokenPlace}
 use Rattle.csp_tidy.specs.declared.tidying.Needed.{Needed}
 use Rattle.csp_tidy.specs.declared.tidying.Tidied.{Tidied}
 
-abbrev pub place_of : Needed → Place
+abbrev pub place_of : Needed → TokenPlace
 place_of needed =
     record { policy = needed.policy; directive = needed.directive; token = needed.token }
 

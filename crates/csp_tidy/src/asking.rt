@@ -5,8 +5,8 @@ ghost use Rattle.csp_tidy.specs.Asking as spec;
 ghost use Rattle.csp_tidy.specs.Candidates.{IsCandidate};
 ghost use Rattle.csp_tidy.specs.Tidied.{place_of};
 
-use crate::governed::governed;
-use crate::place::Place;
+use crate::governed::governed_names;
+use crate::place::TokenPlace;
 use crate::tidying::Needed;
 use crate::without::without;
 use csp_compare::find_difference_among;
@@ -15,7 +15,7 @@ use std::alloc::Global;
 
 // What comes of asking whether a token can go.
 #[derive(Drop)]
-pub(crate) enum Asked {
+pub(crate) enum TokenUse {
     // A check shows that it can't.
     Needed { needed: Needed },
     // The list without it is equivalent.
@@ -23,7 +23,7 @@ pub(crate) enum Asked {
 }
 
 // Asks it of a candidate. Its directive's name stays, so only what the directive governs can change.
-pub(crate) fn ask(alloc: Global, list: &PolicyList, place: Place) -> Result<Asked, Memory>
+pub(crate) fn ask(alloc: Global, list: &PolicyList, place: TokenPlace) -> Result<TokenUse, Memory>
     requires readable { IsReadable list.now }
     requires candidate { IsCandidate list.now place }
     ensures { IfOk result (spec.IsAsked list.now place) }
@@ -32,17 +32,17 @@ pub(crate) fn ask(alloc: Global, list: &PolicyList, place: Place) -> Result<Aske
     let thinner = without(alloc, list, place)?;
     if let Some(check) = find_difference_among(alloc, list, &thinner, names.as_slice())? {
         let needed = needed_at(place, true, check)?;
-        return Ok(Asked::Needed { needed });
+        return Ok(TokenUse::Needed { needed });
     }
     if let Some(check) = find_difference_among(alloc, &thinner, list, names.as_slice())? {
         let needed = needed_at(place, false, check)?;
-        return Ok(Asked::Needed { needed });
+        return Ok(TokenUse::Needed { needed });
     }
-    Ok(Asked::Spare { list: thinner })
+    Ok(TokenUse::Spare { list: thinner })
 }
 
 // The effective directives of the checks that the directive of a candidate governs.
-fn governed_at(alloc: Global, list: &PolicyList, place: Place) -> Result<Vec<Name>, Memory>
+fn governed_at(alloc: Global, list: &PolicyList, place: TokenPlace) -> Result<Vec<Name>, Memory>
     requires { IsCandidate list.now place }
     ensures { IfOk result (λ names. spec.GovernsAt list.now place names.items) }
 {
@@ -52,12 +52,12 @@ fn governed_at(alloc: Global, list: &PolicyList, place: Place) -> Result<Vec<Nam
     let Some(directive) = policy.directives.get(place.directive) else {
         unreachable!()
     };
-    governed(alloc, policy, directive)
+    governed_names(alloc, policy, directive)
 }
 
 // An entry for the token of a candidate. A list with more directives than a `u32` counts takes more memory
 // than there is.
-fn needed_at(place: Place, allowed_with: bool, check: Check) -> Result<Needed, Memory>
+fn needed_at(place: TokenPlace, allowed_with: bool, check: Check) -> Result<Needed, Memory>
     requires policy { place.policy < policy_limit }
     requires token { place.token < token_limit }
     ensures place { IfOk result (λ needed. place_of needed ≡ place) }

@@ -4,7 +4,7 @@ ghost use Rattle.csp_match.specs.Candidates as governing;
 ghost use Rattle.csp_model.specs.Verdict.{is_enforce};
 ghost use Rattle.csp_tidy.specs.Candidates as spec;
 
-use crate::place::Place;
+use crate::place::TokenPlace;
 use csp_match::names;
 use csp_model::{
     Directive, Disposition, Keyword, Memory, Name, Policy, PolicyList, Source, name_text,
@@ -12,7 +12,7 @@ use csp_model::{
 use std::alloc::Global;
 
 // The places of all candidates, in order.
-pub(crate) fn candidates(alloc: Global, list: &PolicyList) -> Result<Vec<Place>, Memory>
+pub(crate) fn candidates(alloc: Global, list: &PolicyList) -> Result<Vec<TokenPlace>, Memory>
     ensures { IfOk result (λ places. places.items ≡ spec.candidates list.now) }
 {
     let mut places = Vec::new(alloc);
@@ -28,7 +28,7 @@ pub(crate) fn candidates(alloc: Global, list: &PolicyList) -> Result<Vec<Place>,
 
 // Adds those of a policy's directives.
 fn push_directives(
-    places: &mut Vec<Place>,
+    places: &mut Vec<TokenPlace>,
     policy: usize,
     directives: &[Directive],
 ) -> Result<(), Memory>
@@ -47,7 +47,7 @@ fn push_directives(
 
 // Adds those of a directive's sources.
 fn push_sources(
-    places: &mut Vec<Place>,
+    places: &mut Vec<TokenPlace>,
     policy: usize,
     directive: usize,
     sources: &[Source],
@@ -58,7 +58,7 @@ fn push_sources(
     let mut number = 0;
     for source in sources {
         if !is_report_sample(source) {
-            places.push(Place {
+            places.push(TokenPlace {
                 policy,
                 directive,
                 token: number,
@@ -104,7 +104,7 @@ fn can_govern(directive: &Directive) -> bool
 }
 
 // Whether a candidate stands at the place.
-pub(crate) fn is_candidate(list: &PolicyList, place: Place) -> bool
+pub(crate) fn is_candidate(list: &PolicyList, place: TokenPlace) -> bool
     ensures { IsTrue result → spec.IsCandidate list.now place }
 {
     let Some(policy) = list.policies.get(place.policy) else {

@@ -10,7 +10,7 @@ use csp_model::{Directive, Memory, Name, Policy, name_text};
 use std::alloc::Global;
 
 // The effective directives of the checks that a directive of the policy governs.
-pub(crate) fn governed(
+pub(crate) fn governed_names(
     alloc: Global,
     policy: &Policy,
     directive: &Directive,

@@ -4,9 +4,9 @@ ghost use Rattle.csp_model.specs.Policies.{IsReadable};
 ghost use Rattle.csp_tidy.specs.Asking as spec;
 ghost use Rattle.csp_tidy.specs.Candidates.{IsCandidate};
 
-use crate::asking::{Asked, ask};
+use crate::asking::{TokenUse, ask};
 use crate::candidates::{candidates, is_candidate};
-use crate::place::Place;
+use crate::place::TokenPlace;
 use crate::tidying::Needed;
 use csp_model::{Duplicate, List, Memory, PolicyList};
 use std::alloc::Global;
@@ -55,8 +55,8 @@ fn go_round(alloc: Global, list: &PolicyList) -> Result<Round, Memory>
     let mut needed = Vec::new(alloc);
     while let Some(place) = places.pop() {
         match ask(alloc, list, place)? {
-            Asked::Needed { needed: entry } => needed.push(entry)?,
-            Asked::Spare { list: thinner } => {
+            TokenUse::Needed { needed: entry } => needed.push(entry)?,
+            TokenUse::Spare { list: thinner } => {
                 let list = thin(alloc, thinner, places)?;
                 return Ok(Round::Thinner { list });
             }
@@ -69,7 +69,7 @@ fn go_round(alloc: Global, list: &PolicyList) -> Result<Round, Memory>
 }
 
 // Takes away what can go of the tokens at these places, from the last to the first.
-fn thin(alloc: Global, list: PolicyList, places: Vec<Place>) -> Result<PolicyList, Memory>
+fn thin(alloc: Global, list: PolicyList, places: Vec<TokenPlace>) -> Result<PolicyList, Memory>
     requires readable { IsReadable list }
     ensures { IfOk result (spec.IsThinner list) }
 {
@@ -77,7 +77,7 @@ fn thin(alloc: Global, list: PolicyList, places: Vec<Place>) -> Result<PolicyLis
     let mut places = places;
     while let Some(place) = places.pop() {
         if is_candidate(&current, place)
-            && let Asked::Spare { list: thinner } = ask(alloc, &current, place)?
+            && let TokenUse::Spare { list: thinner } = ask(alloc, &current, place)?
         {
             current = thinner;
         }

@@ -3,12 +3,16 @@ ghost use Rattle.std.specs.Prelude.{◌≡◌, IfOk};
 ghost use Rattle.std.specs.List.{remove};
 ghost use Rattle.csp_tidy.specs.Candidates as spec;
 
-use crate::place::Place;
+use crate::place::TokenPlace;
 use csp_model::{Directive, Duplicate, List, Memory, Policy, PolicyList};
 use std::alloc::Global;
 
 // The list without the token at the place and its source.
-pub(crate) fn without(alloc: Global, list: &PolicyList, place: Place) -> Result<PolicyList, Memory>
+pub(crate) fn without(
+    alloc: Global,
+    list: &PolicyList,
+    place: TokenPlace,
+) -> Result<PolicyList, Memory>
     ensures { IfOk result (λ made. made ≡ spec.without list.now place) }
 {
     let mut policies = List::new(alloc);

@@ -35,7 +35,7 @@ fn write_plain(value: &[u8], out: &mut [u8])
 }
 
 // The `N` bytes that a value stands for.
-pub(crate) fn decoded<const N: usize>(value: &str) -> Option<[u8; N]>
+pub(crate) fn decode<const N: usize>(value: &str) -> Option<[u8; N]>
     requires { N ≤ 64 }
     ensures some { IfSome result (spec.StandsFor value.now) }
     ensures size { IfSome result (IsOfSize N) }

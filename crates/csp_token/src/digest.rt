@@ -5,7 +5,7 @@ ghost use Rattle.csp_model.specs.Tokens.{HashMatches};
 ghost use Rattle.csp_model.specs.Validity.{IsValidDigests};
 ghost use Rattle.csp_token.specs.Digests as spec;
 
-use crate::base64_value::{decoded, stands_for};
+use crate::base64_value::{decode, stands_for};
 use crate::size::digests_are_bytes;
 use csp_model::{Algorithm, Digest, Digests, Hash, Source};
 use sha2::Digest as _;
@@ -70,9 +70,9 @@ pub fn hash_of(hash: &Hash) -> Option<Digest>
 {
     let value = hash.value.as_str();
     match hash.algorithm {
-        Algorithm::Sha256 => Some(Digest::Sha256(decoded(value)?)),
-        Algorithm::Sha384 => Some(Digest::Sha384(decoded(value)?)),
-        Algorithm::Sha512 => Some(Digest::Sha512(decoded(value)?)),
+        Algorithm::Sha256 => Some(Digest::Sha256(decode(value)?)),
+        Algorithm::Sha384 => Some(Digest::Sha384(decode(value)?)),
+        Algorithm::Sha512 => Some(Digest::Sha512(decode(value)?)),
     }
 }
 

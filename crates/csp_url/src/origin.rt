@@ -5,7 +5,7 @@ ghost use Rattle.csp_model.specs.Validity.{IsValidOrigin};
 ghost use Rattle.csp_url.specs.Origins as spec;
 
 use crate::error::OriginError;
-use crate::read::{parsed, url_from};
+use crate::read::{parse, url_from};
 use csp_model::{Memory, Origin, Scheme, Url};
 use std::alloc::Global;
 
@@ -68,7 +68,7 @@ fn origin_of(alloc: Global, text: &str) -> Result<Option<Origin>, Memory>
     if text == "null" {
         return Ok(Some(Origin::Opaque));
     }
-    match parsed(alloc, text)? {
+    match parse(alloc, text)? {
         None => Ok(None),
         Some(parsed) => origin_from(alloc, &parsed),
     }

@@ -48,7 +48,7 @@ fn given_port(scheme: Scheme, port: Option<u32>) -> Option<Option<u16>>
 }
 
 // The URL of a scheme that has hosts.
-fn hosted(
+fn hosted_url(
     alloc: Global,
     scheme: Scheme,
     host: Option<&str>,
@@ -121,7 +121,7 @@ pub fn url_from_parts(
         return Err(PartsError::Bad { part: Part::Scheme });
     }
     match Scheme::from_name(scheme) {
-        Some(known) => hosted(alloc, known, host, port, path),
+        Some(known) => hosted_url(alloc, known, host, port, path),
         None => plain(alloc, scheme, host, port, path),
     }
 }

@@ -12,7 +12,7 @@ use std::alloc::Global;
 use url::ParseError;
 
 // The parts that parsing finds in a text. A URL that comes to 4 GB counts as want of memory.
-pub(crate) fn parsed(alloc: Global, text: &str) -> Result<Option<url::Url>, Memory>
+pub(crate) fn parse(alloc: Global, text: &str) -> Result<Option<url::Url>, Memory>
     ensures { IfOk result (λ parts. parts ≡ spec.parts_of text.now) }
 {
     match url::Url::parse(alloc, text) {
@@ -87,7 +87,7 @@ pub(crate) fn url_from(alloc: Global, parsed: &url::Url) -> Result<Option<Url>, 
 fn url_of(alloc: Global, text: &str) -> Result<Option<Url>, Memory>
     ensures { IfOk result (λ url. url ≡ spec.url_of text.now) }
 {
-    match parsed(alloc, text)? {
+    match parse(alloc, text)? {
         None => Ok(None),
         Some(parsed) => url_from(alloc, &parsed),
     }

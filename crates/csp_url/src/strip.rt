@@ -6,7 +6,7 @@ ghost use Rattle.csp_url.specs.Reading.{url_of};
 ghost use Rattle.csp_url.specs.Texts as spec;
 
 use crate::error::UrlError;
-use crate::read::{parsed, url_from};
+use crate::read::{parse, url_from};
 use csp_model::{Memory, Text, Url};
 use std::alloc::Global;
 use url::Position;
@@ -59,7 +59,7 @@ fn stripped_from(alloc: Global, parsed: &url::Url) -> Result<Option<Text>, Memor
 fn stripped_of(alloc: Global, text: &str) -> Result<Option<Text>, Memory>
     ensures { IfOk result (λ shown. shown ≡ spec.stripped_of text.now) }
 {
-    match parsed(alloc, text)? {
+    match parse(alloc, text)? {
         None => Ok(None),
         Some(parsed) => stripped_from(alloc, &parsed),
     }
@@ -91,7 +91,7 @@ fn shown_url_from(alloc: Global, parsed: &url::Url) -> Result<Option<ShownUrl>, 
 fn shown_url_of(alloc: Global, text: &str) -> Result<Option<ShownUrl>, Memory>
     ensures { IfOk result (λ found. found ≡ spec.shown_url_of text.now) }
 {
-    match parsed(alloc, text)? {
+    match parse(alloc, text)? {
         None => Ok(None),
         Some(parsed) => shown_url_from(alloc, &parsed),
     }

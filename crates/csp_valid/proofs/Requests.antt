@@ -25,8 +25,8 @@ use Rattle.csp_request.specs.declared.error.DescriptionError.{DescriptionError}
 use Rattle.csp_request.specs.declared.error.RequestError.{RequestError}
 use Rattle.csp_request.specs.declared.field.Field.{Field}
 use Rattle.csp_request.specs.declared.field.Field.TheVariants as field
-use Rattle.csp_request.specs.declared.kind.Kind.{Kind}
-use Rattle.csp_request.specs.declared.kind.Kind.TheVariants as kind
+use Rattle.csp_request.specs.declared.kind.DescriptionKind.{DescriptionKind}
+use Rattle.csp_request.specs.declared.kind.DescriptionKind.TheVariants as kind
 use Rattle.csp_request.specs.declared.texts.ReportTexts.{ReportTexts}
 use Rattle.csp_request.specs.declared.texts.ReportTexts.TheVariants as texts
 use Rattle.csp_token.specs.Digests.{digests_of}
@@ -255,7 +255,7 @@ of_capability value d is =
     let which = found_then (required (named capability_named) field.Name value) _ d is in
     of_one (check.Capability which.0) _ _ d tt which.2
 
-of_kind : (texts : ReportTexts) (hashed : List ℕ → Digests) (which : Kind) (value : Data) (d : Described)
+of_kind : (texts : ReportTexts) (hashed : List ℕ → Digests) (which : DescriptionKind) (value : Data) (d : Described)
     → described_by texts hashed which value ≡ Ok d → HaveValidUrls d
 of_kind texts hashed kind.Fetch value d is = of_fetch texts value d is
 of_kind texts hashed kind.Inline value d is = of_inline texts hashed value d is

@@ -42,7 +42,7 @@ impl<'a> CompiledList<'a> {
         requires { length list.now.policies ≤ policy_limit }
         ensures list { IfOk result (λ made. made ≡ list.now) }
     {
-        let policies = compiled(alloc, list.policies.as_slice(), false)?;
+        let policies = compile_all(alloc, list.policies.as_slice(), false)?;
         let algorithms = named_algorithms(list.policies.as_slice());
         Ok(CompiledList {
             policies,
@@ -56,7 +56,7 @@ impl<'a> CompiledList<'a> {
         requires { length list.now.policies ≤ policy_limit }
         ensures list { IfOk result (λ made. made ≡ list.now) }
     {
-        let policies = compiled(alloc, list.policies.as_slice(), true)?;
+        let policies = compile_all(alloc, list.policies.as_slice(), true)?;
         let algorithms = named_algorithms(list.policies.as_slice());
         Ok(CompiledList {
             policies,
@@ -95,7 +95,7 @@ impl<'a> CompiledList<'a> {
 }
 
 // Each policy, made ready, with its text where that is wanted.
-fn compiled<'a>(
+fn compile_all<'a>(
     alloc: Global,
     policies: &'a [Policy],
     are_printed: bool,

@@ -38,8 +38,8 @@ use Rattle.csp_why.specs.declared.reason.Near.{Near}
 use Rattle.csp_why.specs.declared.reason.Reason.TheVariants.{Allows, Blocks}
 use Rattle.csp_why.specs.declared.reason.Rule.{Rule}
 use Rattle.csp_why.specs.declared.reason.Rule.TheVariants as rule
-use Rattle.csp_why.specs.declared.reason.Word.{Word}
-use Rattle.csp_why.specs.declared.reason.Word.TheVariants as word
+use Rattle.csp_why.specs.declared.reason.Obstacle.{Obstacle}
+use Rattle.csp_why.specs.declared.reason.Obstacle.TheVariants as word
 use Rattle.csp_why.proofs.Finding.{any_more, first_some, position_any}
 use Rattle.csp_why.proofs.Governed.{test, governed, not_governed}
 
@@ -254,7 +254,7 @@ test_decided self (check.Capability asked) g =
     (some_by rule.Capability (grant_token asked g.directive.tokens) ∙ position_any (token_grants asked) g.directive.tokens)
 test_decided self check.WorkerStart g = last _ _ (worker_some g.directive.tokens)
 
-is_allowing_where : (policy : Policy) (asked : Check) (displaced : Option Word) (g : Governor) (o : Option Allowance)
+is_allowing_where : (policy : Policy) (asked : Check) (displaced : Option Obstacle) (g : Governor) (o : Option Allowance)
     → is_allowing (governed_reason policy asked displaced g o) ≡ is_some o
 is_allowing_where policy asked displaced g None = refl
 is_allowing_where policy asked displaced g (Some a) = refl
@@ -282,25 +282,25 @@ counts_where : (counts displaced : Bool) → displaced ≡ not counts → counts
 counts_where true displaced e = sym (ap not e)
 counts_where false displaced e = sym (ap not e)
 
-first_by : (p : Policy) (asked : Check) (g : Governor) (displaced : Option Word) (counts : Bool) (found o : Option Allowance)
+first_by : (p : Policy) (asked : Check) (g : Governor) (displaced : Option Obstacle) (counts : Bool) (found o : Option Allowance)
     → displaced ≡ displacement asked g.name g.directive.sources → is_some displaced ≡ not counts
     → found ≡ first_of (allowances p.origin asked counts g) → found ≡ o
     → first_of (allowances p.origin asked (is_none (displacement asked g.name g.directive.sources)) g) ≡ o
 first_by p asked g displaced counts found o is_displaced counted allowed is =
-    subst (λ (x : Option Word). first_of (allowances p.origin asked (is_none x) g) ≡ o) is_displaced
+    subst (λ (x : Option Obstacle). first_of (allowances p.origin asked (is_none x) g) ≡ o) is_displaced
     (subst (λ (b : Bool). first_of (allowances p.origin asked b g) ≡ o) (counts_where counts (is_some displaced) counted) (sym allowed ∙ is))
 
-pub told_allows : (p : Policy) (asked : Check) (g : Governor) (displaced : Option Word) (counts : Bool) (found : Option Allowance) (a : Allowance)
+pub told_allows : (p : Policy) (asked : Check) (g : Governor) (displaced : Option Obstacle) (counts : Bool) (found : Option Allowance) (a : Allowance)
     → acting p asked ≡ Some g → displaced ≡ displacement asked g.name g.directive.sources → is_some displaced ≡ not counts
     → found ≡ first_of (allowances p.origin asked counts g) → found ≡ Some a → Allows g.name a ≡ reason p asked
 told_allows p asked g displaced counts found a acts is_displaced counted allowed is =
     sym (reason_at p asked g (Some a) acts (first_by p asked g displaced counts found (Some a) is_displaced counted allowed is))
 
-pub told_blocks : (p : Policy) (asked : Check) (g : Governor) (displaced : Option Word) (counts : Bool) (found : Option Allowance) (near : List Near)
+pub told_blocks : (p : Policy) (asked : Check) (g : Governor) (displaced : Option Obstacle) (counts : Bool) (found : Option Allowance) (near : List Near)
     → acting p asked ≡ Some g → displaced ≡ displacement asked g.name g.directive.sources → is_some displaced ≡ not counts
     → found ≡ first_of (allowances p.origin asked counts g) → found ≡ None
     → near ≡ near_of p.origin asked displaced g → Blocks g.name near ≡ reason p asked
 told_blocks p asked g displaced counts found near acts is_displaced counted allowed is these =
     ap (λ (l : List Near). Blocks g.name l)
-    (subst (λ (x : Option Word). near ≡ near_of p.origin asked x g) is_displaced these)
+    (subst (λ (x : Option Obstacle). near ≡ near_of p.origin asked x g) is_displaced these)
     ∙ sym (reason_at p asked g None acts (first_by p asked g displaced counts found None is_displaced counted allowed is))

@@ -41,8 +41,8 @@ use Rattle.csp_why.specs.Reasons.{acting, governed_reason, reason_by, reason}
 use Rattle.csp_why.specs.declared.reason.Allowance.{Allowance}
 use Rattle.csp_why.specs.declared.reason.Near.{Near}
 use Rattle.csp_why.specs.declared.reason.Reason.TheVariants.{Ungoverned, Allows, Blocks}
-use Rattle.csp_why.specs.declared.reason.Word.{Word}
-use Rattle.csp_why.specs.declared.reason.Word.TheVariants as word
+use Rattle.csp_why.specs.declared.reason.Obstacle.{Obstacle}
+use Rattle.csp_why.specs.declared.reason.Obstacle.TheVariants as word
 use Rattle.csp_model.proofs.TokensDecided.{is_keyword_decides}
 use Rattle.csp_why.proofs.Alone.{matches_no_keyword}
 use Rattle.csp_why.proofs.Decided.{nonces_and_hashes}
@@ -94,7 +94,7 @@ fitted_matches : (o : Option Source) (s : Source) (self : Origin) (there : Url) 
 fitted_matches (Some t) s self there redirected match = match
 fitted_matches None s self there redirected match = absurd (false≢true match)
 
-abbrev IsPart : Word → Type 0
+abbrev IsPart : Obstacle → Type 0
 IsPart word.Scheme = Unit {0}
 IsPart word.Port = Unit {0}
 IsPart word.Path = Unit {0}
@@ -107,7 +107,7 @@ IsPart word.Integrity = ⊥
 IsPart word.AllowScripts = ⊥
 IsPart word.AllowSameOrigin = ⊥
 
-is_part : (w : Word) (there : Url) (s : Source) (self : Origin) (redirected : Bool)
+is_part : (w : Obstacle) (there : Url) (s : Source) (self : Origin) (redirected : Bool)
     → some_matches (changed w self there s) self there redirected ≡ true → IsPart w
 is_part word.Scheme there s self redirected match = tt
 is_part word.Port there s self redirected match = tt
@@ -122,7 +122,7 @@ is_part word.AllowScripts there s self redirected match = false≢true match
 is_part word.AllowSameOrigin there s self redirected match = false≢true match
 
 -- where a part is told, the list is the one with it changed
-part_mended : (self : Origin) (integrity : List Hash) (w : Word) (there : Option Url) (i : ℕ) (sources : List Source) → IsPart w
+part_mended : (self : Origin) (integrity : List Hash) (w : Obstacle) (there : Option Url) (i : ℕ) (sources : List Source) → IsPart w
     → mended self integrity w there i sources ≡ change_at (fitted self w there) i sources
 part_mended self integrity word.Scheme there i sources part = refl
 part_mended self integrity word.Port there i sources part = refl
@@ -136,12 +136,12 @@ part_mended self integrity word.Integrity there i sources part = absurd part
 part_mended self integrity word.AllowScripts there i sources part = absurd part
 part_mended self integrity word.AllowSameOrigin there i sources part = absurd part
 
-module _ (self : Origin) (integrity : List Hash) (there : Url) (redirected : Bool) (sources : List Source) (i : ℕ) (s : Source) (w : Word) where
+module _ (self : Origin) (integrity : List Hash) (there : Url) (redirected : Bool) (sources : List Source) (i : ℕ) (s : Source) (w : Obstacle) where
   abbrev now_matches : Source → Bool
   now_matches x = matches x self there redirected
 
   wrong_part_matches : wrong_part self there redirected s ≡ Some w → some_matches (changed w self there s) self there redirected ≡ true
-  wrong_part_matches found = find_passes (λ (part : Word). some_matches (changed part self there s) self there redirected) parts w found
+  wrong_part_matches found = find_passes (λ (part : Obstacle). some_matches (changed part self there s) self there redirected) parts w found
 
   -- the list with the part changed matches
   part_matches : slice_get sources i ≡ Some s → wrong_part self there redirected s ≡ Some w
@@ -207,8 +207,8 @@ all_there (hash ∷ hashes) sources =
     (λ h is. or_right (is_hash h (digest hash)) (list_any (is_hash h) rest) is) hashes (all_there hashes sources))
 
 module _ (nonce : List ℕ) (integrity : List Hash) (parser_inserted : Bool) (self : Origin) (there : Url) (redirected : Bool)
-    (sources : List Source) (i : ℕ) (s : Source) (w : Word) (here : slice_get sources i ≡ Some s) where
-  abbrev Mends : FetchRule → Word → Type 0
+    (sources : List Source) (i : ℕ) (s : Source) (w : Obstacle) (here : slice_get sources i ≡ Some s) where
+  abbrev Mends : FetchRule → Obstacle → Type 0
   Mends which x =
       sources_allow which (mended self integrity x (Some there) i sources) nonce integrity parser_inserted
       (list_matches (mended self integrity x (Some there) i sources) self there redirected) ≡ true
@@ -273,13 +273,13 @@ acts_in kind sources has alone dynamic =
     (or_right (not (is_script_kind kind)) (not (has_keyword keyword.StrictDynamic sources))
     (not_from_false (has_keyword keyword.StrictDynamic sources) dynamic)))
 
-abbrev displaced_by : Bool → Bool → Bool → Option Word
+abbrev displaced_by : Bool → Bool → Bool → Option Obstacle
 displaced_by nonces hashes dynamic =
     cond nonces (Some word.Nonce) (cond hashes (Some word.Hash) (cond dynamic (Some word.StrictDynamic) None))
 
 module _ (self : Origin) (kind : InlineKind) (nonce : List ℕ) (digests : Digests) (there : Option Url) (sources : List Source) (i : ℕ) (s : Source)
     (here : slice_get sources i ≡ Some s) where
-  abbrev InlineMends : Word → Type 0
+  abbrev InlineMends : Obstacle → Type 0
   InlineMends w = sources_allow_inline kind nonce digests (mended self [] w there i sources) ≡ true
 
   abbrev kept : Source → Bool
@@ -308,7 +308,7 @@ module _ (self : Origin) (kind : InlineKind) (nonce : List ℕ) (digests : Diges
       (nonces_and_hashes sources ∙ or_from (list_any is_nonce_source sources) (list_any is_hash_source sources) nonces hashes))
       (none_kept (is_keyword keyword.StrictDynamic) keep sources (λ x h. not_dynamic x h)))
 
-  displaced_mends : (w : Word) (nonces hashes dynamic : Bool) → is_keyword keyword.UnsafeInline s ≡ true
+  displaced_mends : (w : Obstacle) (nonces hashes dynamic : Bool) → is_keyword keyword.UnsafeInline s ≡ true
       → list_any is_nonce_source sources ≡ nonces → list_any is_hash_source sources ≡ hashes
       → displaced_by nonces hashes dynamic ≡ Some w → InlineMends w
   displaced_mends w true hashes dynamic is n h found =
@@ -327,7 +327,7 @@ module _ (self : Origin) (kind : InlineKind) (nonce : List ℕ) (digests : Diges
       (and_from (digests_match digests these) (hash_counts kind these) (any_at (is_hash_of digests) sources i s here is)
       (or_right (is_element_kind kind) true refl)))
 
-  inline_mends : (w : Word) → near_inline (displaces_unsafe_inline (is_script_kind kind) sources) digests s ≡ Some w → InlineMends w
+  inline_mends : (w : Obstacle) → near_inline (displaces_unsafe_inline (is_script_kind kind) sources) digests s ≡ Some w → InlineMends w
   inline_mends w found =
       elim (cases_Bool (is_keyword keyword.UnsafeInline s)) [
         | inl is ↦
@@ -343,13 +343,13 @@ module _ (self : Origin) (kind : InlineKind) (nonce : List ℕ) (digests : Diges
 
 -- Each check
 
-abbrev near_at : ℕ → Word → Near
+abbrev near_at : ℕ → Obstacle → Near
 near_at i w = record { token = i; word = w }
 
 abbrev Mended : Origin → Check → Governor → Near → Type 0
 Mended self asked g n = test self asked (record { name = g.name; directive = mended_directive self asked n g.directive }) ≡ true
 
-word_mends : (self : Origin) (asked : Check) (g : Governor) (i : ℕ) (s : Source) (w : Word) → slice_get g.directive.sources i ≡ Some s
+word_mends : (self : Origin) (asked : Check) (g : Governor) (i : ℕ) (s : Source) (w : Obstacle) → slice_get g.directive.sources i ≡ Some s
     → near_word self g.name asked (displacement asked g.name g.directive.sources) s ≡ Some w → Mended self asked g (near_at i w)
 word_mends self (check.Fetch group there redirects nonce integrity parser_inserted) g i s w here found =
     fetch_mends nonce integrity parser_inserted self there (is_redirected redirects) g.directive.sources i s w here (fetch_rule group g.name) found
@@ -367,19 +367,19 @@ word_mends self check.WorkerStart g i s w here found = none_is w found
 
 -- A worker's sandbox
 
-grant_mends : (tokens : List (List ℕ)) (i : ℕ) (token : List ℕ) (w : Word) → slice_get tokens i ≡ Some token
+grant_mends : (tokens : List (List ℕ)) (i : ℕ) (token : List ℕ) (w : Obstacle) → slice_get tokens i ≡ Some token
     → near_grant token ≡ Some w
     → (grants (granted w tokens) capability.Scripts && grants (granted w tokens) capability.SameOrigin) ≡ true
 grant_mends tokens i token w here found =
     elim (some_is (token_grants capability.Scripts token) word.AllowSameOrigin _ w found) [
       | inl (scripts, same) ↦
-          subst (λ (x : Word). (grants (granted x tokens) capability.Scripts && grants (granted x tokens) capability.SameOrigin) ≡ true) same
+          subst (λ (x : Obstacle). (grants (granted x tokens) capability.Scripts && grants (granted x tokens) capability.SameOrigin) ≡ true) same
           (and_from _ _
           (or_right (token_grants capability.Scripts (codes "allow-same-origin")) _ (any_at (token_grants capability.Scripts) tokens i token here scripts))
           (or_left (token_grants capability.SameOrigin (codes "allow-same-origin")) (grants tokens capability.SameOrigin) refl))
       | inr (fails, rest) ↦ elim (some_is (token_grants capability.SameOrigin token) word.AllowScripts None w rest) [
         | inl (same_origin, same) ↦
-            subst (λ (x : Word). (grants (granted x tokens) capability.Scripts && grants (granted x tokens) capability.SameOrigin) ≡ true) same
+            subst (λ (x : Obstacle). (grants (granted x tokens) capability.Scripts && grants (granted x tokens) capability.SameOrigin) ≡ true) same
             (and_from _ _ (or_left (token_grants capability.Scripts (codes "allow-scripts")) (grants tokens capability.Scripts) refl)
             (or_right (token_grants capability.SameOrigin (codes "allow-scripts")) _ (any_at (token_grants capability.SameOrigin) tokens i token here same_origin)))
         | inr (other, none) ↦ none_is w none
@@ -397,13 +397,13 @@ first_place n = omega arith
 nothing_before : (k : ℕ) → 0 + k ≡ k
 nothing_before k = omega arith
 
-head_is : (P : Near → Type 0) (n : ℕ) (o : Option Word) (rest : List Near) → ((w : Word) → o ≡ Some w → P (near_at n w)) → All P rest
-    → All P (cons_option (option_map (λ (w : Word). near_at n w) o) rest)
+head_is : (P : Near → Type 0) (n : ℕ) (o : Option Obstacle) (rest : List Near) → ((w : Obstacle) → o ≡ Some w → P (near_at n w)) → All P rest
+    → All P (cons_option (option_map (λ (w : Obstacle). near_at n w) o) rest)
 head_is P n None rest each all = all
 head_is P n (Some w) rest each all = All-cons P (near_at n w) rest (each w refl) all
 
-near_are : {A : Type 0} (P : Near → Type 0) (word_of : A → Option Word) (n : ℕ) (items : List A)
-    → ((k : ℕ) (x : A) (w : Word) → slice_get items k ≡ Some x → word_of x ≡ Some w → P (near_at (n + k) w))
+near_are : {A : Type 0} (P : Near → Type 0) (word_of : A → Option Obstacle) (n : ℕ) (items : List A)
+    → ((k : ℕ) (x : A) (w : Obstacle) → slice_get items k ≡ Some x → word_of x ≡ Some w → P (near_at (n + k) w))
     → All P (near_from word_of n items)
 near_are P word_of n [] each = All-nil P
 near_are P word_of n (x ∷ items) each =
@@ -415,9 +415,9 @@ abbrev Allowed : Policy → Check → Name → Near → Type 0
 Allowed p asked name n = allows (with_changed name (mended_directive p.origin asked n) p) asked ≡ true
 
 -- the tokens with a word, each of which allows where the directive is mended
-all_mended : {A : Type 0} (p : Policy) (asked : Check) (g : Governor) (word_of : A → Option Word) (items : List A)
+all_mended : {A : Type 0} (p : Policy) (asked : Check) (g : Governor) (word_of : A → Option Obstacle) (items : List A)
     → acting p asked ≡ Some g
-    → ((k : ℕ) (x : A) (w : Word) → slice_get items k ≡ Some x → word_of x ≡ Some w → Mended p.origin asked g (near_at k w))
+    → ((k : ℕ) (x : A) (w : Obstacle) → slice_get items k ≡ Some x → word_of x ≡ Some w → Mended p.origin asked g (near_at k w))
     → All (Allowed p asked g.name) (near_from word_of 0 items)
 all_mended p asked g word_of items acts each =
     near_are (Allowed p asked g.name) word_of 0 items

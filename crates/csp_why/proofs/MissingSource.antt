@@ -37,8 +37,8 @@ use Rattle.csp_why.specs.Reasons.{acting, governed_reason, reason, reason_by}
 use Rattle.csp_why.specs.declared.reason.Allowance.{Allowance}
 use Rattle.csp_why.specs.declared.reason.Near.{Near}
 use Rattle.csp_why.specs.declared.reason.Reason.TheVariants.{Allows, Blocks}
-use Rattle.csp_why.specs.declared.reason.Word.{Word}
-use Rattle.csp_why.specs.declared.reason.Word.TheVariants as word
+use Rattle.csp_why.specs.declared.reason.Obstacle.{Obstacle}
+use Rattle.csp_why.specs.declared.reason.Obstacle.TheVariants as word
 use Rattle.csp_why.proofs.Governed.{acting_changed, allows_changed, governed, test}
 use Rattle.csp_why.proofs.Mended.{script_allows}
 
@@ -105,7 +105,7 @@ module _ (nonce : List ℕ) (integrity : List Hash) (parser_inserted : Bool) (so
   not_dynamic (url.Plain scheme) none = none
   not_dynamic (url.Hosted scheme host port path) none = none
 
-  dynamic_none : (dynamic : Bool) → ◌≡◌ {A = Option Word} (cond dynamic (Some word.StrictDynamic) None) None → dynamic ≡ false
+  dynamic_none : (dynamic : Bool) → ◌≡◌ {A = Option Obstacle} (cond dynamic (Some word.StrictDynamic) None) None → dynamic ≡ false
   dynamic_none true is = absurd (let h : Some word.StrictDynamic ≡ None = is in let no : ⊥ = cc in no)
   dynamic_none false is = refl
 
@@ -205,11 +205,11 @@ named_is (Some own) there is = which (can_be_named own) is where
   which true is = is
   which false is = absurd (let h : None ≡ Some there = is in let no : ⊥ = cc in no)
 
-some_not : (o : Option Word) → is_some o ≡ false → o ≡ None
+some_not : (o : Option Obstacle) → is_some o ≡ false → o ≡ None
 some_not None is = refl
 some_not (Some w) is = absurd (false≢true (sym is))
 
-from_is : (asked : Check) (displaced : Option Word) (near : List Near) (there : Url) → missing_from asked displaced near ≡ Some there
+from_is : (asked : Check) (displaced : Option Obstacle) (near : List Near) (there : Url) → missing_from asked displaced near ≡ Some there
     → (displaced ≡ None) × (checked_url asked ≡ Some there)
 from_is asked displaced near there is = which (is_nonempty near || is_some displaced) refl is where
   which : (b : Bool) → (is_nonempty near || is_some displaced) ≡ b
@@ -233,7 +233,7 @@ acts_by p check.OpaqueAncestor there has = refl
 acts_by p (check.Capability capability) there has = absurd (let h : None ≡ Some there = has in let no : ⊥ = cc in no)
 acts_by p check.WorkerStart there has = absurd (let h : None ≡ Some there = has in let no : ⊥ = cc in no)
 
-blocks_named : (p : Policy) (asked : Check) (g : Governor) (displaced : Option Word) (o : Option Allowance) (name : Name) (near : List Near)
+blocks_named : (p : Policy) (asked : Check) (g : Governor) (displaced : Option Obstacle) (o : Option Allowance) (name : Name) (near : List Near)
     → governed_reason p asked displaced g o ≡ Blocks name near → g.name ≡ name
 blocks_named p asked g displaced None name near is =
     let these : List Near = near_of p.origin asked displaced g in

@@ -32,8 +32,8 @@ use Rattle.csp_why.specs.declared.reason.Allowance.{Allowance}
 use Rattle.csp_why.specs.declared.reason.Near.{Near}
 use Rattle.csp_why.specs.declared.reason.Reason.TheVariants.{Blocks}
 use Rattle.csp_why.specs.declared.reason.Rule.TheVariants as rule
-use Rattle.csp_why.specs.declared.reason.Word.{Word}
-use Rattle.csp_why.specs.declared.reason.Word.TheVariants as word
+use Rattle.csp_why.specs.declared.reason.Obstacle.{Obstacle}
+use Rattle.csp_why.specs.declared.reason.Obstacle.TheVariants as word
 
 or_false : (b : Bool) → (b || false) ≡ b
 or_false true = refl
@@ -61,11 +61,11 @@ module _ (kind : InlineKind) (nonce : List ℕ) (one other : Digests) where
   same_token sources agree =
       ap (λ (n : ℕ). cond (nat_lt n (length sources)) (Some n) None) (same_first sources agree)
 
-  same_near : (displaced : Option Word) (n : ℕ) (sources : List Source) → AgreeWhereNamed sources one other
+  same_near : (displaced : Option Obstacle) (n : ℕ) (sources : List Source) → AgreeWhereNamed sources one other
       → near_from (near_inline displaced one) n sources ≡ near_from (near_inline displaced other) n sources
   same_near displaced n [] agree = refl
   same_near displaced n (s ∷ sources) agree =
-      let Make : Option Word → List Near → List Near = λ found rest.
+      let Make : Option Obstacle → List Near → List Near = λ found rest.
       cons_option (option_map (λ w. record { token = n; word = w }) found) rest in
       ap (λ (b : Bool). Make (cond (is_keyword keyword.UnsafeInline s) displaced (cond b (Some word.UnsafeHashes) None))
       (near_from (near_inline displaced one) (n + 1) sources))
@@ -81,7 +81,7 @@ module _ (kind : InlineKind) (nonce : List ℕ) (one other : Digests) where
       ∷ by rule.Hash (only_where (hash_counts kind sources) token) ∷ [])
       (same_token sources agree)
 
-  same_governed : (p : Policy) (displaced : Option Word) (g : Governor) (found : Option Allowance)
+  same_governed : (p : Policy) (displaced : Option Obstacle) (g : Governor) (found : Option Allowance)
       → AgreeWhereNamed g.directive.sources one other
       → governed_reason p (check.Inline kind nonce one) displaced g found
       ≡ governed_reason p (check.Inline kind nonce other) displaced g found
@@ -95,7 +95,7 @@ module _ (kind : InlineKind) (nonce : List ℕ) (one other : Digests) where
   same_by p None is agree = refl
   same_by p (Some g) is agree =
       let sources = g.directive.sources in
-      let displaced : Option Word = displaces_unsafe_inline (is_script_kind kind) sources in
+      let displaced : Option Obstacle = displaces_unsafe_inline (is_script_kind kind) sources in
       let there : AgreeWhereNamed sources one other = λ x named.
       agree x (governs_any (λ (d : Directive). names x d.sources) p (inline_directive kind) g is named) in
       ap (λ (all : List (Option Allowance)). governed_reason p (check.Inline kind nonce one) displaced g (first_of all))

@@ -23,8 +23,8 @@ use Rattle.csp_model.specs.declared.url.Scheme.{Scheme}
 use Rattle.csp_model.specs.declared.url.Url.{Url}
 use Rattle.csp_model.specs.declared.url.Url.TheVariants as url
 use Rattle.csp_why.specs.Near.{changed, ends_as, may_fit, some_matches, wrong_part}
-use Rattle.csp_why.specs.declared.reason.Word.{Word}
-use Rattle.csp_why.specs.declared.reason.Word.TheVariants as word
+use Rattle.csp_why.specs.declared.reason.Obstacle.{Obstacle}
+use Rattle.csp_why.specs.declared.reason.Obstacle.TheVariants as word
 
 no_rest : (scheme rest : Bool) → (scheme && (false && rest)) ≡ false
 no_rest true rest = refl
@@ -36,14 +36,14 @@ is_suffix (host_part.Under suffix) host = bytes_eq suffix (host_text host)
 is_suffix part host = false
 
 -- the first part that fits by its change
-abbrev first_where : Bool → Bool → Bool → Bool → Option Word
+abbrev first_where : Bool → Bool → Bool → Bool → Option Obstacle
 first_where scheme port path suffix =
     cond scheme (Some word.Scheme) (cond port (Some word.Port) (cond path (Some word.Path)
     (cond suffix (Some word.Suffix) None)))
 
 module _ (self : Origin) (redirected : Bool) (part : Option (List ℕ)) (under : HostPart) (ports : PortPart)
     (paths : PathPart) (there : Scheme) (host : Host) (port : Option ℕ) (pieces : List (List ℕ)) where
-  abbrev fits : Word → Bool
+  abbrev fits : Obstacle → Bool
   fits which =
       some_matches (changed which self (url.Hosted there host port pieces) (source.Hosted part under ports paths)) self
       (url.Hosted there host port pieces) redirected

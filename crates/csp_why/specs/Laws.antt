@@ -26,8 +26,8 @@ use Rattle.csp_why.specs.declared.reason.Allowance.{Allowance}
 use Rattle.csp_why.specs.declared.reason.Near.{Near}
 use Rattle.csp_why.specs.declared.reason.Rule.{Rule}
 use Rattle.csp_why.specs.declared.reason.Rule.TheVariants as rule
-use Rattle.csp_why.specs.declared.reason.Word.{Word}
-use Rattle.csp_why.specs.declared.reason.Word.TheVariants as word
+use Rattle.csp_why.specs.declared.reason.Obstacle.{Obstacle}
+use Rattle.csp_why.specs.declared.reason.Obstacle.TheVariants as word
 
 abbrev pub change_named : Name → (Directive → Directive) → Directive → Directive
 change_named name change d = if is_named name d then change d else d
@@ -72,7 +72,7 @@ change_at f zero (x ∷ xs) = f x ∷ xs
 change_at f (suc place) (x ∷ xs) = x ∷ change_at f place xs
 
 -- the source with the part changed so that it fits the check's URL
-abbrev pub fitted : Origin → Word → Option Url → Source → Source
+abbrev pub fitted : Origin → Obstacle → Option Url → Source → Source
 fitted self which (Some there) s = unwrap_or (changed which self there s) s
 fitted self which None s = s
 
@@ -81,7 +81,7 @@ is_dynamic s = is_keyword keyword.StrictDynamic s
 
 -- the sources without what the word tells of: what takes the token's place is gone, or 'unsafe-hashes' or the
 -- whole of this integrity metadata is there, or the token has the part changed so that it fits
-abbrev pub mended : Origin → List Hash → Word → Option Url → ℕ → List Source → List Source
+abbrev pub mended : Origin → List Hash → Obstacle → Option Url → ℕ → List Source → List Source
 mended self integrity word.StrictDynamic there token sources = filter (λ s. not (is_dynamic s)) sources
 mended self integrity word.Nonce there token sources = filter (λ s. not (is_nonce_or_hash s || is_dynamic s)) sources
 mended self integrity word.Hash there token sources = filter (λ s. not (is_nonce_or_hash s || is_dynamic s)) sources
@@ -93,7 +93,7 @@ abbrev pub metadata_of : Check → List Hash
 metadata_of asked = unwrap_or (checked_integrity asked) []
 
 -- a sandbox's tokens with the one that the word tells of
-abbrev pub granted : Word → List (List ℕ) → List (List ℕ)
+abbrev pub granted : Obstacle → List (List ℕ) → List (List ℕ)
 granted word.AllowScripts tokens = codes "allow-scripts" ∷ tokens
 granted word.AllowSameOrigin tokens = codes "allow-same-origin" ∷ tokens
 granted which tokens = tokens

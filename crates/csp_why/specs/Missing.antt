@@ -21,7 +21,7 @@ use Rattle.csp_why.specs.Displacement.{displacement}
 use Rattle.csp_why.specs.declared.reason.Near.{Near}
 use Rattle.csp_why.specs.declared.reason.Reason.{Reason}
 use Rattle.csp_why.specs.declared.reason.Reason.TheVariants.{Blocks}
-use Rattle.csp_why.specs.declared.reason.Word.{Word}
+use Rattle.csp_why.specs.declared.reason.Obstacle.{Obstacle}
 
 -- the port as a URL has it: where it names none, that of its scheme is meant
 abbrev pub port_of : Option ℕ → PortPart
@@ -44,7 +44,7 @@ named_url None = None
 named_url (Some there) = if can_be_named there then Some there else None
 
 -- of a directive that blocks, where no token is near and nothing takes the place of sources
-abbrev pub missing_from : Check → Option Word → List Near → Option Url
+abbrev pub missing_from : Check → Option Obstacle → List Near → Option Url
 missing_from asked displaced near =
     if is_nonempty near || is_some displaced then None else named_url (checked_url asked)
 

@@ -34,14 +34,14 @@ use Rattle.csp_model.specs.declared.url.Url.TheVariants as url
 use Rattle.csp_why.specs.Allowances.{is_some_hash, token_grants}
 use Rattle.csp_why.specs.Missing.{port_of}
 use Rattle.csp_why.specs.declared.reason.Near.{Near}
-use Rattle.csp_why.specs.declared.reason.Word.{Word}
-use Rattle.csp_why.specs.declared.reason.Word.TheVariants as word
+use Rattle.csp_why.specs.declared.reason.Obstacle.{Obstacle}
+use Rattle.csp_why.specs.declared.reason.Obstacle.TheVariants as word
 
 -- One part of a source
 
 -- 'self' written as a host-source of the origin's scheme, host and port, with its scheme that of the URL or its
 -- port any; none where the origin is opaque
-abbrev pub changed_self : Word → Origin → Url → Option Source
+abbrev pub changed_self : Obstacle → Origin → Url → Option Source
 changed_self word.Scheme (origin.Tuple own at number) (url.Hosted scheme h p pieces) =
     Some (source.Hosted (Some (scheme_text scheme)) (host.Exact (host_text at)) (port_of number) path.Absent)
 changed_self word.Port (origin.Tuple own at number) there =
@@ -61,13 +61,13 @@ abbrev pub socket_scheme : List ℕ → Scheme → Option Source
 socket_scheme part scheme =
     if is_socket scheme && is_web part then Some (source.SchemeOnly (scheme_text scheme)) else None
 
-abbrev pub changed_scheme : Word → List ℕ → Url → Option Source
+abbrev pub changed_scheme : Obstacle → List ℕ → Url → Option Source
 changed_scheme word.Scheme part (url.Hosted scheme h p pieces) = socket_scheme part scheme
 changed_scheme which part there = None
 
 -- a source with one part changed so that it fits the URL: its scheme is the URL's, its port any, its path none,
 -- or its host the suffix itself; none where there is no such part to change
-abbrev pub changed : Word → Origin → Url → Source → Option Source
+abbrev pub changed : Obstacle → Origin → Url → Source → Option Source
 changed word.Scheme self (url.Hosted scheme h p pieces) (source.Hosted part host_part port_part path_part) =
     Some (source.Hosted (Some (scheme_text scheme)) host_part port_part path_part)
 changed word.Scheme self there (source.Word keyword.SelfOrigin) = changed_self word.Scheme self there
@@ -85,11 +85,11 @@ abbrev pub some_matches : Option Source → Origin → Url → Bool → Bool
 some_matches (Some s) self there redirected = matches s self there redirected
 some_matches None self there redirected = false
 
-abbrev pub parts : List Word
+abbrev pub parts : List Obstacle
 parts = word.Scheme ∷ word.Port ∷ word.Path ∷ word.Suffix ∷ []
 
 -- of a source that doesn't match, the part that alone keeps it from matching
-abbrev pub wrong_part : Origin → Url → Bool → Source → Option Word
+abbrev pub wrong_part : Origin → Url → Bool → Source → Option Obstacle
 wrong_part self there redirected s =
     find (λ part. some_matches (changed part self there s) self there redirected) parts
 
@@ -110,12 +110,12 @@ may_fit s there = false
 -- The word for each token
 
 -- a source that matches and doesn't count, or one that fails by one part
-abbrev pub near_source : Option Word → Origin → Url → Bool → Source → Option Word
+abbrev pub near_source : Option Obstacle → Origin → Url → Bool → Source → Option Obstacle
 near_source None self there redirected s = wrong_part self there redirected s
 near_source (Some by) self there redirected s = if matches s self there redirected then Some by else None
 
 -- 'unsafe-inline' that doesn't count, or a hash of the very text
-abbrev pub near_inline : Option Word → Digests → Source → Option Word
+abbrev pub near_inline : Option Obstacle → Digests → Source → Option Obstacle
 near_inline displaced digests s =
     if is_keyword keyword.UnsafeInline s then displaced
     else if is_hash_of digests s then Some word.UnsafeHashes
@@ -127,7 +127,7 @@ is_part_of_metadata fetch.Script integrity s = is_some_hash integrity s
 is_part_of_metadata which integrity s = false
 
 -- what keeps a token of a directive of this name from allowing a check that the directive blocks
-abbrev pub near_word : Origin → Name → Check → Option Word → Source → Option Word
+abbrev pub near_word : Origin → Name → Check → Option Obstacle → Source → Option Obstacle
 near_word self name (check.Fetch group there redirects nonce integrity parser_inserted) displaced s =
     if is_part_of_metadata (fetch_rule group name) integrity s then Some word.Integrity
     else near_source displaced self there (is_redirected redirects) s
@@ -139,20 +139,20 @@ near_word self name (check.Ancestor there) displaced s = near_source displaced s
 near_word self name asked displaced s = None
 
 -- a sandbox's token that a worker needs, and the other one, which is missing
-abbrev pub near_grant : List ℕ → Option Word
+abbrev pub near_grant : List ℕ → Option Obstacle
 near_grant token =
     if token_grants capability.Scripts token then Some word.AllowSameOrigin
     else if token_grants capability.SameOrigin token then Some word.AllowScripts
     else None
 
 -- the items with a word, where the first has this number
-abbrev pub near_from : {A : Type 0} → (A → Option Word) → ℕ → List A → List Near
+abbrev pub near_from : {A : Type 0} → (A → Option Obstacle) → ℕ → List A → List Near
 near_from word_of number [] = []
 near_from word_of number (x ∷ items) =
     cons_option (option_map (λ w. record { token = number; word = w }) (word_of x))
     (near_from word_of (number + 1) items)
 
 -- the tokens of what governs that come near
-abbrev pub near_of : Origin → Check → Option Word → Governor → List Near
+abbrev pub near_of : Origin → Check → Option Obstacle → Governor → List Near
 near_of self check.WorkerStart displaced g = near_from near_grant 0 g.directive.tokens
 near_of self asked displaced g = near_from (near_word self g.name asked displaced) 0 g.directive.sources

@@ -13,7 +13,7 @@ use Rattle.csp_why.specs.Near.{near_of}
 use Rattle.csp_why.specs.declared.reason.Allowance.{Allowance}
 use Rattle.csp_why.specs.declared.reason.Reason.{Reason}
 use Rattle.csp_why.specs.declared.reason.Reason.TheVariants.{Ungoverned, Allows, Blocks}
-use Rattle.csp_why.specs.declared.reason.Word.{Word}
+use Rattle.csp_why.specs.declared.reason.Obstacle.{Obstacle}
 
 -- the check asks a sandbox
 abbrev pub asks_sandbox : Check → Bool
@@ -28,12 +28,12 @@ acting policy asked =
     else governor policy (effective_name asked)
 
 -- why what governs blocks the check, or allows it by this
-abbrev pub governed_reason : Policy → Check → Option Word → Governor → Option Allowance → Reason
+abbrev pub governed_reason : Policy → Check → Option Obstacle → Governor → Option Allowance → Reason
 governed_reason policy asked displaced g (Some allowance) = Allows g.name allowance
 governed_reason policy asked displaced g None =
     Blocks g.name (near_of policy.origin asked displaced g)
 
-abbrev pub reason_of : Policy → Check → Option Word → Governor → Reason
+abbrev pub reason_of : Policy → Check → Option Obstacle → Governor → Reason
 reason_of policy asked displaced g =
     governed_reason policy asked displaced g
     (first_of (allowances policy.origin asked (is_none displaced) g))

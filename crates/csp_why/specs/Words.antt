@@ -2,8 +2,8 @@
 use Rattle.std.specs.Prelude.{ℕ, List, codes}
 use Rattle.csp_why.specs.declared.reason.Rule.{Rule}
 use Rattle.csp_why.specs.declared.reason.Rule.TheVariants as rule
-use Rattle.csp_why.specs.declared.reason.Word.{Word}
-use Rattle.csp_why.specs.declared.reason.Word.TheVariants as word
+use Rattle.csp_why.specs.declared.reason.Obstacle.{Obstacle}
+use Rattle.csp_why.specs.declared.reason.Obstacle.TheVariants as word
 
 abbrev pub rule_text : Rule → List ℕ
 rule_text rule.Source = codes "source"
@@ -16,7 +16,7 @@ rule_text rule.UnsafeEval = codes "unsafe-eval"
 rule_text rule.WasmUnsafeEval = codes "wasm-unsafe-eval"
 rule_text rule.Capability = codes "capability"
 
-abbrev pub word_text : Word → List ℕ
+abbrev pub word_text : Obstacle → List ℕ
 word_text word.Scheme = codes "scheme"
 word_text word.Port = codes "port"
 word_text word.Path = codes "path"

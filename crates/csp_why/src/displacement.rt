@@ -3,14 +3,18 @@ ghost use Rattle.std.specs.Prelude.{◌≡◌};
 ghost use Rattle.std.specs.List.{list_any};
 ghost use Rattle.csp_why.specs.Displacement as spec;
 
-use crate::reason::Word;
+use crate::reason::Obstacle;
 use csp_model::{Check, FetchRule, Keyword, List, Name, Source};
 use csp_rules::is_script_kind;
 use csp_token::Tokens;
 
 // What takes the place of source expressions, or of `'unsafe-inline'`, in a directive that governs under
 // this name.
-pub(crate) fn displacement(check: &Check, governing: Name, sources: &List<Source>) -> Option<Word>
+pub(crate) fn displacement(
+    check: &Check,
+    governing: Name,
+    sources: &List<Source>,
+) -> Option<Obstacle>
     ensures { result ≡ spec.displacement check.now governing sources.now }
 {
     match check {
@@ -20,26 +24,26 @@ pub(crate) fn displacement(check: &Check, governing: Name, sources: &List<Source
     }
 }
 
-fn displaces_sources(rule: FetchRule, sources: &List<Source>) -> Option<Word>
+fn displaces_sources(rule: FetchRule, sources: &List<Source>) -> Option<Obstacle>
     ensures { result ≡ spec.displaces_sources rule sources.now }
 {
     match rule {
         FetchRule::Script if sources.has_keyword(Keyword::StrictDynamic) => {
-            Some(Word::StrictDynamic)
+            Some(Obstacle::StrictDynamic)
         }
         _ => None,
     }
 }
 
-fn displaces_unsafe_inline(is_code: bool, sources: &List<Source>) -> Option<Word>
+fn displaces_unsafe_inline(is_code: bool, sources: &List<Source>) -> Option<Obstacle>
     ensures { result ≡ spec.displaces_unsafe_inline is_code sources.now }
 {
     if has_nonce_source(sources) {
-        Some(Word::Nonce)
+        Some(Obstacle::Nonce)
     } else if has_hash_source(sources) {
-        Some(Word::Hash)
+        Some(Obstacle::Hash)
     } else if is_code && sources.has_keyword(Keyword::StrictDynamic) {
-        Some(Word::StrictDynamic)
+        Some(Obstacle::StrictDynamic)
     } else {
         None
     }

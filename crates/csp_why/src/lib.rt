@@ -12,4 +12,4 @@ mod reason;
 
 pub use explaining::explain;
 pub use missing::missing_url;
-pub use reason::{Allowance, Near, Reason, Rule, Word};
+pub use reason::{Allowance, Near, Obstacle, Reason, Rule};

@@ -5,7 +5,7 @@ ghost use Rattle.csp_why.specs.Missing.{port_of as port_part_of};
 ghost use Rattle.csp_why.specs.Near as spec;
 
 use crate::allowance::is_some_hash;
-use crate::reason::{Near, Word};
+use crate::reason::{Near, Obstacle};
 use csp_match::{Governor, source_matches};
 use csp_model::{
     Capability, Check, Digests, Duplicate, FetchRule, Hash, Host, HostPart, Keyword, List, Memory,
@@ -21,7 +21,7 @@ pub(crate) fn near_tokens(
     alloc: Global,
     origin: &Origin,
     check: &Check,
-    displaced: Option<Word>,
+    displaced: Option<Obstacle>,
     found: &Governor<'_>,
 ) -> Result<List<Near>, Memory>
     ensures { IfOk result (λ made. made ≡ spec.near_of origin.now check.now displaced (shown found.now)) }
@@ -48,13 +48,13 @@ fn near_grants(alloc: Global, tokens: &List<Text>) -> Result<List<Near>, Memory>
     Ok(near)
 }
 
-fn near_grant(token: &str) -> Option<Word>
+fn near_grant(token: &str) -> Option<Obstacle>
     ensures { result ≡ spec.near_grant token.now }
 {
     if token_grants(token, Capability::Scripts) {
-        Some(Word::AllowSameOrigin)
+        Some(Obstacle::AllowSameOrigin)
     } else if token_grants(token, Capability::SameOrigin) {
-        Some(Word::AllowScripts)
+        Some(Obstacle::AllowScripts)
     } else {
         None
     }
@@ -66,7 +66,7 @@ fn near_sources(
     origin: &Origin,
     name: Name,
     check: &Check,
-    displaced: Option<Word>,
+    displaced: Option<Obstacle>,
     sources: &List<Source>,
 ) -> Result<List<Near>, Memory>
     ensures { IfOk result (λ made.
@@ -87,9 +87,9 @@ fn near_word(
     origin: &Origin,
     name: Name,
     check: &Check,
-    displaced: Option<Word>,
+    displaced: Option<Obstacle>,
     source: &Source,
-) -> Result<Option<Word>, Memory>
+) -> Result<Option<Obstacle>, Memory>
     ensures { IfOk result (λ made.
         made ≡ spec.near_word origin.now name check.now displaced source.now) }
 {
@@ -98,7 +98,9 @@ fn near_word(
             group,
             integrity,
             ..
-        } if is_part_of_metadata(group.rule(name), integrity, source) => Ok(Some(Word::Integrity)),
+        } if is_part_of_metadata(group.rule(name), integrity, source) => Ok(Some(
+            Obstacle::Integrity,
+        )),
         Check::Fetch { url, redirects, .. } | Check::Form { url, redirects } => {
             near_source(alloc, displaced, origin, url, *redirects != 0, source)
         }
@@ -121,12 +123,12 @@ fn is_part_of_metadata(rule: FetchRule, integrity: &List<Hash>, source: &Source)
 // match.
 fn near_source(
     alloc: Global,
-    displaced: Option<Word>,
+    displaced: Option<Obstacle>,
     origin: &Origin,
     url: &Url,
     redirected: bool,
     source: &Source,
-) -> Result<Option<Word>, Memory>
+) -> Result<Option<Obstacle>, Memory>
     ensures { IfOk result (λ made.
         made ≡ spec.near_source displaced origin.now url.now redirected source.now) }
 {
@@ -138,23 +140,28 @@ fn near_source(
 }
 
 // What keeps `'unsafe-inline'`, or a hash of the very text, from counting.
-fn near_inline(displaced: Option<Word>, digests: &Digests, source: &Source) -> Option<Word>
+fn near_inline(displaced: Option<Obstacle>, digests: &Digests, source: &Source) -> Option<Obstacle>
     ensures { result ≡ spec.near_inline displaced digests.now source.now }
 {
     if is_keyword(source, Keyword::UnsafeInline) {
         displaced
     } else if is_hash_of(source, digests) {
-        Some(Word::UnsafeHashes)
+        Some(Obstacle::UnsafeHashes)
     } else {
         None
     }
 }
 
 // The parts of a host-source.
-fn parts() -> &'static [Word]
+fn parts() -> &'static [Obstacle]
     ensures { result.now ≡ spec.parts }
 {
-    &[Word::Scheme, Word::Port, Word::Path, Word::Suffix]
+    &[
+        Obstacle::Scheme,
+        Obstacle::Port,
+        Obstacle::Path,
+        Obstacle::Suffix,
+    ]
 }
 
 // The part that alone keeps a source that doesn't match from matching.
@@ -164,7 +171,7 @@ fn wrong_part(
     url: &Url,
     redirected: bool,
     source: &Source,
-) -> Result<Option<Word>, Memory>
+) -> Result<Option<Obstacle>, Memory>
     ensures { IfOk result (λ made. made ≡ spec.wrong_part origin.now url.now redirected source.now) }
 {
     if !may_fit(source, url) {
@@ -204,7 +211,7 @@ fn ends_as(part: &HostPart, host: &Host) -> bool
 // Whether a host-source with the part changed so that it fits matches the URL.
 fn matches_changed(
     alloc: Global,
-    part: Word,
+    part: Obstacle,
     origin: &Origin,
     url: &Url,
     redirected: bool,
@@ -213,16 +220,16 @@ fn matches_changed(
     ensures { IfOk result (λ made. made
         ≡ spec.some_matches (spec.changed part origin.now url.now source.now) origin.now url.now redirected) }
 {
-    match changed(alloc, part, origin, url, source)? {
+    match change_part(alloc, part, origin, url, source)? {
         Some(changed) => Ok(source_matches(&changed, origin, url, redirected)),
         None => Ok(false),
     }
 }
 
 // A source with one part changed so that it fits the URL. None where it has no such part.
-fn changed(
+fn change_part(
     alloc: Global,
-    part: Word,
+    part: Obstacle,
     origin: &Origin,
     url: &Url,
     source: &Source,
@@ -246,25 +253,25 @@ fn changed(
     };
     let port = *port;
     match (part, url, host) {
-        (Word::Scheme, Url::Hosted { scheme: there, .. }, _) => Ok(Some(Source::Hosted {
+        (Obstacle::Scheme, Url::Hosted { scheme: there, .. }, _) => Ok(Some(Source::Hosted {
             scheme: Some(Text::new(alloc, there.as_str())?),
             host: host.copy(alloc)?,
             port,
             path: path.copy(alloc)?,
         })),
-        (Word::Port, _, _) => Ok(Some(Source::Hosted {
+        (Obstacle::Port, _, _) => Ok(Some(Source::Hosted {
             scheme: scheme.copy(alloc)?,
             host: host.copy(alloc)?,
             port: PortPart::Any,
             path: path.copy(alloc)?,
         })),
-        (Word::Path, _, _) => Ok(Some(Source::Hosted {
+        (Obstacle::Path, _, _) => Ok(Some(Source::Hosted {
             scheme: scheme.copy(alloc)?,
             host: host.copy(alloc)?,
             port,
             path: PathPart::Absent,
         })),
-        (Word::Suffix, _, HostPart::Under(suffix)) => Ok(Some(Source::Hosted {
+        (Obstacle::Suffix, _, HostPart::Under(suffix)) => Ok(Some(Source::Hosted {
             scheme: scheme.copy(alloc)?,
             host: HostPart::Exact(suffix.copy(alloc)?),
             port,
@@ -277,7 +284,7 @@ fn changed(
 // The same of `'self'`, which stands for a host-source of the origin.
 fn changed_self(
     alloc: Global,
-    part: Word,
+    part: Obstacle,
     origin: &Origin,
     url: &Url,
 ) -> Result<Option<Source>, Memory>
@@ -287,8 +294,8 @@ fn changed_self(
         return Ok(None);
     };
     let (scheme, port) = match (part, url) {
-        (Word::Scheme, Url::Hosted { scheme: there, .. }) => (there, port_of(*port)),
-        (Word::Port, _) => (scheme, PortPart::Any),
+        (Obstacle::Scheme, Url::Hosted { scheme: there, .. }) => (there, port_of(*port)),
+        (Obstacle::Port, _) => (scheme, PortPart::Any),
         _ => return Ok(None),
     };
     Ok(Some(Source::Hosted {
@@ -300,11 +307,16 @@ fn changed_self(
 }
 
 // The same of a scheme-source of http or https, where the URL is of a web socket.
-fn changed_scheme(alloc: Global, part: Word, own: &str, url: &Url) -> Result<Option<Source>, Memory>
+fn changed_scheme(
+    alloc: Global,
+    part: Obstacle,
+    own: &str,
+    url: &Url,
+) -> Result<Option<Source>, Memory>
     ensures { IfOk result (λ made. made ≡ spec.changed_scheme part own.now url.now) }
 {
     match (part, url) {
-        (Word::Scheme, Url::Hosted { scheme, .. }) if is_socket(*scheme) && is_web(own) => {
+        (Obstacle::Scheme, Url::Hosted { scheme, .. }) if is_socket(*scheme) && is_web(own) => {
             Ok(Some(Source::SchemeOnly {
                 scheme: Text::new(alloc, scheme.as_str())?,
             }))

@@ -53,7 +53,7 @@ pub struct Allowance {
 
 /// What keeps a token from allowing a check.
 #[derive(Clone, Copy, Debug, PartialEq, Eq)]
-pub enum Word {
+pub enum Obstacle {
     /// The scheme of a source, or of the origin where it has none.
     Scheme,
     /// The port of a host-source or of `'self'`.
@@ -78,23 +78,23 @@ pub enum Word {
     AllowSameOrigin,
 }
 
-impl Word {
+impl Obstacle {
     /// The word itself, as `unsafe-hashes`.
     pub fn as_str(self) -> &'static str
         ensures { result.now ≡ spec.word_text self }
     {
         match self {
-            Word::Scheme => "scheme",
-            Word::Port => "port",
-            Word::Path => "path",
-            Word::Suffix => "suffix",
-            Word::StrictDynamic => "strict-dynamic",
-            Word::Nonce => "nonce",
-            Word::Hash => "hash",
-            Word::UnsafeHashes => "unsafe-hashes",
-            Word::Integrity => "integrity",
-            Word::AllowScripts => "allow-scripts",
-            Word::AllowSameOrigin => "allow-same-origin",
+            Obstacle::Scheme => "scheme",
+            Obstacle::Port => "port",
+            Obstacle::Path => "path",
+            Obstacle::Suffix => "suffix",
+            Obstacle::StrictDynamic => "strict-dynamic",
+            Obstacle::Nonce => "nonce",
+            Obstacle::Hash => "hash",
+            Obstacle::UnsafeHashes => "unsafe-hashes",
+            Obstacle::Integrity => "integrity",
+            Obstacle::AllowScripts => "allow-scripts",
+            Obstacle::AllowSameOrigin => "allow-same-origin",
         }
     }
 }
@@ -105,7 +105,7 @@ pub struct Near {
     /// The index of the token in the directive's value.
     pub token: usize,
     /// The one thing that keeps it from allowing.
-    pub word: Word,
+    pub word: Obstacle,
 }
 
 /// Why a policy allows or blocks a check.

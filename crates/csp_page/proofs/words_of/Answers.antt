@@ -1,6 +1,6 @@
 use Rattle.std.proofs.Common.{◌≡◌, ℕ, List, [], ◌∷◌, ◌++◌, Bor, map, take, get_or, sym, ◌∙◌, arith, rules}
 use Rattle.std.proofs.lemmas.List.{map_more}
-use Rattle.csp_page.specs.declared.Word.{Word}
+use Rattle.csp_page.specs.declared.Argument.{Argument}
 use Rattle.std.proofs.lemmas.Result.{err_from_is_err_and}
 use Rattle.csp_page.specs.Page.{word_of}
 use Rattle.csp_page.proofs.Due.{good_more, none_bad, some_bad}
@@ -16,7 +16,7 @@ pub loop-word-preserved : goal.loop-word-preserved
 loop-word-preserved c = record {
   made =
       let nothing : Bor (List ℕ) = record { ref_ptr = (0, 0); now = [] } in
-      let none : Word = record { text = nothing } in
+      let none : Argument = record { text = nothing } in
       let grew : c.push.new.self ≡ map word_of (take c.loop-word.word-index c.args.words.now) ++ word_of (get_or c.args.words.now c.loop-word.word-index none) ∷ [] =
       search (rules, c.in_ok-push.ensures.ok, c.in_ok-text_of.ensures.text, c.loop-word.invariant.made, c.loop-word-test.true) in
       grew ∙ sym (map_more word_of c.args.words.now c.loop-word.word-index none c.loop-word-test.true);

@@ -29,7 +29,7 @@ returns c =
     ∙ sym (cond-false (allows_all_inline kind sources) (Known true) (any_of (only_where (is_element_kind kind) nonces ∷ only_where (hash_counts kind sources) digests ∷ []))
     (sym c.allows_all_inline.ensures ∙ c.if-allows_all_inline.false)) in
     let parts : (atoms : List Atom) → IsListNamed atoms c.args.list → AmountTo atoms (any_of (only_where c.is_element_kind.result nonces ∷ only_where c.hash_counts.result digests ∷ []))
-    c.in_ok-joined.field-0.items = λ atoms named. together atoms (only_where c.is_element_kind.result nonces) (only_where c.hash_counts.result digests) c.in_ok-nonces.nonces.items
-    c.in_ok-digests.digests.items c.in_ok-joined.field-0.items (c.in_ok-nonces.ensures atoms named) (c.in_ok-digests.ensures atoms named) c.in_ok-joined.ensures in
+    c.in_ok-concatenate.field-0.items = λ atoms named. together atoms (only_where c.is_element_kind.result nonces) (only_where c.hash_counts.result digests) c.in_ok-nonces.nonces.items
+    c.in_ok-digests.digests.items c.in_ok-concatenate.field-0.items (c.in_ok-nonces.ensures atoms named) (c.in_ok-digests.ensures atoms named) c.in_ok-concatenate.ensures in
     IfOk-weaker c.new.result _ _ (λ made plain atoms named. plain atoms _ _ (parts atoms named) counted)
-    (made_plain c.new.result c.in_ok-joined.field-0.items c.new.ensures.said c.new.ensures.among c.new.ensures.answer)
+    (made_plain c.new.result c.in_ok-concatenate.field-0.items c.new.ensures.said c.new.ensures.among c.new.ensures.answer)

@@ -12,6 +12,6 @@ returns c =
     let sources = list.sources.now in
     let last = dynamic_sentence sources c.args.asked.parser_inserted (list_sentence list.origin.now (shape_asked c.args.asked) sources) in
     IfOk-weaker c.new.result _ _ (λ made with hashes are. with names (nonces_sentence sources) last (integrity_sentence hashes sources)
-    c.in_ok-nonces.nonces.items c.in_ok-last.last.items (c.in_ok-nonces.ensures names c.requires) c.in_ok-last.ensures c.in_ok-joined.ensures
+    c.in_ok-nonces.nonces.items c.in_ok-last.last.items (c.in_ok-nonces.ensures names c.requires) c.in_ok-last.ensures c.in_ok-concatenate.ensures
     (c.in_ok-integrity.ensures.said hashes are) (c.in_ok-integrity.ensures.there hashes are))
-    (made_with c.new.result c.in_ok-joined.field-0.items c.in_ok-integrity.integrity c.new.ensures.said c.new.ensures.among c.new.ensures.answer)
+    (made_with c.new.result c.in_ok-concatenate.field-0.items c.in_ok-integrity.integrity c.new.ensures.said c.new.ensures.among c.new.ensures.answer)

@@ -1,7 +1,7 @@
 use Rattle.std.proofs.Common.{sym, subst, List, All}
 use Rattle.csp_answer.specs.Policies.{IsAsked, IsAnswerTo}
 use Rattle.csp_answer.specs.Growing.{StandsAt}
-use Rattle.csp_answer.specs.declared.policy.Asked.{Asked}
+use Rattle.csp_answer.specs.declared.policy.AnsweredQuestion.{AnsweredQuestion}
 use Rattle.csp_answer.proofs.AskedBefore.{answered_at, all_extended, one_more, at_shape, same_answer}
 use Rattle.csp_answer.proofs.policy.place_at.Goals as goal
 
@@ -13,7 +13,7 @@ returns-in-Some-clause-here c =
     let answers = c.args.answered.now.answers in
     let question = c.question_at-question.result in
     let place = c.in-Some.place in
-    let is = subst (λ (asked : List Asked). IsAsked asked question place) c.as_slice.ensures c.in-Some.ensures in
+    let is = subst (λ (asked : List AnsweredQuestion). IsAsked asked question place) c.as_slice.ensures c.in-Some.ensures in
     at_shape atoms pairs policy answers question c.args.shape place c.question_at-question.ensures
     (answered_at atoms pairs policy answers c.args.answered.now.asked question place c.requires.stand is)
 
@@ -29,7 +29,7 @@ returns-clause-stand c =
     let place = c.in_ok-place.place in
     let stands = same_answer atoms pairs policy new question c.in_ok-answer.answer place c.in_ok-answer.ensures
     c.in_ok-place.ensures.here in
-    subst (All (λ (one : Asked). StandsAt new (IsAnswerTo atoms pairs policy one.question) one.place)) (sym c.in_ok-push.ensures.ok)
+    subst (All (λ (one : AnsweredQuestion). StandsAt new (IsAnswerTo atoms pairs policy one.question) one.place)) (sym c.in_ok-push.ensures.ok)
     (one_more atoms pairs policy new asked question place (all_extended atoms pairs policy old new asked c.in_ok-place.ensures.extends c.requires.stand) stands)
 
 pub returns-clause-here : goal.returns-clause-here

@@ -1,6 +1,6 @@
 use Rattle.std.proofs.Common.{arith, refl, ap, ◌<◌, length}
 use Rattle.std.proofs.lemmas.Option.{slice_get_within}
-use Rattle.csp_checker.specs.Asked.{trees_of}
+use Rattle.csp_checker.specs.PreparedClaim.{trees_of}
 use Rattle.csp_checker.proofs.Judged.{tree_here}
 use Rattle.csp_checker.proofs.Walked.{walked_good}
 use Rattle.csp_checker.proofs.before.was_walked.Goals as goal

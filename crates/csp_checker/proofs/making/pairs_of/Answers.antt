@@ -1,7 +1,7 @@
 use Rattle.std.proofs.Common.{arith, ◌≡◌, ◌∙◌, sym, ap, ◌++◌, ℕ, List}
 use Rattle.std.specs.List.{flat_map, range_with_len}
 use Rattle.csp_proof.specs.Pairs.{enforced}
-use Rattle.csp_checker.specs.declared.asked.NumberedPair.{NumberedPair}
+use Rattle.csp_checker.specs.declared.prepared_claim.NumberedPair.{NumberedPair}
 use Rattle.csp_checker.proofs.PairsMade.{row, row_more, all_rows}
 use Rattle.csp_checker.proofs.making.pairs_of.Goals as goal
 

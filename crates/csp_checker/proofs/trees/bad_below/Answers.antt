@@ -1,5 +1,5 @@
 use Rattle.std.proofs.Common.{arith}
-use Rattle.csp_checker.specs.Asked.{lists_of, trees_of}
+use Rattle.csp_checker.specs.PreparedClaim.{lists_of, trees_of}
 use Rattle.csp_checker.proofs.Judged.{tree_stands, takes_nodes, pre_for, own_bad, own_good, nodes_within, shares_within}
 use Rattle.csp_checker.proofs.trees.bad_below.Goals as goal
 

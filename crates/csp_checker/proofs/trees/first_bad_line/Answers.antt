@@ -1,5 +1,5 @@
 use Rattle.std.proofs.Common.{arith, ◌∙◌, sym, ap, length, ◌≤◌, ◌<◌}
-use Rattle.csp_checker.specs.Asked.{lists_of, trees_of, due}
+use Rattle.csp_checker.specs.PreparedClaim.{lists_of, trees_of, due}
 use Rattle.csp_checker.proofs.Judged.{tree_here, kept_more, as_many_pairs}
 use Rattle.csp_checker.proofs.Whole.{stops, goes_on, pairs_left}
 use Rattle.csp_checker.proofs.trees.first_bad_line.Goals as goal

@@ -1,6 +1,6 @@
 use Rattle.std.proofs.Common.{◌≡◌, drop}
 use Rattle.csp_proof.specs.Accepts.{bad_from}
-use Rattle.csp_checker.specs.Asked.{Fits, AreKept, bad_line, due, lists_of, trees_of}
+use Rattle.csp_checker.specs.PreparedClaim.{Fits, AreKept, bad_line, due, lists_of, trees_of}
 use Rattle.csp_checker.proofs.trees.first_bad_line.Given as goal
 
 abbrev pub invariant-loop-number : goal.invariant-loop-number

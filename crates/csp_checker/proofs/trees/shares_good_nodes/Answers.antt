@@ -1,5 +1,5 @@
 use Rattle.std.proofs.Common.{refl, sym, ◌+◌}
-use Rattle.csp_checker.specs.Asked.{lists_of, trees_of}
+use Rattle.csp_checker.specs.PreparedClaim.{lists_of, trees_of}
 use Rattle.csp_checker.proofs.Judged.{tree_stands, stands_before, takes_nodes, pre_for, shares_good, shares_bad}
 use Rattle.csp_checker.proofs.Walked.{owned_good}
 use Rattle.csp_checker.proofs.trees.shares_good_nodes.Goals as goal

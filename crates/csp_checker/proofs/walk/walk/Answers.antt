@@ -7,7 +7,7 @@ use Rattle.csp_checker.specs.Leaves.{AnswerAt, rule_by}
 use Rattle.csp_branch.specs.Walks.{Position}
 use Rattle.csp_checker.specs.Walk.{atoms_of}
 use Rattle.csp_proof.specs.Accepts.{hashes_in}
-use Rattle.csp_checker.specs.Asked.{lists_of}
+use Rattle.csp_checker.specs.PreparedClaim.{lists_of}
 use Rattle.csp_checker.proofs.Judged.{rule_here}
 use Rattle.csp_checker.proofs.Steps.{walk_split, walk_leaf, walk_end, atoms_split, atoms_leaf}
 use Rattle.csp_checker.proofs.Tables.{answers_there}

@@ -20,8 +20,8 @@ left_of-returns-in_ok-left_of-in-Not t c =
     let old = c.in_ok-left_of-in-Not.field-0 in
     let says = ap sentence_of c.in-Not.is ∙ says_Not c.in-Not.part in
     let left = subst (λ (f : Formula). IsLeft ls (sentence_of f) old) c.deref.ensures c.in_ok-left_of-in-Not.ensures in
-    subst (λ (s : Sentence). IfOk c.denied.result (IsLeft ls s)) (sym says)
-    (IfOk-weaker c.denied.result (IsDenied old) _ (λ made is. left_denied ls (sentence_of part) old made left is) c.denied.ensures)
+    subst (λ (s : Sentence). IfOk c.negate.result (IsLeft ls s)) (sym says)
+    (IfOk-weaker c.negate.result (IsDenied old) _ (λ made is. left_denied ls (sentence_of part) old made left is) c.negate.ensures)
 
 pub left_of_parts-returns-then-known-every : goal.left_of_parts-returns-then-known-every
 left_of_parts-returns-then-known-every t c =
@@ -57,4 +57,4 @@ left_of_parts-returns t c =
     let all = c.args.parts.now in
     let left = c.loop-part.left.items in
     let so = subst (λ (rest : List Formula). IsSoFar ls c.args.every all rest left) (drop_all c.loop-part.part-index all c.loop-part-test.false) c.loop-part.invariant in
-    so_far_end ls c.args.every all left c.joined.result so c.joined.ensures.says c.joined.ensures.nothing c.joined.ensures.some
+    so_far_end ls c.args.every all left c.join.result so c.join.ensures.says c.join.ensures.nothing c.join.ensures.some

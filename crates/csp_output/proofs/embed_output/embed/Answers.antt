@@ -10,10 +10,10 @@ pub returns-in-Added : goal.returns-in-Added
 returns-in-Added c =
     let decision = subst (λ (d : Decision). IsDecision c.in_ok-allowed.allowed c.args.required.now c.args.response.list.now d)
     c.in-Added.is c.in_ok-decide.ensures.decision in
-    ok_map c.added.result
+    ok_map c.added_output.result
     (added_is c.in_ok-allowed.allowed c.args.embedder.now c.args.required.now c.args.response.block.now
     c.args.response.list.now _ c.in_ok-allowed.ensures decision)
-    c.added.ensures
+    c.added_output.ensures
 
 pub returns-in-Served : goal.returns-in-Served
 returns-in-Served c =

@@ -12,5 +12,5 @@ returns-else-has_kept c =
     (λ made is.
     is ∙ ap (λ (t : Told). c.args.text.items ++ told_line t)
     (none_told c.args.number (serialized_said c.args.policy.now) (directives_in (map piece_said c.args.pieces.now))
-    c.trimmed.result.now c.has_kept.result c.has_kept.ensures c.if-has_kept.false c.trimmed.ensures))
+    c.trim.result.now c.has_kept.result c.has_kept.ensures c.if-has_kept.false c.trim.ensures))
     c.append_dropped.ensures

@@ -2,7 +2,7 @@ use Rattle.std.proofs.Common.{◌≡◌, ◌++◌, drop}
 use Rattle.std.specs.Prelude.{codes, string_bytes}
 use Rattle.std.specs.List.{flat_map}
 use Rattle.csp_proof.specs.Spelling.{line_text}
-use Rattle.csp_proof.specs.declared.line.Line.TheVariants as line
+use Rattle.csp_proof.specs.declared.line.ProofLine.TheVariants as line
 use Rattle.csp_proof.specs.declared.proof.Node.{Node}
 use Rattle.csp_proof.proofs.print.push_nodes.Given as goal
 

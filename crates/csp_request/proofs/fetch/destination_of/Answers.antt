@@ -8,4 +8,4 @@ use Rattle.csp_request.proofs.fetch.destination_of.Goals as goal
 
 pub returns : goal.returns
 returns c = rw (required_named destination_named field.Destination (view c.args.value.now), ← c.in_ok-name.ensures)
-    (c.needed.ensures ∙ ap (needed field.Destination) c.from_name.ensures)
+    (c.require.ensures ∙ ap (needed field.Destination) c.from_name.ensures)

@@ -3,7 +3,7 @@ use Rattle.std.specs.Prelude.{MatchOption}
 use Rattle.csp_compare.specs.Differences.{DiffersAmong, SubsumesAmong}
 use Rattle.csp_model.specs.Policies.{IsReadable}
 use Rattle.csp_model.specs.declared.name.Name.{Name}
-use Rattle.csp_tidy.proofs.Asked.{spare}
+use Rattle.csp_tidy.proofs.TokenUse.{spare}
 use Rattle.csp_tidy.proofs.Places.{policy_below, token_below}
 use Rattle.csp_tidy.proofs.Readable.{readable_without}
 use Rattle.csp_tidy.proofs.asking.ask.Goals as goal

@@ -5,9 +5,9 @@ use Rattle.csp_facts.specs.Atoms.{IsValidAtom}
 use Rattle.csp_branch.specs.Sorting.{referred}
 use Rattle.csp_answer.specs.Tables.{AreAnswers}
 use Rattle.csp_proof.specs.Accepts.{Lists}
-use Rattle.csp_checker.specs.Asked.{Fits}
+use Rattle.csp_checker.specs.PreparedClaim.{Fits}
 use Rattle.csp_branch.specs.Walks.{Position}
-use Rattle.csp_checker.specs.declared.asked.Asked.{Asked}
+use Rattle.csp_checker.specs.declared.prepared_claim.PreparedClaim.{PreparedClaim}
 use Rattle.csp_checker.proofs.Splits.{atoms_in, atoms_valid, trees_taken}
 use Rattle.csp_checker.proofs.Tables.{kinds_alike}
 use Rattle.csp_checker.proofs.checker.Checker.new.Goals as goal
@@ -26,7 +26,7 @@ invariant_of-result c =
     let names = c.in_ok-names.field-0.names in
     let table = c.in_ok-names.field-0.table in
     let lists : Lists = record { first = first; second = second } in
-    let asked : Asked = record {
+    let asked : PreparedClaim = record {
       first = c.args.first;
       second = c.args.second;
       proof = c.args.proof;

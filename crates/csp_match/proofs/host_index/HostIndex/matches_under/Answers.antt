@@ -1,7 +1,7 @@
 use Rattle.std.proofs.Common.{ℕ, ◌∙◌, sym, ap, Bool, ◌&&◌, List, Option}
 use Rattle.std.specs.List.{list_any}
 use Rattle.std.proofs.lemmas.List.Elements.{All-contains}
-use Rattle.csp_match.specs.Types.{HostPart, PortPart, HostKey, Way}
+use Rattle.csp_match.specs.Types.{HostPart, PortPart, HostKey, SchemePort}
 use Rattle.csp_model.specs.DecideMatching.{path_matches}
 use Rattle.csp_match.specs.Entries.{Entry, entry_parts, IsEntry, scheme_of, target_fits, way_fits, way_port}
 use Rattle.csp_match.specs.Keys.{host_of, IsHostKey, Parts}
@@ -19,11 +19,11 @@ returns-then-asked c =
     let pairs = c.self.inside.pathless in
     let asked = c.args.asked.now in
     let host = host_of c.args.host in
-    let fits = λ (e : HostKey × Way). way_fits (scheme_of e.1) (way_port e.1) asked in
+    let fits = λ (e : HostKey × SchemePort). way_fits (scheme_of e.1) (way_port e.1) asked in
     c.any_way_fits.ensures
     ∙ (c.get.ensures.any fits
-    ∙ (any_same _ (λ (e : HostKey × Way). same_part (host_of e.0) host && fits e) pairs
-    (λ (e : HostKey × Way) h. ap (λ (b : Bool). b && fits e) (same_host_key e.0 c.args.host (All-contains (λ (e : HostKey × Way). IsHostKey e.0) pairs e c.self.invariant.hosts h) c.requires))
+    ∙ (any_same _ (λ (e : HostKey × SchemePort). same_part (host_of e.0) host && fits e) pairs
+    (λ (e : HostKey × SchemePort) h. ap (λ (b : Bool). b && fits e) (same_host_key e.0 c.args.host (All-contains (λ (e : HostKey × SchemePort). IsHostKey e.0) pairs e c.self.invariant.hosts h) c.requires))
     ∙ (c.self.invariant.pathless (λ (h : HostPart) (s : Option (List ℕ)) (p : PortPart). same_part h host && way_fits s p asked)
     ∙ (ap (λ (sources : List Parts). list_any (λ (s : Parts). same_part s.host host && way_fits s.scheme s.port asked) sources) c.self.view_is
     ∙ under_redirected host asked c.args.self.now c.if-asked.true))))

@@ -1,6 +1,6 @@
 use Rattle.std.proofs.Common.{◌≡◌, ◌∙◌, sym, ap, subst, ◌≤◌, All, List, map}
 use Rattle.std.specs.List.{list_any}
-use Rattle.csp_match.specs.Types.{HostKey, Way}
+use Rattle.csp_match.specs.Types.{HostKey, SchemePort}
 use Rattle.csp_match.specs.Entries.{entry_parts, Entry, IsEntry}
 use Rattle.csp_match.specs.Keys.{IsHostKey, key_length}
 use Rattle.csp_match.proofs.AnyLaws.{all_given}
@@ -20,7 +20,7 @@ invariant_of-result c =
     let few = rw made at all in
     let bare_each : HasSame pathless_eq ways c.new-2.result = (c.new-2.ensures.given, c.new-2.ensures.kept) in
     let each : All IsEntry targets = all_given IsEntry entries targets given c.requires in
-    let is_key = λ (e : HostKey × Way). IsHostKey e.0 in
+    let is_key = λ (e : HostKey × SchemePort). IsHostKey e.0 in
     let is_short = λ (e : Entry). key_length e.0 ≤ longest in
     let kept : targets ≡ c.in_ok-new.field-0 = sym c.in_ok-new.ensures in
     record {
